@@ -3,14 +3,14 @@ use Rattle.std.specs.Prelude.{ℕ, List, None, Ok, Err, Result, OnOk, IfOk, ⊤}
 use Rattle.std.proofs.Common.{refl}
 use Rattle.jfr_outside.specs.declared.fault.Fault.{Fault}
 use Rattle.jfr_outside.specs.declared.fault.Fault.TheVariants.{Failed, Memory}
-use Rattle.jfr_outside.specs.World.{World, Leaves, LeavesPrefix}
+use Rattle.jfr_outside.specs.World.{World, IsAfterCall, IsAfterAppend}
 
-pub untold_leaves : {T : Type 0} (r : Result T Fault) (ok : T → World → World) (failed : World → World) → Leaves r None None ok failed
+pub untold_leaves : {T : Type 0} (r : Result T Fault) (ok : T → World → World) (failed : World → World) → IsAfterCall r None None ok failed
 untold_leaves (Ok x) ok failed = refl
 untold_leaves (Err Failed) ok failed = refl
 untold_leaves (Err Memory) ok failed = refl
 
-pub untold_prefix : {T W : Type 0} (r : Result T Fault) (bytes : List ℕ) (add : List ℕ → W → W) → LeavesPrefix {W = W} r None None bytes add
+pub untold_prefix : {T W : Type 0} (r : Result T Fault) (bytes : List ℕ) (add : List ℕ → W → W) → IsAfterAppend {W = W} r None None bytes add
 untold_prefix (Ok x) bytes add = refl
 untold_prefix (Err Failed) bytes add = (0, refl)
 untold_prefix (Err Memory) bytes add = refl

@@ -9,14 +9,14 @@ use Rattle.jfr_build.specs.declared.lines.NumberedLine.{NumberedLine}
 use Rattle.jfr_build.specs.declared.pools.Pools.{Pools}
 use Rattle.jfr_build.specs.Built.{entries_of, entry_count, pool_of, pools_of, with_classes}
 use Rattle.jfr_build.specs.LineValues.{first_bad_value}
-use Rattle.jfr_build.specs.Pooled.{AreOrdered, count_in, entries_in, pool_bytes, pool_in, pools_bytes}
+use Rattle.jfr_build.specs.Pooled.{AreListed, count_in, entries_in, pool_bytes, pool_in, pools_bytes}
 
 -- The pools of the lines before those that are left.
 pub record Pooled (k : Classes) (lines left : List NumberedLine) (pools : Pools) : Type 0 where
   pub classes : with_classes [] lines ≡ with_classes pools.classes.items left
   pub counts : (id : ℕ) → entry_count lines id ≡ count_in (pool_in pools id) + entry_count left id
   pub entries : (id : ℕ) → entries_of k lines id ≡ entries_in (pool_in pools id) ++ entries_of k left id
-  pub ordered : AreOrdered pools
+  pub ordered : AreListed pools
   pub good : first_bad_value k left ≡ None
 
 drop_past : {X : Type 0} (xs : List X) (i : ℕ) → length xs ≤ i → drop i xs ≡ []

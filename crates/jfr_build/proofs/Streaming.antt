@@ -6,7 +6,7 @@ use Rattle.std.proofs.Common.{ap, refl, sym, ◌∙◌, subst}
 use Rattle.jfr_outside.specs.World.{World, State, IfKnown, file}
 use Rattle.jfr_outside.specs.Counts.{Rose}
 use Rattle.jfr_outside.proofs.HeldLaws.{is_there}
-use Rattle.jfr_header.specs.Taking.{IsKept, Tells}
+use Rattle.jfr_header.specs.Taking.{IsKept, IfContentsKnown}
 use Rattle.jfr_header.specs.declared.ending.Ending.{Ending}
 use Rattle.jfr_header.specs.declared.ending.Ending.TheVariants as endings
 use Rattle.jfr_header.proofs.Steps.{chain_known}
@@ -14,8 +14,8 @@ use Rattle.jfr_plan.specs.Ends.{command_end}
 use Rattle.jfr_plan.specs.Effects.{Snapshot, without_sink, done, no_sink, snapshot, writes}
 use Rattle.jfr_plan.specs.Rules.{Goes, File}
 use Rattle.jfr_plan.specs.Outcomes.{Outcome, Counted, Unchanged, Tallied}
-use Rattle.jfr_plan.specs.Clauses.{CanCreate, Leaves, Ran}
-use Rattle.jfr_plan.specs.Parts.{PartOutcome, PartWorld, PlaceCounts, PlaceLeaves, WriteRises}
+use Rattle.jfr_plan.specs.Clauses.{CanCreate, IsAfterTask, Ran}
+use Rattle.jfr_plan.specs.Parts.{PartOutcome, PartWorld, PlaceCounts, IsPlaceAfter, WriteRises}
 use Rattle.jfr_plan.proofs.Clauses.{Cans, NeverHalts, none_breaks, ran}
 use Rattle.jfr_plan.proofs.Leaving.{by_write, counted_after}
 use Rattle.jfr_build.specs.declared.ending.BuildEnding.{BuildEnding}
@@ -70,8 +70,8 @@ can_write out bytes w new closed = ((λ c. not_both w.output closed (c new)), ((
 
 module _ (text out : List ℕ) (a : State) where
   -- The text was built, and the chunk was written, or not.
-  module _ (chunk : Vec ℕ Global) (r : Result (Unit {0}) Ending) (b c : State) (read : Tells a b (TextBuilt a.steady text (Ok chunk))) (counts : Counted Unchanged Unchanged Unchanged (without_sink a) (without_sink b))
-      (wrote : PlaceLeaves (writes out chunk.items) r b c) (counted : PlaceCounts r b c) where
+  module _ (chunk : Vec ℕ Global) (r : Result (Unit {0}) Ending) (b c : State) (read : IfContentsKnown a b (TextBuilt a.steady text (Ok chunk))) (counts : Counted Unchanged Unchanged Unchanged (without_sink a) (without_sink b))
+      (wrote : IsPlaceAfter (writes out chunk.items) r b c) (counted : PlaceCounts r b c) where
     abbrev OfText : World → World → Type 0
     OfText w v = (option_map build_of (file w text) ≡ Some (Ok chunk.items)) × IsKept w v
 
@@ -101,7 +101,7 @@ module _ (text out : List ℕ) (a : State) where
     outcome : (w u : World) → Stood r w u → Outcome a.steady (plan_by out (Some (Ok chunk.items))) (Halts w) (command_end (written_ending r)) (snapshot w None) (snapshot u None)
     outcome w u = by_result (λ r. Stood r w u → Outcome a.steady (plan_by out (Some (Ok chunk.items))) (Halts w) (command_end (written_ending r)) (snapshot w None) (snapshot u None)) (λ x h. record { end = refl; holds = h.1 }) (λ h. h) (λ h. h)
 
-    leaves : Leaves (builds text out) (command_end (written_ending r)) (without_sink a) (without_sink c)
+    leaves : IsAfterTask (builds text out) (command_end (written_ending r)) (without_sink a) (without_sink c)
     leaves =
         chained (λ w u. Outcome a.steady (building out (file w text)) (Halts w) (command_end (written_ending r)) (snapshot w None) (snapshot u None))
         (λ w u p q. subst (λ (o : Option Build). Outcome a.steady (plan_by out o) (Halts w) (command_end (written_ending r)) (snapshot w None) (snapshot u None)) (sym p) (outcome w u q))
@@ -114,7 +114,7 @@ module _ (text out : List ℕ) (a : State) where
         by_result (λ r. Ran (builds text out) (written_ending r) (without_sink a) (without_sink c) → IfNotRefused (after_write r) (λ e. Ran (builds text out) e (without_sink a) (without_sink c))) (λ x h. h) (λ h. h) (λ h. h)
         (ran (builds text out) (written_ending r) (without_sink a) (without_sink c) (never_halts text out) leaves tallies)
 
-    pub chunk_built : ((bytes chunk : List ℕ) → build_of bytes ≡ Ok chunk → IsBuiltOf bytes chunk) → after_write r ≡ Done → Tells a c (Builds text out)
+    pub chunk_built : ((bytes chunk : List ℕ) → build_of bytes ≡ Ok chunk → IsBuiltOf bytes chunk) → after_write r ≡ Done → IfContentsKnown a c (Builds text out)
     chunk_built accepted e = chained (Builds text out) (λ w u p q. built w u (text_of (file w text) (Ok chunk.items) p) (wrote_all w u e q))
       where
         wrote_all : (w u : World) → after_write r ≡ Done → Stood r w u → snapshot u None ≡ done (writes out chunk.items) (snapshot w None)
@@ -148,7 +148,7 @@ module _ (text out : List ℕ) (a : State) where
 
   -- The text wasn't read, or it is refused.
   module _ (b : State) where
-    pub text_decided : (e : BuildEnding) → Tells a b (TextBuilt a.steady text (Err e)) → TextCounts {T = Vec ℕ Global} (Err e) a b → (Rose a.read_faults b.read_faults → ⊥) → IfSome a.contents (λ w. IsDecided (file w text) e)
+    pub text_decided : (e : BuildEnding) → IfContentsKnown a b (TextBuilt a.steady text (Err e)) → TextCounts {T = Vec ℕ Global} (Err e) a b → (Rose a.read_faults b.read_faults → ⊥) → IfSome a.contents (λ w. IsDecided (file w text) e)
     text_decided Done h k quiet = absurd k
     text_decided (Refused line reason) h k quiet = if_before a.contents b.contents (TextBuilt a.steady text (Err (Refused line reason))) (λ w. IsDecided (file w text) (Refused line reason)) h (λ w v p. ByRefusal line reason p.0 refl)
     text_decided ReadFault h k quiet = absurd (quiet k.0.1)

@@ -10,7 +10,7 @@ use Rattle.jfr_layout.specs.declared.kind.Kind.{Kind}
 use Rattle.jfr_layout.specs.declared.kind.Kind.TheVariants as kinds
 use Rattle.jfr_layout.specs.declared.shape.Shape.{Shape}
 use Rattle.jfr_layout.specs.declared.field_layout.FieldLayout.{FieldLayout}
-use Rattle.jfr_value.specs.Values.{IsPlaced, Value, Group, bytes_of, bytes_of_all, values_of}
+use Rattle.jfr_value.specs.Values.{IsLayoutOrKey, Value, Group, bytes_of, bytes_of_all, values_of}
 use Rattle.jfr_value.specs.Walks.{DepthBound}
 use Rattle.jfr_value.proofs.FormLaws.{IsInline, fields_kind, inline_there, key_there, other_kind}
 use Rattle.jfr_value.proofs.LayoutLaws.{layout_class}
@@ -116,7 +116,7 @@ base_kind : (kind : Kind) (s : Shape) (fields : Taker (List Value)) (ws : List (
 base_kind kinds.Composite s fields ws n = absurd (n refl)
 base_kind kind s fields ws n = refl
 
-module _ (k : Classes) (s : FieldLayout) (levels : ℕ) (ws : List (List ℕ)) (before : List ℕ) (p : IsPlaced k s) where
+module _ (k : Classes) (s : FieldLayout) (levels : ℕ) (ws : List (List ℕ)) (before : List ℕ) (p : IsLayoutOrKey k s) where
   -- A value of the layout.
   abbrev written : Option (Taken (List ℕ))
   written = wrote before (shape_taken (class_taken (levels + 1) k) s.shape ws)

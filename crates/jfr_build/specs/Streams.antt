@@ -2,7 +2,7 @@
 use Rattle.std.specs.Prelude.{◌≡◌, ⊤, ℕ, Bool, IsTrue, List, [], Vec, Option, None, Some, option_map, Result, Ok, Err}
 use Rattle.std.specs.declared.alloc.Global.{Global}
 use Rattle.jfr_outside.specs.World.{World, State, file}
-use Rattle.jfr_header.specs.Taking.{Tells, IsKept}
+use Rattle.jfr_header.specs.Taking.{IfContentsKnown, IsKept}
 use Rattle.jfr_header.specs.declared.ending.Ending.{Ending}
 use Rattle.jfr_header.specs.declared.ending.Ending.TheVariants as endings
 use Rattle.jfr_plan.specs.Ends.{Fine}
@@ -55,7 +55,7 @@ IsRefusedText text line reason = option_map build_of text ≡ Some (refused line
 
 -- A text is refused: the files and the open output are unchanged, and no fault was counted.
 pub record Refuses (text : List ℕ) (line : ℕ) (reason : BuildReason) (a b : State) : Type 0 where
-  pub text_is : Tells a b (λ w v. IsRefusedText (file w text) line reason × IsKept w v)
+  pub text_is : IfContentsKnown a b (λ w v. IsRefusedText (file w text) line reason × IsKept w v)
   pub counts : Counted Unchanged Unchanged Unchanged (without_sink a) (without_sink b)
 
 -- The output has the chunk that is built of the text: a chunk that is accepted, with exactly the classes, the

@@ -3,7 +3,7 @@ ghost use Rattle.std.specs.Prelude.{◌≡◌, ◌==◌, ◌+◌, ◌<◌, ◌^�
 ghost use Rattle.jfr_base.specs.Integer.{spell};
 ghost use Rattle.jfr_build.specs.Built.{is_constant_of, pools_of, with_class};
 ghost use Rattle.jfr_build.specs.LineValues.{first_bad_value, is_bad_value};
-ghost use Rattle.jfr_build.specs.Pooled.{Added, AreOrdered, Grown, count_in, entries_in, pool_bytes, pool_in, pools_bytes};
+ghost use Rattle.jfr_build.specs.Pooled.{Added, AreListed, Grown, count_in, entries_in, pool_bytes, pool_in, pools_bytes};
 
 use crate::line::Line;
 use crate::line_values::line_value;
@@ -44,7 +44,7 @@ impl Pools {
 
     /// Takes the pool of a class; an empty one if there is none yet.
     fn take(&mut self, class: u64) -> Result<Pool, NoMemory>
-        requires ordered { AreOrdered self.old }
+        requires ordered { AreListed self.old }
         ensures count { IfOk result (λ pool. pool.count ≡ count_in (pool_in self.old class)) }
         ensures entries { IfOk result (λ pool. pool.entries.items ≡ entries_in (pool_in self.old class)) }
         ensures classes { OnOk result (self.new.classes.items ≡ with_class self.old.classes.items class) }
@@ -62,7 +62,7 @@ impl Pools {
 
     /// Adds an entry to the pool of a class.
     fn push(&mut self, class: u64, key: u64, value: &[u8]) -> Result<(), NoMemory>
-        requires ordered { AreOrdered self.old }
+        requires ordered { AreListed self.old }
         requires few { count_in (pool_in self.old class) + 1 < 2 ^ 64 }
         ensures ok { OnOk result (Grown self.old self.new class (spell key ++ value.now)) }
     {
@@ -128,7 +128,7 @@ fn push_line(
     line: &Line<'_>,
     value: &mut Output,
 ) -> Result<(), NoMemory>
-    requires ordered { AreOrdered pools.old }
+    requires ordered { AreListed pools.old }
     requires few { (id : ℕ) → is_constant_of id line.now ≡ true → count_in (pool_in pools.old id) + 1 < 2 ^ 64 }
     requires good { is_bad_value classes.now line.now ≡ false }
     ensures ok { OnOk result (Added classes.now pools.old pools.new line.now) }

@@ -2,7 +2,7 @@
 ghost use Rattle.std.specs.Prelude.{◌≡◌, ◌≢◌, ℕ, List, Ok, IfSome};
 ghost use Rattle.jfr_outside.specs.Counts.{Rose};
 ghost use Rattle.jfr_outside.specs.World.{file};
-ghost use Rattle.jfr_header.specs.Taking.{Tells};
+ghost use Rattle.jfr_header.specs.Taking.{IfContentsKnown};
 ghost use Rattle.jfr_plan.specs.Effects.{without_sink};
 ghost use Rattle.jfr_plan.specs.Clauses.{CanCreate, CanRead, Ran};
 ghost use Rattle.jfr_build.specs.Accepted.{IsBuiltOf};
@@ -18,7 +18,7 @@ use std::alloc::Global;
 
 /// The chunk of the text in a file.
 fn build_file<P: Place>(alloc: Global, place: &mut P, name: &str) -> Result<Vec<u8>, BuildEnding>
-    ensures contents { Tells (P.state place.old) (P.state place.new) (TextBuilt (P.state place.old).steady name.now result) }
+    ensures contents { IfContentsKnown (P.state place.old) (P.state place.new) (TextBuilt (P.state place.old).steady name.now result) }
     ensures counts { TextCounts result (P.state place.old) (P.state place.new) }
 {
     let text = match read_file(alloc, place, name, TEXT_LIMIT) {
@@ -35,7 +35,7 @@ fn build_file<P: Place>(alloc: Global, place: &mut P, name: &str) -> Result<Vec<
 pub fn build_stream<P: Place>(alloc: Global, place: &mut P, text: &str, out: &str) -> BuildEnding
     // If it is Done, the output has the chunk of the text, which is accepted and has exactly the classes, the
     // events and the constants of the lines. `each` says the same of every chunk that is built of any text.
-    ensures built { result ≡ BuildEnding.Done → Tells (P.state place.old) (P.state place.new) (Builds text.now out.now) }
+    ensures built { result ≡ BuildEnding.Done → IfContentsKnown (P.state place.old) (P.state place.new) (Builds text.now out.now) }
     ensures each { (bytes chunk : List ℕ) → build_of bytes ≡ Ok chunk → IsBuiltOf bytes chunk }
 
     // If a text is refused, the line and the reason are the right ones, and nothing is written.

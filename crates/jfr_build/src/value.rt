@@ -3,7 +3,7 @@ ghost use Rattle.std.specs.Prelude.{◌≡◌, ◌∷◌, ◌+◌, [], MatchResu
 ghost use Rattle.std.specs.List.{AllByRecursion};
 ghost use Rattle.jfr_layout.specs.Classes.{IsFieldLayout};
 ghost use Rattle.jfr_layout.specs.declared.shape.Shape.{Shape};
-ghost use Rattle.jfr_value.specs.Values.{IsPlaced};
+ghost use Rattle.jfr_value.specs.Values.{IsLayoutOrKey};
 ghost use Rattle.jfr_value.specs.Walks.{DepthBound};
 ghost use Rattle.jfr_build.specs.Taking.{base_taken, class_taken, each_taken, reference_taken, shape_taken, value_taken};
 ghost use Rattle.jfr_build.specs.Writing.{Writes, wrote, wrote_all};
@@ -69,7 +69,7 @@ fn push_layout(
     out: &mut Output,
     levels: u32,
 ) -> Result<(), ValueFault>
-    requires placed { IsPlaced classes.now layout.now }
+    requires placed { IsLayoutOrKey classes.now layout.now }
     requires depth { DepthBound classes.now levels layout.now.shape }
     ensures exact { Writes (wrote out.old (shape_taken (class_taken (levels + 1) classes.now) layout.now.shape words.old)) result out.new words.new }
 {
@@ -113,7 +113,7 @@ fn push_array(
     levels: u32,
 ) -> Result<(), ValueFault>
     requires array { layout.now.shape.array ≡ true }
-    requires placed { IsPlaced classes.now layout.now }
+    requires placed { IsLayoutOrKey classes.now layout.now }
     requires depth { DepthBound classes.now levels layout.now.shape }
     ensures exact { Writes (wrote out.old (shape_taken (class_taken (levels + 1) classes.now) layout.now.shape words.old)) result out.new words.new }
 {

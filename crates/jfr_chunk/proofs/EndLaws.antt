@@ -9,7 +9,7 @@ use Rattle.std.proofs.lemmas.Bool.Decides.{nat_tests}
 use Rattle.jfr_frame.specs.declared.framed.Framed.{Framed}
 use Rattle.jfr_frame.specs.Records.{record_end}
 use Rattle.jfr_chunk.specs.declared.event_index.EventIndexEntry.{EventIndexEntry}
-use Rattle.jfr_chunk.specs.Seen.{end_in, event_kept, event_with}
+use Rattle.jfr_chunk.specs.Indexed.{end_in, indexed_event, event_with}
 use Rattle.jfr_chunk.proofs.AllLaws.{all_append}
 
 -- The fields of the event with record n now end at `end`, and those of all others where they did before.
@@ -63,15 +63,15 @@ before_event n end early later fields f r e i b = record {
 
 module _ (rs : List Framed) (early later : BTreeMap ℕ ℕ) (n end : ℕ) (r : Framed) (i : EndIs early later n r end) where
   -- The events of the records before are the same.
-  pub same_event : (f : EventIndexEntry) → f.record < n → event_kept rs later f ≡ event_kept rs early f
+  pub same_event : (f : EventIndexEntry) → f.record < n → indexed_event rs later f ≡ indexed_event rs early f
   same_event f h = ap (λ o. option_map (λ (x : Framed). event_with (unwrap_or o (record_end x)) x) (slice_get rs f.record)) (i.others f.record (λ d. (omega arith)))
 
-  pub same_events : (fields : List EventIndexEntry) → AllByRecursion (λ (f : EventIndexEntry). f.record < n) fields → map (event_kept rs later) fields ≡ map (event_kept rs early) fields
+  pub same_events : (fields : List EventIndexEntry) → AllByRecursion (λ (f : EventIndexEntry). f.record < n) fields → map (indexed_event rs later) fields ≡ map (indexed_event rs early) fields
   same_events [] a = refl
   same_events (f ∷ fs) a = rw (same_event f a.0, same_events fs a.1) refl
 
   -- And the event of the record is this one.
-  pub this_event : (f : EventIndexEntry) → f.record ≡ n → slice_get rs n ≡ Some r → event_kept rs later f ≡ Some (event_with end r)
+  pub this_event : (f : EventIndexEntry) → f.record ≡ n → slice_get rs n ≡ Some r → indexed_event rs later f ≡ Some (event_with end r)
   this_event f e g =
       let h : slice_get rs f.record ≡ Some r = ap (slice_get rs) e ∙ g in
       let k : end_in later f.record r ≡ end = ap (λ m. end_in later m r) e ∙ i.here in

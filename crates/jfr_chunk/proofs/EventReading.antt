@@ -17,7 +17,7 @@ use Rattle.jfr_pool.specs.Entries.{inline}
 use Rattle.jfr_chunk.specs.declared.event_index.EventIndexEntry.{EventIndexEntry}
 use Rattle.jfr_chunk.specs.Parts.{HasFields, event_records, event_by, event_of}
 use Rattle.jfr_chunk.specs.Refusal.{fields_by, events_checked}
-use Rattle.jfr_chunk.specs.Seen.{event_with, event_kept}
+use Rattle.jfr_chunk.specs.Indexed.{event_with, indexed_event}
 use Rattle.jfr_chunk.specs.Stages.{AreFields, IsRefusedEvents}
 use Rattle.jfr_chunk.proofs.AllLaws.{all_get, filter_all}
 use Rattle.jfr_chunk.proofs.EndLaws.{AreBefore, EndIs, before_none, before_other, before_event, same_events, this_event}
@@ -48,7 +48,7 @@ module _ (c : List ℕ) (k : Classes) (rs : List Framed) where
   -- The events up to a record have been read: the flaw and the events are these, then those of the rest.
   pub record Pending (left : List Framed) (early : BTreeMap ℕ ℕ) (fields : List EventIndexEntry) : Type 0 where
     pub checked : events_checked c k all left ≡ events_checked c k all all
-    pub listed : map (event_kept rs early) fields ++ map Some (filter_map (event_of c k) left) ≡ map Some (filter_map (event_of c k) all)
+    pub listed : map (indexed_event rs early) fields ++ map Some (filter_map (event_of c k) left) ≡ map Some (filter_map (event_of c k) all)
 
   -- Those of the records before a number are read, and nothing is kept of the others.
   pub record ReadTo (n : ℕ) (early : BTreeMap ℕ ℕ) (fields : List EventIndexEntry) : Type 0 where
@@ -96,11 +96,11 @@ module _ (c : List ℕ) (k : Classes) (rs : List Framed) where
           record {
             checked = sym (ap (λ a. fields_by a (events_checked c k all rest)) q) ∙ p.checked;
             listed =
-                ap (λ z. z ++ map Some (filter_map (event_of c k) rest)) (map-append (event_kept rs later) fields (this ∷ []))
-                ∙ append_assoc (map (event_kept rs later) fields) (event_kept rs later this ∷ []) (map Some (filter_map (event_of c k) rest))
-                ∙ ap (λ z. z ++ event_kept rs later this ∷ map Some (filter_map (event_of c k) rest)) (same_events rs early later n end r i fields b.each)
-                ∙ ap (λ z. map (event_kept rs early) fields ++ z ∷ map Some (filter_map (event_of c k) rest)) (this_event rs early later n end r i this refl e)
-                ∙ ap (λ z. map (event_kept rs early) fields ++ map Some (cons_option z (filter_map (event_of c k) rest))) (sym o)
+                ap (λ z. z ++ map Some (filter_map (event_of c k) rest)) (map-append (indexed_event rs later) fields (this ∷ []))
+                ∙ append_assoc (map (indexed_event rs later) fields) (indexed_event rs later this ∷ []) (map Some (filter_map (event_of c k) rest))
+                ∙ ap (λ z. z ++ indexed_event rs later this ∷ map Some (filter_map (event_of c k) rest)) (same_events rs early later n end r i fields b.each)
+                ∙ ap (λ z. map (indexed_event rs early) fields ++ z ∷ map Some (filter_map (event_of c k) rest)) (this_event rs early later n end r i this refl e)
+                ∙ ap (λ z. map (indexed_event rs early) fields ++ map Some (cons_option z (filter_map (event_of c k) rest))) (sym o)
                 ∙ p.listed;
           }
 
@@ -124,5 +124,5 @@ module _ (c : List ℕ) (k : Classes) (rs : List Framed) where
       let q : Pending [] early fields = subst (λ left. Pending left early fields) (ap (event_records k) (drop_past rs n h)) p.pending in
       record {
         valid = All-from_recursion (HasFields c k) all (subst (EventsTell c k all all) (sym q.checked) (events_tell c k all all (each t)));
-        listed = sym (append-nil (map (event_kept rs early) fields)) ∙ q.listed;
+        listed = sym (append-nil (map (indexed_event rs early) fields)) ∙ q.listed;
       }

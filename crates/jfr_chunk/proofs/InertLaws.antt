@@ -19,7 +19,7 @@ use Rattle.jfr_pool.specs.Chains.{IsLink, IsChain}
 use Rattle.jfr_pool.specs.Entries.{inline}
 use Rattle.jfr_chunk.specs.Parts.{Parts, HasFields, event_by, event_of, event_records, events_of, is_inert, AreParts, metadata_at, pools_at}
 use Rattle.jfr_chunk.specs.declared.event_index.EventIndexEntry.{EventIndexEntry}
-use Rattle.jfr_chunk.specs.Seen.{event_kept}
+use Rattle.jfr_chunk.specs.Indexed.{indexed_event}
 use Rattle.jfr_chunk.proofs.SeenLaws.{each_length}
 use Rattle.jfr_worklist.specs.Members.{In}
 use Rattle.jfr_worklist.proofs.Members.{contains_in}
@@ -146,7 +146,7 @@ count_events c k (r ∷ rs) a h =
     ∙ ap suc (count_events c k rs a.1 h.1)
 
 -- What is left when the events, the metadata record and the chained checkpoints are taken away.
-pub inert_counted : (p : Parts) (early : BTreeMap ℕ ℕ) (fields : List EventIndexEntry) (ls : List Link) → AreParts p → p.chain ≡ reverse ls → map (event_kept p.records early) fields ≡ map Some (events_of p) → length (filter (is_inert p) p.records) + (length fields + (1 + length ls)) ≡ length p.records
+pub inert_counted : (p : Parts) (early : BTreeMap ℕ ℕ) (fields : List EventIndexEntry) (ls : List Link) → AreParts p → p.chain ≡ reverse ls → map (indexed_event p.records early) fields ≡ map Some (events_of p) → length (filter (is_inert p) p.records) + (length fields + (1 + length ls)) ≡ length p.records
 unfolding events_of
 inert_counted p early fields ls a r e =
     let n : length p.chain ≡ length ls = ap length r ∙ length-reverse ls in
@@ -155,7 +155,7 @@ inert_counted p early fields ls a r e =
     let named = count_or is_event is_metadata p.records event_metadata in
     let m : count is_metadata p.records ≡ 1 = count_place is_metadata (metadata_at p.bytes) (λ r e. starts r.at (metadata_at p.bytes) e) (λ r e. is_eq r.at (metadata_at p.bytes) e) 0 p.records a.metadata_record rising (contains_in p.records a.metadata_record a.metadata_there.listed) a.metadata_there.place in
     let l : count (linked p.chain) p.records ≡ length p.chain = count_chain p.bytes p.records each rising (pools_at p.bytes) p.chain a.chain in
-    let f : length fields ≡ length (filter_map (event_of p.bytes p.classes) (event_records p.classes p.records)) = each_length (event_kept p.records early) fields (filter_map (event_of p.bytes p.classes) (event_records p.classes p.records)) e in
+    let f : length fields ≡ length (filter_map (event_of p.bytes p.classes) (event_records p.classes p.records)) = each_length (indexed_event p.records early) fields (filter_map (event_of p.bytes p.classes) (event_records p.classes p.records)) e in
     let v : length (filter_map (event_of p.bytes p.classes) (event_records p.classes p.records)) ≡ count is_event p.records = count_events p.bytes p.classes (event_records p.classes p.records) (filter_all (IsRecord p.bytes) is_event p.records each) (recursion_from_All (HasFields p.bytes p.classes) (event_records p.classes p.records) a.events) in
     omega (arith, left, both, named, m, l, f, v, n)
   where

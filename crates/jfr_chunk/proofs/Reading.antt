@@ -28,7 +28,7 @@ use Rattle.jfr_chunk.specs.declared.event_index.EventIndex.{EventIndex}
 use Rattle.jfr_chunk.specs.Parts.{Parts, StartsAt, AreParts, events_of, metadata_at, pools_at}
 use Rattle.jfr_chunk.specs.Refusal.{Framing, Chained, Described, Refused, framing, metadata_position, pool_position, chain, metadata, checkpoints, events, found_or, read_parts}
 use Rattle.jfr_meta.specs.Stays.{is_in}
-use Rattle.jfr_chunk.specs.Seen.{AreRefs, IsIndexed, due, parts_in, used_in}
+use Rattle.jfr_chunk.specs.Indexed.{AreRefs, IsIndexed, indexed_refs, parts_in, used_in}
 use Rattle.jfr_chunk.specs.Stages.{AreFields, IsRefusedEvents}
 use Rattle.jfr_worklist.proofs.Members.{contains_in}
 use Rattle.jfr_chunk.proofs.AllLaws.{all_in, all_reverse}
@@ -157,7 +157,7 @@ module _ (c : List ℕ) (h : Header) (rs : List Framed) (m : Framed) (n : Named 
           pub entries_within : length es ≤ length c
           entries_within = entries_few c rs n.records (pools_at c) (reverse ls) links k (described_sound b k d.classes) es there
 
-          pub indexed : (index : EventIndex) → Whole c → AreFields c k rs index.fields.items index.early → AreRefs (due es k c rs index.early) 0 index.fields.items index.numbers.items
+          pub indexed : (index : EventIndex) → Whole c → AreFields c k rs index.fields.items index.early → AreRefs (indexed_refs es k c rs index.early) 0 index.fields.items index.numbers.items
               → ((id : ℕ) → is_in index.used.ids id ≡ used_in rs index.fields.items id) → IsIndexed (parts_in c rs ls b k es) h m index
           unfolding events_of
           indexed index whole f refs_end used = record {

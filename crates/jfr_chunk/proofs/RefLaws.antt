@@ -19,7 +19,7 @@ use Rattle.jfr_chunk.specs.Refs.{AddsRefs}
 use Rattle.jfr_chunk.specs.Parts.{EventAt}
 use Rattle.jfr_worklist.specs.Marks.{those}
 use Rattle.jfr_chunk.specs.Reach.{node_entries}
-use Rattle.jfr_chunk.specs.Seen.{AreRefs, due}
+use Rattle.jfr_chunk.specs.Indexed.{AreRefs, indexed_refs}
 use Rattle.jfr_chunk.proofs.EndLaws.{EndIs, same_event, this_event}
 use Rattle.jfr_chunk.proofs.RootLaws.{takes_those}
 
@@ -37,44 +37,44 @@ refs_then xs ys a b c p q = record {
 pub takes_refs : (es : List EntryAt) (ts : List (ℕ × ℕ)) (old new : ConstantRefs) → TakesAll (λ t a b. AddsRefs (those (number_in_force es) (t ∷ [])) a b) ts old new → AddsRefs (those (number_in_force es) ts) old new
 takes_refs es = takes_those AddsRefs refs_none refs_then (number_in_force es)
 
-module _ (due : EventIndexEntry → List ℕ) where
+module _ (indexed_refs : EventIndexEntry → List ℕ) where
   -- One event more.
-  pub refs_more : (from : ℕ) (fs : List EventIndexEntry) (numbers : List ℕ) (f : EventIndexEntry) → AreRefs due from fs numbers → f.refs_end ≡ from + length (numbers ++ due f) → AreRefs due from (fs ++ f ∷ []) (numbers ++ due f)
-  refs_more from [] numbers f a e = ([], ap (λ z. z ++ due f) a ∙ sym (append-nil (due f)), e ∙ ap (λ z. from + length (z ++ due f)) a, refl)
+  pub refs_more : (from : ℕ) (fs : List EventIndexEntry) (numbers : List ℕ) (f : EventIndexEntry) → AreRefs indexed_refs from fs numbers → f.refs_end ≡ from + length (numbers ++ indexed_refs f) → AreRefs indexed_refs from (fs ++ f ∷ []) (numbers ++ indexed_refs f)
+  refs_more from [] numbers f a e = ([], ap (λ z. z ++ indexed_refs f) a ∙ sym (append-nil (indexed_refs f)), e ∙ ap (λ z. from + length (z ++ indexed_refs f)) a, refl)
   refs_more from (g ∷ fs) numbers f a e =
       let rest : List ℕ = a.0 in
-      let p : numbers ++ due f ≡ due g ++ (rest ++ due f) = ap (λ z. z ++ due f) a.1 ∙ append_assoc (due g) rest (due f) in
-      let l : length (numbers ++ due f) ≡ length (due g) + length (rest ++ due f) = ap length p ∙ length-append (due g) (rest ++ due f) in
-      let h : g.refs_end ≡ from + length (due g) = a.2 in
-      (rest ++ due f, p, a.2, refs_more g.refs_end fs rest f a.3 (omega arith))
+      let p : numbers ++ indexed_refs f ≡ indexed_refs g ++ (rest ++ indexed_refs f) = ap (λ z. z ++ indexed_refs f) a.1 ∙ append_assoc (indexed_refs g) rest (indexed_refs f) in
+      let l : length (numbers ++ indexed_refs f) ≡ length (indexed_refs g) + length (rest ++ indexed_refs f) = ap length p ∙ length-append (indexed_refs g) (rest ++ indexed_refs f) in
+      let h : g.refs_end ≡ from + length (indexed_refs g) = a.2 in
+      (rest ++ indexed_refs f, p, a.2, refs_more g.refs_end fs rest f a.3 (omega arith))
 
   -- The numbers of one event, after those of the events before.
   record RefsAt (from : ℕ) (numbers : List ℕ) (f : EventIndexEntry) (start : ℕ) : Type 0 where
     before : List ℕ
     after : List ℕ
-    parts : numbers ≡ before ++ (due f ++ after)
+    parts : numbers ≡ before ++ (indexed_refs f ++ after)
     starts : start ≡ from + length before
-    ends : f.refs_end ≡ from + length before + length (due f)
+    ends : f.refs_end ≡ from + length before + length (indexed_refs f)
 
-  refs_at : (from : ℕ) (fs : List EventIndexEntry) (numbers : List ℕ) (n : ℕ) (f : EventIndexEntry) (start : ℕ) → AreRefs due from fs numbers → slice_get fs n ≡ Some f
+  refs_at : (from : ℕ) (fs : List EventIndexEntry) (numbers : List ℕ) (n : ℕ) (f : EventIndexEntry) (start : ℕ) → AreRefs indexed_refs from fs numbers → slice_get fs n ≡ Some f
       → (n ≡ 0 → start ≡ from) → ((before : ℕ) → n ≡ before + 1 → Some start ≡ option_map (λ (f : EventIndexEntry). f.refs_end) (slice_get fs before)) → RefsAt from numbers f start
   refs_at from [] numbers n f start a e first later = cc
   refs_at from (g ∷ fs) numbers zero f start a e first later =
       let h : g ≡ f = cc in
       let s : start ≡ from = first refl in
-      let l : g.refs_end ≡ from + length (due g) = a.2 in
+      let l : g.refs_end ≡ from + length (indexed_refs g) = a.2 in
       let x : RefsAt from numbers g start = record { before = []; after = a.0; parts = a.1; starts = omega arith; ends = omega arith } in
       subst (λ (z : EventIndexEntry). RefsAt from numbers z start) h x
   refs_at from (g ∷ fs) numbers (suc n) f start a e first later =
       let i = refs_at g.refs_end fs a.0 n f start a.3 e (λ z. (let q : Some start ≡ Some g.refs_end = later 0 (omega arith) in cc)) (λ before z. later (suc before) (omega arith)) in
-      let l : g.refs_end ≡ from + length (due g) = a.2 in
-      let k = length-append (due g) i.before in
+      let l : g.refs_end ≡ from + length (indexed_refs g) = a.2 in
+      let k = length-append (indexed_refs g) i.before in
       let s = i.starts in
       let t = i.ends in
       record {
-        before = due g ++ i.before;
+        before = indexed_refs g ++ i.before;
         after = i.after;
-        parts = a.1 ∙ (ap (λ z. due g ++ z) i.parts ∙ sym (append_assoc (due g) i.before (due f ++ i.after)));
+        parts = a.1 ∙ (ap (λ z. indexed_refs g ++ z) i.parts ∙ sym (append_assoc (indexed_refs g) i.before (indexed_refs f ++ i.after)));
         starts = omega arith;
         ends = omega arith;
       }
@@ -83,23 +83,23 @@ module _ (due : EventIndexEntry → List ℕ) where
   pub record RefsRange (numbers : List ℕ) (f : EventIndexEntry) (start : ℕ) : Type 0 where
     pub order : start ≤ f.refs_end
     pub within : f.refs_end ≤ length numbers
-    pub range : slice_range numbers start f.refs_end ≡ due f
+    pub range : slice_range numbers start f.refs_end ≡ indexed_refs f
 
-  pub refs_range : (fs : List EventIndexEntry) (numbers : List ℕ) (n : ℕ) (f : EventIndexEntry) (start : ℕ) → AreRefs due 0 fs numbers → slice_get fs n ≡ Some f
+  pub refs_range : (fs : List EventIndexEntry) (numbers : List ℕ) (n : ℕ) (f : EventIndexEntry) (start : ℕ) → AreRefs indexed_refs 0 fs numbers → slice_get fs n ≡ Some f
       → (n ≡ 0 → start ≡ 0) → ((before : ℕ) → n ≡ before + 1 → Some start ≡ option_map (λ (f : EventIndexEntry). f.refs_end) (slice_get fs before)) → RefsRange numbers f start
   refs_range fs numbers n f start a e first later =
       let i = refs_at 0 fs numbers n f start a e first later in
-      let k = length-append i.before (due f ++ i.after) in
-      let l = length-append (due f) i.after in
+      let k = length-append i.before (indexed_refs f ++ i.after) in
+      let l = length-append (indexed_refs f) i.after in
       let m = ap length i.parts in
       let s = i.starts in
       let t = i.ends in
       let p : start ≡ length i.before = omega arith in
-      let q : f.refs_end ≡ length i.before + length (due f) = omega arith in
+      let q : f.refs_end ≡ length i.before + length (indexed_refs f) = omega arith in
       record {
         order = omega arith;
         within = omega arith;
-        range = ap (λ z. slice_range z start f.refs_end) i.parts ∙ (ap (λ z. slice_range (i.before ++ (due f ++ i.after)) z f.refs_end) p ∙ (ap (λ z. slice_range (i.before ++ (due f ++ i.after)) (length i.before) z) q ∙ range_within i.before (due f) i.after));
+        range = ap (λ z. slice_range z start f.refs_end) i.parts ∙ (ap (λ z. slice_range (i.before ++ (indexed_refs f ++ i.after)) z f.refs_end) p ∙ (ap (λ z. slice_range (i.before ++ (indexed_refs f ++ i.after)) (length i.before) z) q ∙ range_within i.before (indexed_refs f) i.after));
       }
     where
       range_within : (xs ys zs : List ℕ) → slice_range (xs ++ (ys ++ zs)) (length xs) (length xs + length ys) ≡ ys
@@ -119,22 +119,22 @@ pub all_refs : (es : List EntryAt) (ts : ℕ → List (ℕ × ℕ)) (old new : C
 all_refs es ts old new (Ok to) h = takes_refs es (ts to) old new h
 all_refs es ts old new (Err flaw) h = h
 
--- Numbers that are due by another count are the same.
-due_same : (due other : EventIndexEntry → List ℕ) (P : EventIndexEntry → Type 0) → ((f : EventIndexEntry) → P f → other f ≡ due f) → (from : ℕ) (fs : List EventIndexEntry) (numbers : List ℕ) → AllByRecursion P fs → AreRefs due from fs numbers → AreRefs other from fs numbers
-due_same due other P same from [] numbers p a = a
-due_same due other P same from (f ∷ fs) numbers p a =
+-- Numbers that are indexed_refs by another count are the same.
+due_same : (indexed_refs other : EventIndexEntry → List ℕ) (P : EventIndexEntry → Type 0) → ((f : EventIndexEntry) → P f → other f ≡ indexed_refs f) → (from : ℕ) (fs : List EventIndexEntry) (numbers : List ℕ) → AllByRecursion P fs → AreRefs indexed_refs from fs numbers → AreRefs other from fs numbers
+due_same indexed_refs other P same from [] numbers p a = a
+due_same indexed_refs other P same from (f ∷ fs) numbers p a =
     let e = sym (same f p.0) in
-    (a.0, a.1 ∙ ap (λ z. z ++ a.0) e, a.2 ∙ ap (λ z. from + length z) e, due_same due other P same f.refs_end fs a.0 p.1 a.3)
+    (a.0, a.1 ∙ ap (λ z. z ++ a.0) e, a.2 ∙ ap (λ z. from + length z) e, due_same indexed_refs other P same f.refs_end fs a.0 p.1 a.3)
 
 -- The fields of an event are read, and what they refer to is noted.
 pub event_refs : (es : List EntryAt) (k : Classes) (c : List ℕ) (rs : List Framed) (early later : BTreeMap ℕ ℕ) (n end refs_end : ℕ) (r : Framed) (fields : List EventIndexEntry) (numbers more : List ℕ) → slice_get rs n ≡ Some r → EndIs early later n r end → AllByRecursion (λ (f : EventIndexEntry). f.record < n) fields
-    → more ≡ numbers ++ node_entries es k c (node_at (inline r.type_id) r.body end) → refs_end ≡ length more → AreRefs (due es k c rs early) 0 fields numbers
-    → AreRefs (due es k c rs later) 0 (fields ++ record { «record» = n; refs_end = refs_end } ∷ []) more
+    → more ≡ numbers ++ node_entries es k c (node_at (inline r.type_id) r.body end) → refs_end ≡ length more → AreRefs (indexed_refs es k c rs early) 0 fields numbers
+    → AreRefs (indexed_refs es k c rs later) 0 (fields ++ record { «record» = n; refs_end = refs_end } ∷ []) more
 event_refs es k c rs early later n end refs_end r fields numbers more e i before x y a =
     let f : EventIndexEntry = record { «record» = n; refs_end = refs_end } in
     let refers = λ (o : Option EventAt). option_map_or (λ (e : EventAt). node_entries es k c e.node) o [] in
-    let b = due_same (due es k c rs early) (due es k c rs later) (λ (f : EventIndexEntry). f.record < n) (λ f h. ap refers (same_event rs early later n end r i f h)) 0 fields numbers before a in
-    let d : due es k c rs later f ≡ node_entries es k c (node_at (inline r.type_id) r.body end) = ap refers (this_event rs early later n end r i f refl e) in
-    let m : more ≡ numbers ++ due es k c rs later f = x ∙ ap (λ z. numbers ++ z) (sym d) in
-    let l : refs_end ≡ 0 + length (numbers ++ due es k c rs later f) = (let l = ap length m in omega arith) in
-    subst (AreRefs (due es k c rs later) 0 (fields ++ f ∷ [])) (sym m) (refs_more (due es k c rs later) 0 fields numbers f b l)
+    let b = due_same (indexed_refs es k c rs early) (indexed_refs es k c rs later) (λ (f : EventIndexEntry). f.record < n) (λ f h. ap refers (same_event rs early later n end r i f h)) 0 fields numbers before a in
+    let d : indexed_refs es k c rs later f ≡ node_entries es k c (node_at (inline r.type_id) r.body end) = ap refers (this_event rs early later n end r i f refl e) in
+    let m : more ≡ numbers ++ indexed_refs es k c rs later f = x ∙ ap (λ z. numbers ++ z) (sym d) in
+    let l : refs_end ≡ 0 + length (numbers ++ indexed_refs es k c rs later f) = (let l = ap length m in omega arith) in
+    subst (AreRefs (indexed_refs es k c rs later) 0 (fields ++ f ∷ [])) (sym m) (refs_more (indexed_refs es k c rs later) 0 fields numbers f b l)

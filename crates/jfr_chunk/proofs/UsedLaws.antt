@@ -13,7 +13,7 @@ use Rattle.jfr_chunk.specs.declared.event_index.EventIndexEntry.{EventIndexEntry
 use Rattle.jfr_chunk.specs.Parts.{EventAt}
 use Rattle.jfr_chunk.specs.Metas.{used_by}
 use Rattle.jfr_chunk.specs.Used.{may_hold}
-use Rattle.jfr_chunk.specs.Seen.{event_kept, event_with, end_in, used_in}
+use Rattle.jfr_chunk.specs.Indexed.{indexed_event, event_with, end_in, used_in}
 
 or_false : (b : Bool) → (b || false) ≡ b
 or_false true = refl
@@ -35,13 +35,13 @@ tails : {C : Type 0} (c d : C) (cs ds : List C) → (c ∷ cs) ≡ (d ∷ ds) �
 tails c d cs ds e = cc
 
 -- The classes of the entries are those of the events.
-pub used_events : (rs : List Framed) (early : BTreeMap ℕ ℕ) (fs : List EventIndexEntry) (es : List EventAt) (id : ℕ) → map (event_kept rs early) fs ≡ map Some es → used_in rs fs id ≡ used_by es id
+pub used_events : (rs : List Framed) (early : BTreeMap ℕ ℕ) (fs : List EventIndexEntry) (es : List EventAt) (id : ℕ) → map (indexed_event rs early) fs ≡ map Some es → used_in rs fs id ≡ used_by es id
 used_events rs early [] [] id e = refl
 used_events rs early [] (x ∷ es) id e = cc
 used_events rs early (f ∷ fs) [] id e = cc
 used_events rs early (f ∷ fs) (x ∷ es) id e =
-    let h : event_kept rs early f ≡ Some x = heads (event_kept rs early f) (Some x) (map (event_kept rs early) fs) (map Some es) e in
-    let t : map (event_kept rs early) fs ≡ map Some es = tails (event_kept rs early f) (Some x) (map (event_kept rs early) fs) (map Some es) e in
+    let h : indexed_event rs early f ≡ Some x = heads (indexed_event rs early f) (Some x) (map (indexed_event rs early) fs) (map Some es) e in
+    let t : map (indexed_event rs early) fs ≡ map Some es = tails (indexed_event rs early f) (Some x) (map (indexed_event rs early) fs) (map Some es) e in
     (λ i. own (slice_get rs f.record) h i || used_events rs early fs es id t i)
   where
     own : (o : Option Framed) → option_map (λ r. event_with (end_in early f.record r) r) o ≡ Some x → option_map_or (λ r. r.type_id == id) o false ≡ (x.record_of.type_id == id)

@@ -7,7 +7,7 @@ pub mod Written
 pub mod Metas
 pub mod Scrub
 pub mod Meaning
-pub mod Seen
+pub mod Indexed
 pub mod Refs
 pub mod Used
 pub mod Buffers

@@ -29,8 +29,8 @@ output_record_by None true (Some x) r = Some (Rebuilt r x)
 output_record_by None false new r = None
 
 -- Whether a record is that of a kept event, or the metadata record at the position in the header.
-abbrev pub output_records_whole : Parts → List EventAt → Framed → Bool
-output_records_whole p kept r = list_any (λ e. e.record_of.at == r.at) kept || (r.at == metadata_at p.bytes)
+abbrev pub is_kept_or_metadata : Parts → List EventAt → Framed → Bool
+is_kept_or_metadata p kept r = list_any (λ e. e.record_of.at == r.at) kept || (r.at == metadata_at p.bytes)
 
 -- The bytes to write instead of a record: for the metadata record, if it is built anew.
 abbrev pub written_anew : Parts → List EventAt → Framed → Option (List ℕ)
@@ -38,7 +38,7 @@ written_anew p kept r = if r.at == metadata_at p.bytes then rebuilt p kept r.siz
 
 -- What is written for a record, if anything is.
 abbrev pub output_record_of : Parts → List EventAt → Framed → Option OutputRecord
-output_record_of p kept r = output_record_by (find (λ l. l.1.frame.at == r.at) (enumerate_from 0 (reverse p.chain))) (output_records_whole p kept r) (written_anew p kept r) r
+output_record_of p kept r = output_record_by (find (λ l. l.1.frame.at == r.at) (enumerate_from 0 (reverse p.chain))) (is_kept_or_metadata p kept r) (written_anew p kept r) r
 
 -- The output records of a chunk, in order.
 abbrev pub output_records : Parts → List EventAt → List OutputRecord
@@ -53,18 +53,18 @@ pub record Written : Type 0 where
 
 -- The pools, of the checkpoint with this number, that have an entry left.
 abbrev pub groups_of : List EntryAt → ℕ → List Group
-groups_of left number = by_pool (filter (λ e. e.checkpoint == number) left)
+groups_of remaining number = by_pool (filter (λ e. e.checkpoint == number) remaining)
 
 -- The bytes of an output record at this offset in the output, with the older checkpoint at `older`, if there
 -- is one.
 abbrev pub bytes_of : List ℕ → List EntryAt → OutputRecord → ℕ → Option ℕ → List ℕ
-bytes_of c left (Whole r) at older = record_bytes c r
-bytes_of c left (Rebuilt r x) at older = x
-bytes_of c left (Chained number l) at older = checkpoint_bytes c l (distance at older) (groups_of left number)
+bytes_of c remaining (Whole r) at older = record_bytes c r
+bytes_of c remaining (Rebuilt r x) at older = x
+bytes_of c remaining (Chained number l) at older = checkpoint_bytes c l (distance at older) (groups_of remaining number)
 
 -- The bytes of an output record at its own offset in the output.
 abbrev pub written_bytes : List ℕ → List EntryAt → Written → List ℕ
-written_bytes c left w = bytes_of c left w.output_record w.at w.older
+written_bytes c remaining w = bytes_of c remaining w.output_record w.at w.older
 
 -- The offset of the last checkpoint in the output, after this output record.
 abbrev pub older_after : OutputRecord → ℕ → Option ℕ → Option ℕ
@@ -74,8 +74,8 @@ older_after (Chained number l) at older = Some at
 
 -- The output records with their offsets, one after another.
 abbrev pub written : List ℕ → List EntryAt → ℕ → Option ℕ → List OutputRecord → List Written
-written c left at older [] = []
-written c left at older (s ∷ ss) = record { output_record = s; at = at; older = older } ∷ written c left (at + length (bytes_of c left s at older)) (older_after s at older) ss
+written c remaining at older [] = []
+written c remaining at older (s ∷ ss) = record { output_record = s; at = at; older = older } ∷ written c remaining (at + length (bytes_of c remaining s at older)) (older_after s at older) ss
 
 -- The offset of the last checkpoint in the output; 0 if there is none.
 abbrev pub last_at : Option ℕ → List Written → ℕ
@@ -99,9 +99,9 @@ header_with c size pools metadata = header_bytes (record (header_of (take 68 c))
 
 -- The output chunk with these output records and these entries left.
 abbrev pub assembled : Parts → List EntryAt → List OutputRecord → List ℕ
-assembled p left ss =
-    let ws = written p.bytes left 68 None ss in
-    let body = flat_map (written_bytes p.bytes left) ws in
+assembled p remaining ss =
+    let ws = written p.bytes remaining 68 None ss in
+    let body = flat_map (written_bytes p.bytes remaining) ws in
     header_with p.bytes (68 + length body) (last_at None ws) (moved ws (metadata_at p.bytes)) ++ body
 
 -- The output chunk if these events are kept.

@@ -17,7 +17,7 @@ ghost use Rattle.jfr_chunk.specs.Parts.{AreParts, StartsAt, events_of, is_inert,
 ghost use Rattle.jfr_chunk.specs.Reach.{node_entries, roots};
 ghost use Rattle.jfr_chunk.specs.Refusal.{Refused, read_parts};
 ghost use Rattle.jfr_chunk.specs.Buffers.{IsEmpty};
-ghost use Rattle.jfr_chunk.specs.Seen.{IsOfChunk, event_at};
+ghost use Rattle.jfr_chunk.specs.Indexed.{IsOfChunk, event_at};
 
 use crate::event_index::EventIndex;
 use crate::read::{header_in, read_events, record_named};
@@ -64,7 +64,7 @@ impl<'a> Model for Chunk<'a> {
     ghost use Rattle.jfr_meta.specs.Trees.{tree_code};
     ghost use Rattle.jfr_chunk.specs.Parts.{Parts};
     ghost use Rattle.jfr_meta.specs.Held.{body_in};
-    ghost use Rattle.jfr_chunk.specs.Seen.{IsIndexed, parts_in};
+    ghost use Rattle.jfr_chunk.specs.Indexed.{IsIndexed, parts_in};
 
     ghost Value = { Parts };
 

@@ -2,7 +2,7 @@
 ghost use Rattle.std.specs.Prelude.{◌≡◌, ℕ, ◌+◌, ◌<◌, ◌^◌, length, slice_get, option_map, Some};
 ghost use Rattle.jfr_frame.specs.Records.{record_end};
 ghost use Rattle.jfr_chunk.specs.Buffers.{HasNoEvents};
-ghost use Rattle.jfr_chunk.specs.Seen.{end_in};
+ghost use Rattle.jfr_chunk.specs.Indexed.{end_in};
 
 use crate::used::UsedClasses;
 use jfr_frame::Framed;

@@ -15,7 +15,7 @@ ghost use Rattle.jfr_pool.specs.Entries.{inline};
 ghost use Rattle.jfr_chunk.specs.Refs.{AddsRefs};
 ghost use Rattle.jfr_chunk.specs.Reach.{node_entries};
 ghost use Rattle.jfr_chunk.specs.Refusal.{found_or};
-ghost use Rattle.jfr_chunk.specs.Seen.{AreRefs, due, used_in};
+ghost use Rattle.jfr_chunk.specs.Indexed.{AreRefs, indexed_refs, used_in};
 ghost use Rattle.jfr_chunk.specs.Stages.{AreFields, IsRefusedEvents};
 
 use crate::event_index::{EventIndex, EventIndexEntry};
@@ -68,7 +68,7 @@ pub(crate) fn read_events(
     requires sound { Sound classes.now }
     requires entries { length pools.now ≤ length chunk.now }
     ensures ok { IfOk result (λ index. AreFields chunk.now classes.now frames.now index.fields.items index.early) }
-    ensures refs_end { IfOk result (λ index. AreRefs (due pools.now classes.now chunk.now frames.now index.early) 0 index.fields.items index.numbers.items) }
+    ensures refs_end { IfOk result (λ index. AreRefs (indexed_refs pools.now classes.now chunk.now frames.now index.early) 0 index.fields.items index.numbers.items) }
     ensures used { IfOk result (λ index. (id : ℕ) → is_in index.used.ids id ≡ used_in frames.now index.fields.items id) }
     ensures refused { IfErr result (IfFlawed (IsRefusedEvents chunk.now classes.now frames.now)) }
 {

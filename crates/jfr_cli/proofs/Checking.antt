@@ -3,7 +3,7 @@ use Rattle.std.specs.Prelude.{◌≡◌, ℕ, List, [], true, Option, None, Some
 use Rattle.std.proofs.Common.{ap, refl, subst, ◌∙◌}
 use Rattle.jfr_base.specs.declared.flaw.Refusal.{Refusal}
 use Rattle.jfr_outside.specs.World.{World, State, SinkState, IfKnown}
-use Rattle.jfr_header.specs.Taking.{IsKept, Tells}
+use Rattle.jfr_header.specs.Taking.{IsKept, IfContentsKnown}
 use Rattle.jfr_header.specs.declared.ending.Ending.{Ending}
 use Rattle.jfr_header.specs.declared.ending.Ending.TheVariants.{Done, Refused, ReadFault, WriteFault, TooManyParts, Memory}
 use Rattle.jfr_filter.specs.Filters.{Given}
@@ -26,7 +26,7 @@ use Rattle.jfr_cli.specs.Runs.{Carries, Doubts}
 pub stand_kept : (w v : World) (x y : Option (List ℕ)) → IsKept w v → y ≡ x → snapshot v y ≡ snapshot w x
 stand_kept w v x y k e = ap (λ f. record { files = f; output = v.output; text = y; sound = true }) k.0 ∙ (ap (λ o. record { files = w.files; output = o; text = y; sound = true }) k.1 ∙ ap (snapshot w) e)
 
-module _ (g : Given) (input output receipt : List ℕ) (a b : State) (s z : SinkState) (kept : Tells a b IsKept) where
+module _ (g : Given) (input output receipt : List ℕ) (a b : State) (s z : SinkState) (kept : IfContentsKnown a b IsKept) where
   abbrev files : World → Three
   files w = three (file_name input) (file_name output) (file_name receipt) w
 
@@ -98,7 +98,7 @@ module _ (g : Given) (input output receipt : List ℕ) (a b : State) (s z : Sink
   check_verified n TooManyParts is all counts w = absurd w
 
 -- Nothing is written.
-module _ (g : Given) (input output receipt : List ℕ) (a b : State) (s : SinkState) (kept : Tells a b IsKept) where
+module _ (g : Given) (input output receipt : List ℕ) (a b : State) (s : SinkState) (kept : IfContentsKnown a b IsKept) where
   abbrev files_of : World → Three
   files_of w = three (file_name input) (file_name output) (file_name receipt) w
 

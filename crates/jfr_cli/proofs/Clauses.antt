@@ -30,7 +30,7 @@ use Rattle.jfr_build.specs.declared.reason.BuildReason.{BuildReason}
 use Rattle.jfr_build.specs.Builds.{Build, build_of}
 use Rattle.jfr_build.specs.Streams as streams
 use Rattle.jfr_build.specs.Streams.{IsRefusedText, building, plan_by}
-use Rattle.jfr_cli.specs.Works.{Work, Over, Joins, Planned, Checks, Builds, Plans, StopsAs, work_of, verdict_plan, target_of, text_on, Leaves, KeepsSink, KeepsPlace, CanReadAll, CanCreateFor}
+use Rattle.jfr_cli.specs.Works.{Work, Over, Joins, Planned, Checks, Builds, Plans, StopsAs, work_of, verdict_plan, target_of, text_on, IsAfterWork, KeepsSink, KeepsPlace, CanReadAll, CanCreateFor}
 use Rattle.jfr_cli.specs.declared.answer.Answer.{Answer}
 use Rattle.jfr_cli.specs.declared.answer.Answer.TheVariants as answer_kinds
 use Rattle.jfr_cli.specs.Answers.{status_of, line_of, answer_status, answer_line, doubt_line, unbuilt_line, usage_line, read_line, write_line, memory_line, parts_line, IsAnswered, Fully, IsLineWritten, IsMemoryLineWritten}
@@ -41,7 +41,7 @@ use Rattle.jfr_cli.specs.Runs.{Carries, Obeys, NoOrder, NotRead, CarriedOut, Und
 use Rattle.jfr_cli.specs.Runs as runs
 
 -- The state after an ending, if memory ran out for its line.
-partly : (k : Work) (end : Ending) (a b : Outside) → Leaves k (command_end end) a b → Tallied (target_of k) (command_end end) a b → IsPartlyDone k a b
+partly : (k : Work) (end : Ending) (a b : Outside) → IsAfterWork k (command_end end) a b → Tallied (target_of k) (command_end end) a b → IsPartlyDone k a b
 partly k Done a b l t = Whole Fine l
 partly k (Refused x) a b l t = Whole (ends.Refused x) l
 partly k TooManyParts a b l t = Whole ends.TooMany l
@@ -211,7 +211,7 @@ unbuilt_status (Builds text output) line reason a b r p d =
     from_told a.place.contents b.place.contents (λ w v. IsRefusedText (file w text) line reason × (snapshot v None ≡ snapshot w None)) (HasStatus (Builds text output) r) d.refused
     (λ w v x. runs.ByRefusal (record { line = line; reason = reason }) x.0 p)
 
-complete_by : (k : Work) (end : Ending) (a b : Outside) (r : ℕ) (e f : SinkState) → IsAnswered (status_of end) (line_of end) r e f → Leaves k (command_end end) a b → Tallied (target_of k) (command_end end) a b
+complete_by : (k : Work) (end : Ending) (a b : Outside) (r : ℕ) (e f : SinkState) → IsAnswered (status_of end) (line_of end) r e f → IsAfterWork k (command_end end) a b → Tallied (target_of k) (command_end end) a b
     → (Rose a.place.read_faults b.place.read_faults → ⊥) → (Rose (write_count (target_of k) a) (write_count (target_of k) b) → ⊥) → IfSome a.place.contents (HasStatus k r)
 complete_by k end a b r e f (answers.ForMemory p q) l t no_read no_write = any_end a.place.contents k p
 complete_by k Done a b r e f (Fully p q) l t no_read no_write = planned k a b r Fine p l
@@ -235,8 +235,8 @@ order_same ws o p e f = cc
 
 module _ (ws : List (List ℕ)) (n : ℕ) (a b : Outside) (e f : SinkState) (x : Obeyed ws n a b e f) (end : Ending) (is : x.end ≡ end) where
   -- The state, the counts and the line after an order, if its ending is known.
-  left : Leaves (work_of x.order) (command_end end) a b
-  left = subst (λ z. Leaves (work_of x.order) (command_end z) a b) is x.carries.leaves
+  left : IsAfterWork (work_of x.order) (command_end end) a b
+  left = subst (λ z. IsAfterWork (work_of x.order) (command_end z) a b) is x.carries.leaves
 
   counted : Tallied (target_of (work_of x.order)) (command_end end) a b
   counted = subst (λ z. Tallied (target_of (work_of x.order)) (command_end z) a b) is x.carries.counts

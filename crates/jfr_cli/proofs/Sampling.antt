@@ -1,7 +1,7 @@
 -- The sample's text on the output sink.
 use Rattle.std.specs.Prelude.{◌≡◌, ◌≢◌, ℕ, List, [], Option, None, Some, Err, encode_utf8_all}
 use Rattle.std.proofs.Common.{ap, refl}
-use Rattle.jfr_outside.specs.World.{World, State, SinkState, IfKnown, LeavesPrefix, added}
+use Rattle.jfr_outside.specs.World.{World, State, SinkState, IfKnown, IsAfterAppend, added}
 use Rattle.jfr_outside.specs.Counts.{Counts}
 use Rattle.jfr_outside.specs.declared.fault.Fault.{Fault}
 use Rattle.jfr_outside.specs.declared.fault.Fault.TheVariants as faults
@@ -15,7 +15,7 @@ use Rattle.jfr_plan.specs.Outcomes.{Tallied}
 use Rattle.jfr_report.specs.Demo.{sampled}
 use Rattle.jfr_words.specs.declared.order.Order.TheVariants.{Sample}
 use Rattle.jfr_cli.specs.Texts.{IsWritten}
-use Rattle.jfr_cli.specs.Works.{sample_plan, work_of, Leaves, WorkOutcome, Planned}
+use Rattle.jfr_cli.specs.Works.{sample_plan, work_of, IsAfterWork, WorkOutcome, Planned}
 use Rattle.jfr_cli.specs.Runs.{Carries}
 
 module _ (seed events : ℕ) (a : State) (s z : SinkState) where
@@ -23,7 +23,7 @@ module _ (seed events : ℕ) (a : State) (s z : SinkState) where
   plan = sample_plan (sampled seed events)
 
   abbrev Leaving : CommandEnd → Type 0
-  Leaving ended = Leaves (work_of (Sample seed events)) ended (outside a s) (outside a z)
+  Leaving ended = IsAfterWork (work_of (Sample seed events)) ended (outside a s) (outside a z)
 
   -- What a way leaves of the plan, where nothing changed but the text.
   leaves_so : (ended : CommandEnd) (t : Option World) → ((w : World) → WorkOutcome a.steady (Planned plan) ended w w (snapshot w s.written) (snapshot w z.written)) → IfKnown t t (λ w v. WorkOutcome a.steady (Planned plan) ended w v (snapshot w s.written) (snapshot v z.written))
@@ -47,6 +47,6 @@ module _ (seed events : ℕ) (a : State) (s z : SinkState) where
   carries_sample TooManyParts w = absurd w
 
 -- What a write of a text leaves, by its ending.
-pub written_by : (bytes : List ℕ) (fault : Fault) (e : Ending) (s z : SinkState) → e ≡ after_write fault → LeavesPrefix {T = Unit {0}} (Err fault) s.written z.written bytes added → Counts {T = Unit {0}} (Err fault) s.faults z.faults → IsWritten bytes e s z
+pub written_by : (bytes : List ℕ) (fault : Fault) (e : Ending) (s z : SinkState) → e ≡ after_write fault → IsAfterAppend {T = Unit {0}} (Err fault) s.written z.written bytes added → Counts {T = Unit {0}} (Err fault) s.faults z.faults → IsWritten bytes e s z
 written_by bytes faults.Failed e s z after contents counts = rw after (contents, counts)
 written_by bytes faults.Memory e s z after contents counts = rw after (contents, counts)

@@ -28,7 +28,7 @@ use Rattle.jfr_build.specs.Builds as builds
 use Rattle.jfr_build.specs.Builds.{build_of}
 use Rattle.jfr_build.specs.Streams as streams
 use Rattle.jfr_build.specs.Streams.{IsRefusedText}
-use Rattle.jfr_cli.specs.Works.{Work, Over, Joins, Planned, Checks, Builds, work_of, target_of, Stands, Leaves, KeepsSink, KeepsPlace, CanReadAll, CanCreateFor}
+use Rattle.jfr_cli.specs.Works.{Work, Over, Joins, Planned, Checks, Builds, work_of, target_of, IfFilesKnown, IsAfterWork, KeepsSink, KeepsPlace, CanReadAll, CanCreateFor}
 use Rattle.jfr_cli.specs.declared.answer.Answer.{Answer}
 use Rattle.jfr_cli.specs.declared.answer.Answer.TheVariants as answers
 use Rattle.jfr_cli.specs.Answers.{doubt_line, refusal_line, unbuilt_line, IsLineWritten}
@@ -63,7 +63,7 @@ IsCheck _ = ⊥
 -- fault was counted.
 pub record Doubts (k : Work) (chunk : ℕ) (doubt : Doubt) (a b : Outside) : Type 0 where
   pub check : IsCheck k
-  pub verdict : Stands k a b (λ w v s t. IsInDoubt k chunk doubt w × (t ≡ s))
+  pub verdict : IfFilesKnown k a b (λ w v s t. IsInDoubt k chunk doubt w × (t ≡ s))
   pub counts : Counted Unchanged Unchanged Unchanged a b
 
 -- The work is the building of a text that is refused for this line and reason.
@@ -79,13 +79,13 @@ IsBuild _ = ⊥
 -- A text is refused. The files, the open output and the output sink are as before, and no fault was counted.
 pub record Unbuilds (k : Work) (line : ℕ) (reason : BuildReason) (a b : Outside) : Type 0 where
   pub build : IsBuild k
-  pub refused : Stands k a b (λ w v s t. IsUnbuilding k line reason w × (t ≡ s))
+  pub refused : IfFilesKnown k a b (λ w v s t. IsUnbuilding k line reason w × (t ≡ s))
   pub sink : b.sink ≡ a.sink
   pub counts : Counted Unchanged Unchanged Unchanged a b
 
 -- The state and the counts of faults after an order, for each ending.
 pub record Carries (o : Order) (e : Ending) (a b : Outside) : Type 0 where
-  pub leaves : Leaves (work_of o) (command_end e) a b
+  pub leaves : IsAfterWork (work_of o) (command_end e) a b
   pub counts : Tallied (target_of (work_of o)) (command_end e) a b
   pub sink : KeepsSink (target_of (work_of o)) a.sink b.sink
   pub place : KeepsPlace (work_of o) a.place b.place
@@ -113,20 +113,20 @@ Under words P = (o : Order) × (order_of words ≡ Some o) × P o
 
 -- The plan has this end, and all its effects are done.
 abbrev pub Ended : Work → End → Outside → Outside → Type 0
-Ended k e a b = Leaves k (Ends e) a b
+Ended k e a b = IsAfterWork k (Ends e) a b
 
 -- A read failed. For one recording exactly the effects whose needs were met are done; for a folder's files
 -- the first effects are.
 abbrev pub Halted : Work → Outside → Outside → Type 0
-Halted k a b = Leaves k command_ends.NotRead a b
+Halted k a b = IsAfterWork k command_ends.NotRead a b
 
 -- The first effects are done, and of the next, which failed, a prefix of its bytes.
 abbrev pub Broken : Work → Outside → Outside → Type 0
-Broken k a b = Leaves k NotWritten a b
+Broken k a b = IsAfterWork k NotWritten a b
 
 -- The first effects are done.
 abbrev pub Partly : Work → Outside → Outside → Type 0
-Partly k a b = Leaves k RanOut a b
+Partly k a b = IsAfterWork k RanOut a b
 
 -- The state after memory ran out: the first effects are done; or all of them; or those that are done after a
 -- read fault; or, if the count of write faults rose, the first ones and a prefix of the next one's bytes.

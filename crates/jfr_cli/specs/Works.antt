@@ -111,8 +111,8 @@ text_on File s = None
 text_on Parts s = None
 
 -- A claim about the states before and after the work, if the files of the place are known.
-abbrev pub Stands : Work → Outside → Outside → (World → World → Snapshot → Snapshot → Type 0) → Type 0
-Stands k a b P = IfKnown a.place.contents b.place.contents (λ w v. P w v (snapshot w (text_on (target_of k) a.sink)) (snapshot v (text_on (target_of k) b.sink)))
+abbrev pub IfFilesKnown : Work → Outside → Outside → (World → World → Snapshot → Snapshot → Type 0) → Type 0
+IfFilesKnown k a b P = IfKnown a.place.contents b.place.contents (λ w v. P w v (snapshot w (text_on (target_of k) a.sink)) (snapshot v (text_on (target_of k) b.sink)))
 
 -- The state after the work, for each way in which it ended.
 abbrev pub WorkOutcome : Bool → Work → CommandEnd → World → World → Snapshot → Snapshot → Type 0
@@ -121,8 +121,8 @@ WorkOutcome steady k NotRead w v s t = HaltsAs steady k w v s t
 WorkOutcome steady k NotWritten w v s t = Plans k w (λ p. Breaks steady (effects p.steps) s t)
 WorkOutcome steady k RanOut w v s t = StopsAs k w s t
 
-abbrev pub Leaves : Work → CommandEnd → Outside → Outside → Type 0
-Leaves k ended a b = Stands k a b (WorkOutcome a.place.steady k ended)
+abbrev pub IsAfterWork : Work → CommandEnd → Outside → Outside → Type 0
+IsAfterWork k ended a b = IfFilesKnown k a b (WorkOutcome a.place.steady k ended)
 
 -- Only work that writes text writes to the output sink.
 abbrev pub KeepsSink : Target → SinkState → SinkState → Type 0

@@ -2,7 +2,7 @@
 ghost use Rattle.std.specs.Prelude.{◌≡◌, ◌<◌, None, IfOk, IfSome, IsErrOf, IsTrue, length};
 ghost use Rattle.jfr_outside.specs.World.{file};
 ghost use Rattle.jfr_outside.specs.Calls.{CountsRead};
-ghost use Rattle.jfr_header.specs.Taking.{Tells};
+ghost use Rattle.jfr_header.specs.Taking.{IfContentsKnown};
 ghost use Rattle.jfr_file.specs.Files.{Counted, FileRead, RestRead};
 
 use jfr_header::Buffer;
@@ -35,7 +35,7 @@ impl From<Fault> for FileFault {
 
 // Reads the open input to its end. `None` if it has `limit` bytes or more.
 fn read_rest<P: Place>(alloc: Global, place: &mut P, limit: usize) -> Result<Option<Vec<u8>>, Fault>
-    ensures contents { Tells (P.state place.old) (P.state place.new) (RestRead limit result) }
+    ensures contents { IfContentsKnown (P.state place.old) (P.state place.new) (RestRead limit result) }
     ensures bound { IfOk result (λ read. IfSome read (λ bytes. length bytes.items < limit)) }
     ensures counts { CountsRead result (P.state place.old) (P.state place.new) }
     ensures steady { IsTrue (P.state place.old).steady → IsErrOf result Fault.Failed → IfSome (P.state place.old).contents (λ w. w.input ≡ None) }
@@ -59,7 +59,7 @@ pub fn read_file<P: Place>(
 ) -> Result<Vec<u8>, FileFault>
     // What the answer says about the file, and what is left of the input. The other files and the output
     // are unchanged.
-    ensures contents { Tells (P.state place.old) (P.state place.new) (FileRead name.now limit result) }
+    ensures contents { IfContentsKnown (P.state place.old) (P.state place.new) (FileRead name.now limit result) }
     ensures bound { IfOk result (λ bytes. length bytes.items < limit) }
 
     // Only the count of read faults changes, and only if a read failed.

@@ -29,8 +29,8 @@ abbrev pub Takes : (ℕ → ℕ → Type 0) → World → World → Type 0
 Takes Fits w v = (bytes : List ℕ) × Took bytes w v × IfSome w.input (λ rest. Fits (length bytes) (reach rest))
 
 -- A claim about the world of a place before and after, if contracts see it.
-abbrev pub Tells : State → State → (World → World → Type 0) → Type 0
-Tells old new Claim = IfKnown old.contents new.contents Claim
+abbrev pub IfContentsKnown : State → State → (World → World → Type 0) → Type 0
+IfContentsKnown old new Claim = IfKnown old.contents new.contents Claim
 
 -- A claim about what is left of the open input, if contracts see it.
 abbrev pub IfUnread : State → (List ℕ → Type 0) → Type 0

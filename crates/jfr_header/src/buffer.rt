@@ -1,7 +1,7 @@
 //! A buffer for bytes that are read from the open input.
 ghost use Rattle.std.specs.Prelude.{take, ◌≡◌, ◌≤◌, ◌<◌, ◌+◌, [], length, vec_len, Some, None, IfOk, OnOk, OnErr, IsErrOf, IsTrue, IfSome, IsSome};
 ghost use Rattle.jfr_outside.specs.Counts.{Counts};
-ghost use Rattle.jfr_header.specs.Taking.{Moved, MovedWithin, Tells};
+ghost use Rattle.jfr_header.specs.Taking.{Moved, MovedWithin, IfContentsKnown};
 
 use jfr_outside::{Fault, Place};
 use std::alloc::{AllocError, Global};
@@ -89,7 +89,7 @@ impl Buffer {
     /// the input's end.
     pub fn read<P: Place>(&mut self, place: &mut P, until: usize) -> Result<usize, Fault>
         requires { length self.old < until }
-        ensures moved { Tells (P.state place.old) (P.state place.new) (Moved self.old self.new) }
+        ensures moved { IfContentsKnown (P.state place.old) (P.state place.new) (Moved self.old self.new) }
         ensures prefix { take (length self.old) self.new ≡ self.old }
         ensures bound { length self.new ≤ until }
         ensures len { IfOk result (λ n. length self.new ≡ length self.old + n) }
@@ -112,14 +112,14 @@ impl Buffer {
     /// after a failed read the buffer keeps what was read before.
     pub fn fill<P: Place>(&mut self, place: &mut P, until: usize) -> Result<(), Fault>
         requires { length self.old ≤ until }
-        ensures ok { OnOk result (Tells (P.state place.old) (P.state place.new) (Moved self.old self.new)) }
+        ensures ok { OnOk result (IfContentsKnown (P.state place.old) (P.state place.new) (Moved self.old self.new)) }
         ensures prefix { take (length self.old) self.new ≡ self.old }
         ensures bound { OnOk result (length self.new ≤ until) }
         ensures end { OnOk result (length self.new < until → IfSome (P.state place.new).contents (λ v. v.input ≡ Some [])) }
         ensures opened { OnOk result (length self.old < until → IfSome (P.state place.new).contents (λ v. IsSome v.input)) }
-        ensures failed { IsErrOf result Fault.Failed → (length self.new < until) × Tells (P.state place.old) (P.state place.new) (Moved self.old self.new) }
+        ensures failed { IsErrOf result Fault.Failed → (length self.new < until) × IfContentsKnown (P.state place.old) (P.state place.new) (Moved self.old self.new) }
         ensures fails { IsTrue ((P.state place.old).steady) → IsErrOf result Fault.Failed → IfSome (P.state place.old).contents (λ w. w.input ≡ None) }
-        ensures memory { IsErrOf result Fault.Memory → Tells (P.state place.old) (P.state place.new) (MovedWithin self.old until) }
+        ensures memory { IsErrOf result Fault.Memory → IfContentsKnown (P.state place.old) (P.state place.new) (MovedWithin self.old until) }
         ensures cause { Counts result (P.state place.old).read_faults (P.state place.new).read_faults }
         ensures writes { (P.state place.new).write_faults ≡ (P.state place.old).write_faults }
         ensures steady { (P.state place.new).steady ≡ (P.state place.old).steady }

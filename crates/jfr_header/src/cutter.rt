@@ -1,6 +1,6 @@
 //! Reading a recording chunk by chunk.
 ghost use Rattle.std.specs.Prelude.{◌≡◌, ◌<◌, ◌≤◌, ◌+◌, ◌^◌, [], true, false, None, IsTrue, IfSome};
-ghost use Rattle.jfr_header.specs.Taking.{Took, Takes, Tells, IfUnread, IsKept};
+ghost use Rattle.jfr_header.specs.Taking.{Took, Takes, IfContentsKnown, IfUnread, IsKept};
 ghost use Rattle.jfr_header.specs.Nexts.{NextOf, CutOf, Counted, IsDue, IfRefused, answer_to, ahead_of, is_header};
 
 use crate::buffer::Buffer;
@@ -109,7 +109,7 @@ impl ChunkCutter {
     // The body of `next`, which derives its further clauses from these.
     fn advance<P: Place>(&mut self, place: &mut P) -> Cut
         ensures cut { CutOf result self.old self.new }
-        ensures contents { Tells (P.state place.old) (P.state place.new) (NextOf result self.old self.new) }
+        ensures contents { IfContentsKnown (P.state place.old) (P.state place.new) (NextOf result self.old self.new) }
         ensures counts { Counted result (P.state place.old).read_faults (P.state place.new).read_faults }
         ensures writes { (P.state place.new).write_faults ≡ (P.state place.old).write_faults }
         ensures steady { (P.state place.new).steady ≡ (P.state place.old).steady }
@@ -153,20 +153,20 @@ impl ChunkCutter {
 
         // What each answer says about the cutter, and about a place whose content contracts see.
         ensures cut { CutOf result self.old self.new }
-        ensures contents { Tells (P.state place.old) (P.state place.new) (NextOf result self.old self.new) }
+        ensures contents { IfContentsKnown (P.state place.old) (P.state place.new) (NextOf result self.old self.new) }
 
         // The first bytes of what is left decide the answer, except for faults and running out of memory.
         ensures decides { IfUnread (P.state place.old) (λ rest. IsDue result (answer_to self.old.number (ahead_of self.old rest))) }
 
         // The bytes that were read: after a flaw of the header only the header, and after any other answer no
         // byte past the header and its chunk.
-        ensures chunk_taken { result ≡ Cut.Chunk → Tells (P.state place.old) (P.state place.new) (Took self.new.bytes) }
-        ensures header_taken { IfRefused result (λ r. is_header r.reason ≡ true → Tells (P.state place.old) (P.state place.new) (Takes (λ taken most. taken ≡ 68))) }
-        ensures at_most { Tells (P.state place.old) (P.state place.new) (Takes (λ taken most. taken ≤ most)) }
-        ensures not_whole { result ≡ Cut.Failed → Tells (P.state place.old) (P.state place.new) (Takes (λ taken most. taken < most)) }
+        ensures chunk_taken { result ≡ Cut.Chunk → IfContentsKnown (P.state place.old) (P.state place.new) (Took self.new.bytes) }
+        ensures header_taken { IfRefused result (λ r. is_header r.reason ≡ true → IfContentsKnown (P.state place.old) (P.state place.new) (Takes (λ taken most. taken ≡ 68))) }
+        ensures at_most { IfContentsKnown (P.state place.old) (P.state place.new) (Takes (λ taken most. taken ≤ most)) }
+        ensures not_whole { result ≡ Cut.Failed → IfContentsKnown (P.state place.old) (P.state place.new) (Takes (λ taken most. taken < most)) }
 
         // Only the input of the place changes, and after Failed the count of failed reads.
-        ensures unchanged { Tells (P.state place.old) (P.state place.new) IsKept }
+        ensures unchanged { IfContentsKnown (P.state place.old) (P.state place.new) IsKept }
         ensures counts { Counted result (P.state place.old).read_faults (P.state place.new).read_faults }
         ensures writes { (P.state place.new).write_faults ≡ (P.state place.old).write_faults }
         ensures steady { (P.state place.new).steady ≡ (P.state place.old).steady }

@@ -11,7 +11,7 @@ use Rattle.jfr_frame.proofs.RecordLaws.{record_one, some_bytes, rising_of}
 use Rattle.jfr_pool.specs.declared.link.Link.{Link}
 use Rattle.jfr_pool.specs.declared.entry.EntryAt.{EntryAt}
 use Rattle.jfr_chunk.specs.Parts.{Parts, EventAt, events_of, event_records, AreParts, metadata_at}
-use Rattle.jfr_chunk.specs.Scrub.{OutputRecord, Whole, Chained, Rebuilt, Written, output_record_by, output_records_whole, output_records, written_anew, written_bytes, written, record_of, moved}
+use Rattle.jfr_chunk.specs.Scrub.{OutputRecord, Whole, Chained, Rebuilt, Written, output_record_by, is_kept_or_metadata, output_records, written_anew, written_bytes, written, record_of, moved}
 use Rattle.jfr_chunk.specs.Metas.{rebuilt}
 use Rattle.jfr_laws.proofs.ReadBack.{moved_frame}
 use Rattle.jfr_laws.proofs.Suits.{Suits}
@@ -197,7 +197,7 @@ module _ (p : Parts) (a : AreParts p) (kept : List EventAt) (are : AreEvents p k
   ws = written_of p kept marks
 
   abbrev output_records_there : Framed → Bool
-  output_records_there f = output_records_whole q (events_of q) f
+  output_records_there f = is_kept_or_metadata q (events_of q) f
 
   abbrev new_there : Framed → Option (List ℕ)
   new_there f = written_anew q (events_of q) f
@@ -205,7 +205,7 @@ module _ (p : Parts) (a : AreParts p) (kept : List EventAt) (are : AreEvents p k
   rising : Rising 68 (map (λ w. record_of w.output_record) ws)
   rising =
       subst (Rising 68) (sym (written_records p.bytes remaining b (output_records p kept) 68 None))
-      (output_records_rise (all_links p) (output_records_whole p kept) (written_anew p kept) 68 p.records (rising_of p.bytes 68 68 (length p.bytes) p.records (omega arith) a.records))
+      (output_records_rise (all_links p) (is_kept_or_metadata p kept) (written_anew p kept) 68 p.records (rising_of p.bytes 68 68 (length p.bytes) p.records (omega arith) a.records))
 
   -- Where the metadata record becomes in what is written what it became in it.
   module _ (settles : new_there valid.metadata_record ≡ metadata_new p kept a) where
@@ -265,10 +265,10 @@ module _ (p : Parts) (a : AreParts p) (kept : List EventAt) (are : AreEvents p k
         by_output_record : (t : OutputRecord) → w.output_record ≡ t → Stays p.bytes remaining b (all_links q) output_records_there new_there t f
         by_output_record (Chained j l) e = tt
         by_output_record (Whole r) e =
-            let x = whole_output_records (all_links p) (output_records_whole p kept) (written_anew p kept) p.records r (subst (In (output_records p kept)) e (in_written p.bytes remaining b (output_records p kept) 68 None w i)) in
+            let x = whole_output_records (all_links p) (is_kept_or_metadata p kept) (written_anew p kept) p.records r (subst (In (output_records p kept)) e (in_written p.bytes remaining b (output_records p kept) 68 None w i)) in
             by_cause r e x.0 (is_kept kept r) (r.at == metadata_at p.bytes) refl refl x.1 x.2
         by_output_record (Rebuilt r y) e =
-            let x = anew_output_records (all_links p) (output_records_whole p kept) (written_anew p kept) p.records r y (subst (In (output_records p kept)) e (in_written p.bytes remaining b (output_records p kept) 68 None w i)) in
+            let x = anew_output_records (all_links p) (is_kept_or_metadata p kept) (written_anew p kept) p.records r y (subst (In (output_records p kept)) e (in_written p.bytes remaining b (output_records p kept) 68 None w i)) in
             let t = anew_only p kept r y x.1 in
             let h : r.at ≡ metadata_at p.bytes = grind (arith, nat_tests) in
             at_metadata r (all_in (IsRecord p.bytes) p.records r (recorded p a) x.0) (ap (λ z. (record_of z).at) e) h (Some y) x.1

@@ -22,7 +22,7 @@ use Rattle.jfr_pool.specs.Chains.{IsChain}
 use Rattle.jfr_pool.specs.Entries.{AreEntries, inline}
 use Rattle.jfr_chunk.specs.Parts.{Parts, EventAt, HasFields, events_of, event_records, AreParts, StartsAt, pools_at, metadata_at}
 use Rattle.jfr_chunk.specs.Metas.{rebuilt}
-use Rattle.jfr_chunk.specs.Scrub.{moved, output_records, output_records_whole, written_anew}
+use Rattle.jfr_chunk.specs.Scrub.{moved, output_records, is_kept_or_metadata, written_anew}
 use Rattle.jfr_chunk.proofs.AllLaws.{all_in}
 use Rattle.jfr_worklist.specs.Members.{In}
 use Rattle.jfr_worklist.proofs.Members.{contains_in, in_contains}
@@ -180,7 +180,7 @@ module _ (p : Parts) (a : AreParts p) (kept : List EventAt) (are : AreEvents p k
     fields =
         let f = if_passes (HasFields p.bytes p.classes) (λ r. is_event_class p.classes r.type_id) p.records (recursion_from_All (HasFields p.bytes p.classes) (event_records p.classes p.records) a.events) in
         fields_back p.bytes remaining m b (output_records p kept) 68 None holds
-        (on_whole (IfPasses is_event (HasFields p.bytes m)) (all_links p) (output_records_whole p kept) (written_anew p kept) p.records (passes_too p.records f)) s.held
+        (on_whole (IfPasses is_event (HasFields p.bytes m)) (all_links p) (is_kept_or_metadata p kept) (written_anew p kept) p.records (passes_too p.records f)) s.held
 
     -- The parts of what is written.
     abbrev pub new_parts : Parts

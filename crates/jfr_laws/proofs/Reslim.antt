@@ -14,7 +14,7 @@ use Rattle.jfr_meta.specs.Described.{class_elements, id_attribute}
 use Rattle.jfr_meta.specs.Written.{bare, bares, tree_bytes, trees_bytes, pair_bytes, text_bytes}
 use Rattle.jfr_meta.specs.Stays.{below, all_below, ids_below, first_ids, next_classes, stay_marks, stay_of}
 use Rattle.jfr_worklist.specs.Marks.{those, swept, marked_at, is_marked}
-use Rattle.jfr_meta.specs.Slimmed.{with_children, is_named, element_stays, first_changed, slim_holder, slim_root, uses, all_uses, firsts, table_of, index_in, renumbered, all_renumbered, retabled, slim_body, bytes_of_body, table_len}
+use Rattle.jfr_meta.specs.Slimmed.{with_children, is_named, element_is_needed, first_changed, slim_holder, slim_root, uses, all_uses, firsts, table_of, index_in, renumbered, all_renumbered, retabled, slim_body, bytes_of_body, table_len}
 use Rattle.jfr_laws.proofs.Metadata.{SameBody}
 use Rattle.jfr_meta.proofs.Bare.{children_bare, name_bare, filter_bare, filter_map_bare, elements_bare, head_bare}
 
@@ -100,13 +100,13 @@ module _ (texts : List (List ℕ)) where
 
   -- The slim tree.
   module _ (stays : ℕ → Bool) where
-    element_bare : (t : Tree) → element_stays texts stays (bare t) ≡ element_stays texts stays t
+    element_bare : (t : Tree) → element_is_needed texts stays (bare t) ≡ element_is_needed texts stays t
     element_bare t = λ i. not (is_named_bare (codes "class") t i) || option_map_or (λ h. stays h.0) (head_bare texts t i) false
 
     holder_bare : (t : Tree) → slim_holder texts stays (bare t) ≡ bare (slim_holder texts stays t)
     holder_bare (Node place name pairs children) =
-        ap (λ z. Node 0 name pairs (trees_of (filter (element_stays texts stays) z))) (children_bare (Node place name pairs children))
-        ∙ (ap (λ z. Node 0 name pairs (trees_of z)) (filter_bare (element_stays texts stays) element_bare (list_of children)) ∙ sym (ap (λ z. Node 0 name pairs z) (bares_of (filter (element_stays texts stays) (list_of children)))))
+        ap (λ z. Node 0 name pairs (trees_of (filter (element_is_needed texts stays) z))) (children_bare (Node place name pairs children))
+        ∙ (ap (λ z. Node 0 name pairs (trees_of z)) (filter_bare (element_is_needed texts stays) element_bare (list_of children)) ∙ sym (ap (λ z. Node 0 name pairs z) (bares_of (filter (element_is_needed texts stays) (list_of children)))))
 
     changed_bare : (ts : List Tree) → first_changed (is_named texts (codes "metadata")) (slim_holder texts stays) (map bare ts) ≡ map bare (first_changed (is_named texts (codes "metadata")) (slim_holder texts stays) ts)
     changed_bare [] = refl

@@ -13,7 +13,7 @@ use Rattle.jfr_meta.specs.Described.{class_elements, class_head, class_flaws, cl
 use Rattle.jfr_layout.specs.Staying.{staying}
 use Rattle.jfr_meta.specs.Stays.{below, all_below, ids_below, HasHead, HasNamed, IsStay, stay_marks, stay_of}
 use Rattle.jfr_worklist.specs.Marks.{is_marked}
-use Rattle.jfr_meta.specs.Slimmed.{with_children, is_named, head_stays, element_stays, first_changed, slim_holder, slim_root, uses, all_uses, firsts, table_of, index_in, renumbered, all_renumbered, retabled, slim_body, IsSlim}
+use Rattle.jfr_meta.specs.Slimmed.{with_children, is_named, head_is_needed, element_is_needed, first_changed, slim_holder, slim_root, uses, all_uses, firsts, table_of, index_in, renumbered, all_renumbered, retabled, slim_body, IsSlim}
 use Rattle.jfr_worklist.specs.Members.{In}
 use Rattle.jfr_worklist.proofs.Members.{get_in, contains_in, in_contains}
 use Rattle.jfr_meta.proofs.Lists.{in_filter, filter_in, nothing_each}
@@ -208,10 +208,10 @@ module _ (b : Body) (k : Classes) (used stays : ℕ → Bool) (told : described 
   stay_again : IsStay table us m used again
   stay_again = is_stay table us m used (sym c.classes) c.sound (nothing_each (class_flaws table) us c.good)
 
-  zip : AllZip (Alike b.strings table) (filter (head_stays b.strings stays) ts) us
+  zip : AllZip (Alike b.strings table) (filter (head_is_needed b.strings stays) ts) us
   zip =
-      let there : class_elements b.strings remaining ≡ Some (filter (head_stays b.strings stays) ts) = slim_elements b.strings stays b.root ∙ ap (option_map (filter (head_stays b.strings stays))) d.there in
-      subst (λ o. lists.Beside (AllZip (Alike b.strings table)) (Some (filter (head_stays b.strings stays) ts)) o) c.there
+      let there : class_elements b.strings remaining ≡ Some (filter (head_is_needed b.strings stays) ts) = slim_elements b.strings stays b.root ∙ ap (option_map (filter (head_is_needed b.strings stays))) d.there in
+      subst (λ o. lists.Beside (AllZip (Alike b.strings table)) (Some (filter (head_is_needed b.strings stays) ts)) o) c.there
       (subst (λ o. lists.Beside (AllZip (Alike b.strings table)) o (class_elements table over)) there (elements_alike b.strings table remaining over (retabled_alike b.strings remaining)))
 
   again_has : (id : ℕ) → again id ≡ true → has_id m id ≡ true
@@ -221,7 +221,7 @@ module _ (b : Body) (k : Classes) (used stays : ℕ → Bool) (told : described 
       by_index None q e = cc
       by_index (Some i) q e = let x = index_at m id i q in ap (has_id m) (sym x.2) ∙ at_any m i x.0 x.1
 
-  head_test : (t : Tree) (id : ℕ) (test : ℕ → Bool) → HasHead b.strings t id → head_stays b.strings test t ≡ test id
+  head_test : (t : Tree) (id : ℕ) (test : ℕ → Bool) → HasHead b.strings t id → head_is_needed b.strings test t ≡ test id
   head_test t id test e = by_head (class_head b.strings t) e
     where
       by_head : (o : Option (ℕ × List ℕ)) → option_map (λ (h : ℕ × List ℕ). h.0) o ≡ Some id → option_map_or (λ (h : ℕ × List ℕ). test h.0) o false ≡ test id
@@ -238,7 +238,7 @@ module _ (b : Body) (k : Classes) (used stays : ℕ → Bool) (told : described 
     names = λ t id other i h s n o.
         (let here = (staying_has stays k id (again_has id s)).0 in
         let there = stay.has.names t id other i h here n o in
-        let x = zip_in (Alike b.strings table) (filter (head_stays b.strings stays) ts) us t zip (filter_in (head_stays b.strings stays) ts t (contains_in ts t i) (head_test t id stays h ∙ here)) in
+        let x = zip_in (Alike b.strings table) (filter (head_is_needed b.strings stays) ts) us t zip (filter_in (head_is_needed b.strings stays) ts t (contains_in ts t i) (head_test t id stays h ∙ here)) in
         stay_again.has.names x.0 id other (in_contains us x.0 x.1) (ap (option_map (λ (h : ℕ × List ℕ). h.0)) (sym (head_alike b.strings table t x.0 x.2)) ∙ h) s (subst (λ z. Contains z other) (ids_alike b.strings table t x.0 x.2) n) (has_staying stays k other o there));
   }
 
@@ -246,7 +246,7 @@ module _ (b : Body) (k : Classes) (used stays : ℕ → Bool) (told : described 
   all_again id h = stay.least again named_again id (staying_has stays k id h).0
 
   -- So no class element goes.
-  element_again : (u : Tree) → In us u → head_stays table again u ≡ true
+  element_again : (u : Tree) → In us u → head_is_needed table again u ≡ true
   element_again u i =
       let p = in_get us u i in
       let x = class_at table us m used (sym c.classes) c.sound (nothing_each (class_flaws table) us c.good) p.0 u p.1 in
@@ -260,11 +260,11 @@ module _ (b : Body) (k : Classes) (used stays : ℕ → Bool) (told : described 
   holder_again x e =
       let q : us ≡ named table (codes "class") (children_of x) =
       (let z : Some us ≡ Some (named table (codes "class") (children_of x)) = sym c.there ∙ ap (option_map (λ m. named table (codes "class") (children_of m))) e in cc) in
-      same_children x (filter (element_stays table again) (children_of x)) (all_pass (element_stays table again) (children_of x) (λ y i. one y (is_named table (codes "class") y) refl (λ t. element_again y (subst (λ z. In z y) (sym q) (filter_in (is_named table (codes "class")) (children_of x) y i t)))))
+      same_children x (filter (element_is_needed table again) (children_of x)) (all_pass (element_is_needed table again) (children_of x) (λ y i. one y (is_named table (codes "class") y) refl (λ t. element_again y (subst (λ z. In z y) (sym q) (filter_in (is_named table (codes "class")) (children_of x) y i t)))))
     where
-      one : (y : Tree) (t : Bool) → is_named table (codes "class") y ≡ t → (is_named table (codes "class") y ≡ true → head_stays table again y ≡ true) → element_stays table again y ≡ true
-      one y true e f = ap (λ t. not t || head_stays table again y) e ∙ f e
-      one y false e f = ap (λ t. not t || head_stays table again y) e
+      one : (y : Tree) (t : Bool) → is_named table (codes "class") y ≡ t → (is_named table (codes "class") y ≡ true → head_is_needed table again y ≡ true) → element_is_needed table again y ≡ true
+      one y true e f = ap (λ t. not t || head_is_needed table again y) e ∙ f e
+      one y false e f = ap (λ t. not t || head_is_needed table again y) e
 
   root_again : slim_root table again over ≡ over
   unfolding slim_root

@@ -13,7 +13,7 @@ use Rattle.jfr_frame.proofs.RecordLaws.{record_one}
 use Rattle.jfr_pool.specs.declared.entry.EntryAt.{EntryAt}
 use Rattle.jfr_chunk.specs.Parts.{Parts, EventAt, AreParts, metadata_at}
 use Rattle.jfr_chunk.specs.Reach.{marked}
-use Rattle.jfr_chunk.specs.Scrub.{Written, output_records_whole, written_anew, output_records, written, last_at, moved, assembled}
+use Rattle.jfr_chunk.specs.Scrub.{Written, is_kept_or_metadata, written_anew, output_records, written, last_at, moved, assembled}
 use Rattle.jfr_worklist.proofs.Members.{contains_in}
 use Rattle.jfr_chunk.proofs.TestLaws.{is_eq}
 use Rattle.jfr_laws.proofs.Order.{Numbered, numbered_at, found_numbered}
@@ -93,12 +93,12 @@ module _ (p : Parts) (kept : List EventAt) (marks : List Bool) where
 
   module _ (a : AreParts p) (good : GoodAnew p.bytes (written_anew p kept)) where
     pub is_ready : Ready p (remaining_of p marks) (output_records p kept)
-    is_ready = ready p a (output_records_whole p kept) (written_anew p kept) good marks
+    is_ready = ready p a (is_kept_or_metadata p kept) (written_anew p kept) good marks
 
     body_fits : 68 + length body_of ≤ length p.bytes
     body_fits =
         let l = length_back p.bytes (remaining_of p marks) p.classes (output_records p kept) 68 None is_ready.valid is_ready.deltas in
-        let s = sizes_within p.bytes (all_links p) (output_records_whole p kept) (written_anew p kept) (only_records p.bytes (all_links p) (chained_checkpoints p a)) p.records 68 (length p.bytes) a.records in
+        let s = sizes_within p.bytes (all_links p) (is_kept_or_metadata p kept) (written_anew p kept) (only_records p.bytes (all_links p) (chained_checkpoints p a)) p.records 68 (length p.bytes) a.records in
         omega (arith, l, s)
 
     pub out_shorter : length out ≤ length p.bytes
@@ -108,7 +108,7 @@ module _ (p : Parts) (kept : List EventAt) (marks : List Bool) where
     pub metadata_found : (b : List ℕ) → Holds b (length b) 68 body_of → Found p.bytes (remaining_of p marks) p.classes b a.metadata_record (metadata_new p kept a) 68 written_of
     metadata_found b h =
         let f : Framed = a.metadata_record in
-        found_back p.bytes (remaining_of p marks) p.classes b (all_links p) (output_records_whole p kept) (written_anew p kept) f (metadata_stands p a)
+        found_back p.bytes (remaining_of p marks) p.classes b (all_links p) (is_kept_or_metadata p kept) (written_anew p kept) f (metadata_stands p a)
         (no_link_at p.bytes (all_links p) f (chained_checkpoints p a) (metadata_stands p a) a.metadata_there.type_is)
         (or_right (is_kept kept f) (f.at == metadata_at p.bytes) (is_eq f.at (metadata_at p.bytes) a.metadata_there.place))
         p.records 68 None (recorded p a) (contains_in p.records f a.metadata_there.listed) is_ready.valid is_ready.deltas h

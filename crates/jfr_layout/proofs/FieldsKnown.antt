@@ -11,7 +11,7 @@ use Rattle.jfr_layout.specs.declared.index.Index.{Index}
 use Rattle.jfr_layout.specs.declared.kind.Kind.{Kind}
 use Rattle.jfr_layout.specs.declared.class_layout.ClassLayout.{ClassLayout}
 use Rattle.jfr_layout.specs.declared.field_layout.FieldLayout.{FieldLayout}
-use Rattle.jfr_layout.specs.Classes.{Class, Classes, Field, ClassFlaw, TellsFirst, AreFieldLayouts, flaw_if, flaws_in, unknown, is_unknown, find_class, kind_of, layout_with}
+use Rattle.jfr_layout.specs.Classes.{Class, Classes, Field, ClassFlaw, IsFirstFlaw, AreFieldLayouts, flaw_if, flaws_in, unknown, is_unknown, find_class, kind_of, layout_with}
 use Rattle.jfr_layout.specs.Resolved.{AreClassLayouts, IsIndex, IsClassLayout, index_in}
 use Rattle.jfr_layout.proofs.FieldLayouts.{layouts_push, layout_at}
 use Rattle.jfr_layout.proofs.Lists.{present, take_next, zip_push}
@@ -43,7 +43,7 @@ known_next k i fs n index kinds f layouts more p d x ks s e g m = record {
 -- A class that isn't.
 pub known_tell : (k : Classes) (i : ℕ) (fs : List Field) (n : ℕ) (index : Index) (f : Field) (layouts : List FieldLayout) → IsIndex k index → FieldsKnown k i fs n layouts → slice_get fs n ≡ Some f
     → None ≡ index_in index f.shape.class
-    → TellsFirst (flaws_in UnknownType (is_unknown k) i fs) (Flawed i (Some n) UnknownType)
+    → IsFirstFlaw (flaws_in UnknownType (is_unknown k) i fs) (Flawed i (Some n) UnknownType)
 known_tell k i fs n index f layouts x s e g = stage_tells (found_unknown k i) fs n f (flaws_in UnknownType (is_unknown k) i fs) (Flawed i (Some n) UnknownType) s.left e
     (ap (λ t. slice_get (flaw_if (not t) i (Some n) UnknownType) 0) (known_at k index f.shape.class x ∙ ap is_some (sym g)))
 
@@ -73,7 +73,7 @@ classes_next k n all more class_layout s l none p m =
     }
 
 pub classes_tell : (k : Classes) (n : ℕ) (all : List ClassLayout) (fault : ClassFault) → ClassesKnown k n all → n < length k
-    → IfSome (slice_get k n) (λ c. TellsFirst (flaws_in UnknownType (is_unknown k) n c.fields) fault) → TellsFirst (unknown k) fault
+    → IfSome (slice_get k n) (λ c. IsFirstFlaw (flaws_in UnknownType (is_unknown k) n c.fields) fault) → IsFirstFlaw (unknown k) fault
 classes_tell k n all fault s l t = let h = present k n l in stage_tells (found_unknowns k) k n h.0 (unknown k) fault s.left h.1 (rw h.1 at t)
 
 pub classes_end : (k : Classes) (n : ℕ) (all : List ClassLayout) → ClassesKnown k n all → length k ≤ n → unknown k ≡ []

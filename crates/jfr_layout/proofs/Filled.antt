@@ -5,7 +5,7 @@ use Rattle.std.specs.Option.{IfSome}
 use Rattle.jfr_base.specs.declared.reason.Reason.TheVariants.{EmptyInline}
 use Rattle.jfr_layout.specs.declared.fault.ClassFault.{ClassFault}
 use Rattle.jfr_layout.specs.declared.fault.ClassFault.TheVariants.{Flawed}
-use Rattle.jfr_layout.specs.Classes.{Class, Classes, Field, ClassFlaw, TellsFirst, flaw_if, flaws_in, empty_inline, is_empty_inline, field_at}
+use Rattle.jfr_layout.specs.Classes.{Class, Classes, Field, ClassFlaw, IsFirstFlaw, flaw_if, flaws_in, empty_inline, is_empty_inline, field_at}
 use Rattle.jfr_layout.proofs.Lists.{present}
 use Rattle.jfr_layout.proofs.Stages.{rest, stage_next, stage_tells, stage_none}
 use Rattle.jfr_layout.proofs.Steps.{field_of}
@@ -35,7 +35,7 @@ filled_next k i n c t e s l h u =
     }
 
 pub filled_tell : (k : Classes) (i n : ℕ) (c : Class) (t : Bool) → slice_get k i ≡ Some c → FieldsFilled k i n → n < length c.fields
-    → IfSome (field_at k i n) (λ g. t ≡ is_empty_inline k g) → t ≡ true → TellsFirst (flaws_in EmptyInline (is_empty_inline k) i c.fields) (Flawed i (Some n) EmptyInline)
+    → IfSome (field_at k i n) (λ g. t ≡ is_empty_inline k g) → t ≡ true → IsFirstFlaw (flaws_in EmptyInline (is_empty_inline k) i c.fields) (Flawed i (Some n) EmptyInline)
 filled_tell k i n c t e s l h u =
     let f = present c.fields n l in
     stage_tells (found_empty k i) c.fields n f.0 (flaws_in EmptyInline (is_empty_inline k) i c.fields) (Flawed i (Some n) EmptyInline) (rw e at s.left) f.1
@@ -54,7 +54,7 @@ pub record ClassesFilled (k : Classes) (n : ℕ) : Type 0 where
 pub empties_next : (k : Classes) (n : ℕ) → ClassesFilled k n → n < length k → IfSome (slice_get k n) (λ c. flaws_in EmptyInline (is_empty_inline k) n c.fields ≡ []) → ClassesFilled k (n + 1)
 empties_next k n s l none = let h = present k n l in record { left = stage_next (found_empties k) k n h.0 (empty_inline k) s.left h.1 (rw h.1 at none) }
 
-pub empties_tell : (k : Classes) (n : ℕ) (fault : ClassFault) → ClassesFilled k n → n < length k → IfSome (slice_get k n) (λ c. TellsFirst (flaws_in EmptyInline (is_empty_inline k) n c.fields) fault) → TellsFirst (empty_inline k) fault
+pub empties_tell : (k : Classes) (n : ℕ) (fault : ClassFault) → ClassesFilled k n → n < length k → IfSome (slice_get k n) (λ c. IsFirstFlaw (flaws_in EmptyInline (is_empty_inline k) n c.fields) fault) → IsFirstFlaw (empty_inline k) fault
 empties_tell k n fault s l t = let h = present k n l in stage_tells (found_empties k) k n h.0 (empty_inline k) fault s.left h.1 (rw h.1 at t)
 
 pub empties_end : (k : Classes) (n : ℕ) → ClassesFilled k n → length k ≤ n → empty_inline k ≡ []

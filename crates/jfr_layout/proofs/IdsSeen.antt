@@ -8,7 +8,7 @@ use Rattle.std.proofs.lemmas.Bool.{eqb-true}
 use Rattle.jfr_base.specs.declared.reason.Reason.TheVariants.{ClassTwice}
 use Rattle.jfr_layout.specs.declared.fault.ClassFault.{ClassFault}
 use Rattle.jfr_layout.specs.declared.fault.ClassFault.TheVariants.{Flawed}
-use Rattle.jfr_layout.specs.Classes.{Class, Classes, ClassFlaw, TellsFirst, repeats, name_repeats, flaw_if, has_id, class_index}
+use Rattle.jfr_layout.specs.Classes.{Class, Classes, ClassFlaw, IsFirstFlaw, repeats, name_repeats, flaw_if, has_id, class_index}
 use Rattle.jfr_layout.specs.declared.index.Index.{Index}
 use Rattle.jfr_layout.specs.Resolved.{IsIndex, index_in}
 use Rattle.jfr_layout.proofs.Lists.{take_next, absent}
@@ -53,17 +53,17 @@ ids_next k n index later c s e l none up names = record {
 -- The class at an index has an id that was seen.
 pub ids_tell : (k : Classes) (n : ℕ) (index : Index) (c : Class) → IdsSeen k n index → slice_get k n ≡ Some c
     → is_some (index_in index c.id) ≡ true
-    → TellsFirst (repeats k) (Flawed n None ClassTwice)
+    → IsFirstFlaw (repeats k) (Flawed n None ClassTwice)
 ids_tell k n index c s e some = stage_tells (found_repeats k) k n c (repeats k) (Flawed n None ClassTwice) s.left e
     (ap (λ t. slice_get (flaw_if t n None ClassTwice ++ name_repeats n c.fields) 0) (is_used k n index c.id s ∙ some))
 
 -- The class at an index has a new id, and repeats a name.
 pub ids_names_tell : (k : Classes) (n : ℕ) (index : Index) (c : Class) (fault : ClassFault) → IdsSeen k n index → slice_get k n ≡ Some c
     → is_some (index_in index c.id) ≡ false
-    → TellsFirst (name_repeats n c.fields) fault
-    → TellsFirst (repeats k) fault
+    → IsFirstFlaw (name_repeats n c.fields) fault
+    → IsFirstFlaw (repeats k) fault
 ids_names_tell k n index c fault s e none t = stage_tells (found_repeats k) k n c (repeats k) fault s.left e
-    (subst (λ (b : Bool). TellsFirst (flaw_if b n None ClassTwice ++ name_repeats n c.fields) fault) (sym (is_used k n index c.id s ∙ none)) t)
+    (subst (λ (b : Bool). IsFirstFlaw (flaw_if b n None ClassTwice ++ name_repeats n c.fields) fault) (sym (is_used k n index c.id s ∙ none)) t)
 
 -- All were seen.
 pub ids_end : (k : Classes) (n : ℕ) (index : Index) → IdsSeen k n index → length k ≤ n → repeats k ≡ []

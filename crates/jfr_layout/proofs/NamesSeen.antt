@@ -16,7 +16,7 @@ use Rattle.std.proofs.lemmas.Option.{slice_get_within, get_or_from_slice_get, sa
 use Rattle.std.proofs.lemmas.Slice.Eq.{bytes_eq-Decides}
 use Rattle.jfr_base.specs.declared.reason.Reason.TheVariants.{FieldTwice}
 use Rattle.jfr_layout.specs.declared.fault.ClassFault.TheVariants.{Flawed}
-use Rattle.jfr_layout.specs.Classes.{Class, Classes, Field, ClassFlaw, TellsFirst, name_repeats, flaw_if, has_name}
+use Rattle.jfr_layout.specs.Classes.{Class, Classes, Field, ClassFlaw, IsFirstFlaw, name_repeats, flaw_if, has_name}
 use Rattle.jfr_layout.specs.Names.{AreAllNumbered, AreNumbered}
 use Rattle.jfr_layout.proofs.Lists.{present, zip_at}
 use Rattle.jfr_layout.proofs.Stages.{rest, stage_next, stage_tells, stage_none}
@@ -103,7 +103,7 @@ module _ (i : ℕ) (fs : List Field) (numbers : List ℕ) (all : AreNumbered fs 
   }
 
   -- A name that was seen.
-  names_tell : (seen : BTreeSet ℕ) → NamesSeen i fs numbers n seen → contains nat_cmp seen m ≡ true → TellsFirst (name_repeats i fs) (Flawed i (Some n) FieldTwice)
+  names_tell : (seen : BTreeSet ℕ) → NamesSeen i fs numbers n seen → contains nat_cmp seen m ≡ true → IsFirstFlaw (name_repeats i fs) (Flawed i (Some n) FieldTwice)
   names_tell seen s some = stage_tells (found_name i fs) fs n f (name_repeats i fs) (Flawed i (Some n) FieldTwice) s.left there
       (ap (λ t. slice_get (flaw_if t i (Some n) FieldTwice) 0) (was_seen seen s ∙ some))
 
@@ -142,7 +142,7 @@ module _ (i : ℕ) (fs : List Field) (numbers : List ℕ) (n : ℕ) (seen : BTre
   new_name later e up = let f = present fs n within in names_next i fs numbers all n f.0 m f.1 numbered seen later s (was_new is_new (contains nat_cmp seen m) is e) up
 
   -- A number that was.
-  pub old_name : is_new ≡ false → TellsFirst (name_repeats i fs) (Flawed i (Some n) FieldTwice)
+  pub old_name : is_new ≡ false → IsFirstFlaw (name_repeats i fs) (Flawed i (Some n) FieldTwice)
   old_name e = let f = present fs n within in names_tell i fs numbers all n f.0 m f.1 numbered seen s (was_there is_new (contains nat_cmp seen m) is e)
 
 -- All were seen.

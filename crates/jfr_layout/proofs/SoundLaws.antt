@@ -9,7 +9,7 @@ use Rattle.std.proofs.lemmas.Slice.Eq.{bytes_eq-Decides}
 use Rattle.std.proofs.lemmas.Iterator.Adapters.{position_from-zero}
 use Rattle.std.proofs.lemmas.Option.{same_Some}
 use Rattle.jfr_base.specs.declared.reason.Reason.TheVariants.{ClassTwice, FieldTwice, EmptyInline, InlineDeep}
-use Rattle.jfr_layout.specs.Classes.{Class, Classes, Field, Sound, class_faults, repeats, unknown, empty_inline, deep, has_id, has_name, name_repeats, flaw_if, find_class, class_index, field_number, is_empty_inline, goes_inline, Agree, AgreeWithin}
+use Rattle.jfr_layout.specs.Classes.{Class, Classes, Field, Sound, class_faults, repeats, unknown, empty_inline, deep, has_id, has_name, name_repeats, flaw_if, find_class, class_index, field_number, is_empty_inline, begins_chain, Agree, AgreeWithin}
 use Rattle.jfr_layout.specs.Laws.{AreFound, AreKnown, EndsInline, AgreeOnFields}
 use Rattle.jfr_layout.proofs.Lists.{nil_parts, none_at, chained}
 use Rattle.jfr_layout.proofs.Indices.{find-position, is_some-find}
@@ -88,7 +88,7 @@ pub ends_inline : (k : Classes) → Sound k → EndsInline k
 ends_inline k s = record {
   class = λ id c e.
       (let i = found_at k id c (class_index k id) refl e in
-      no_flaw (goes_inline 33 k c) i.0 None InlineDeep (none_at (found_deep k) k i.0 c (sound_deep k s) i.1));
+      no_flaw (begins_chain 33 k c) i.0 None InlineDeep (none_at (found_deep k) k i.0 c (sound_deep k s) i.1));
 }
 
 each_depth : (k m : Classes) (fs : List Field) → ((n : ℕ) → AllByRecursion (λ f. AgreeWithin n k m f.shape.class) fs) → AllByRecursion (λ f. Agree k m f.shape.class) fs

@@ -6,7 +6,7 @@ use Rattle.std.proofs.lemmas.Option.{slice_get_within, get_or_from_slice_get}
 use Rattle.jfr_base.specs.declared.reason.Reason.{Reason}
 use Rattle.jfr_layout.specs.declared.fault.ClassFault.{ClassFault}
 use Rattle.jfr_layout.specs.declared.fault.ClassFault.TheVariants.{Flawed, Memory}
-use Rattle.jfr_layout.specs.Classes.{ClassFlaw, TellsFirst, flaw_if}
+use Rattle.jfr_layout.specs.Classes.{ClassFlaw, IsFirstFlaw, flaw_if}
 
 -- What is found from an index on.
 abbrev pub rest : {X : Type 0} → (ℕ → X → List ClassFlaw) → List X → ℕ → List ClassFlaw
@@ -18,7 +18,7 @@ drop_at xs i x e = drop_more xs i x (slice_get_within xs i x e) ∙ ap (λ y. y 
 rest_at : {X : Type 0} (found : ℕ → X → List ClassFlaw) (xs : List X) (i : ℕ) (x : X) → slice_get xs i ≡ Some x → rest found xs i ≡ found i x ++ rest found xs (i + 1)
 rest_at found xs i x e = ap (λ ys. flat_map (λ y. found y.0 y.1) (enumerate_from i ys)) (drop_at xs i x e)
 
-pub tells_append : (a b : List ClassFlaw) (e : ClassFault) → TellsFirst a e → TellsFirst (a ++ b) e
+pub tells_append : (a b : List ClassFlaw) (e : ClassFault) → IsFirstFlaw a e → IsFirstFlaw (a ++ b) e
 tells_append [] b (Flawed i j why) t = cc
 tells_append [] b Memory t = tt
 tells_append (f ∷ a) b (Flawed i j why) t = t
@@ -29,7 +29,7 @@ pub stage_next : {X : Type 0} (found : ℕ → X → List ClassFlaw) (xs : List 
 stage_next found xs i x all r e n = r ∙ (rest_at found xs i x e ∙ ap (λ y. y ++ rest found xs (i + 1)) n)
 
 -- The first flaw that is found at a member is the first flaw of all.
-pub stage_tells : {X : Type 0} (found : ℕ → X → List ClassFlaw) (xs : List X) (i : ℕ) (x : X) (all : List ClassFlaw) (e : ClassFault) → all ≡ rest found xs i → slice_get xs i ≡ Some x → TellsFirst (found i x) e → TellsFirst all e
+pub stage_tells : {X : Type 0} (found : ℕ → X → List ClassFlaw) (xs : List X) (i : ℕ) (x : X) (all : List ClassFlaw) (e : ClassFault) → all ≡ rest found xs i → slice_get xs i ≡ Some x → IsFirstFlaw (found i x) e → IsFirstFlaw all e
 stage_tells found xs i x all e r s t = rw (r ∙ rest_at found xs i x s) (tells_append (found i x) (rest found xs (i + 1)) e t)
 
 -- Nothing is left.

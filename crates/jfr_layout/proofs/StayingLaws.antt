@@ -7,10 +7,10 @@ use Rattle.std.proofs.Common.{ap, refl, sym, ◌∙◌, arith, subst}
 use Rattle.std.proofs.lemmas.Bool.{eqb-true, or_parts}
 use Rattle.jfr_base.specs.declared.reason.Reason.TheVariants.{ClassTwice, FieldTwice, UnknownType, EmptyInline, InlineDeep}
 use Rattle.jfr_base.specs.declared.reason.Reason.{Reason}
-use Rattle.jfr_layout.specs.Classes.{Class, Classes, ClassFlaw, Field, Sound, Agree, AgreeWithin, class_faults, repeats, name_repeats, flaw_if, flaws_in, has_id, has_name, unknown, is_unknown, empty_inline, is_empty_inline, deep, find_class, step_class, goes_inline, inline_fields, is_composite, kind_of, is_event_class, extends_event}
+use Rattle.jfr_layout.specs.Classes.{Class, Classes, ClassFlaw, Field, Sound, Agree, AgreeWithin, class_faults, repeats, name_repeats, flaw_if, flaws_in, has_id, has_name, unknown, is_unknown, empty_inline, is_empty_inline, deep, find_class, step_class, begins_chain, inline_fields, is_composite, kind_of, is_event_class, extends_event}
 use Rattle.jfr_layout.proofs.Lists.{nil_parts, none_at, chained, value_in, all_at}
 use Rattle.jfr_layout.proofs.SoundLaws.{are_known}
-use Rattle.jfr_layout.specs.Staying.{staying, IsClosed, StayWell}
+use Rattle.jfr_layout.specs.Staying.{staying, IsClosed, IsSoundSubset}
 
 -- Where nothing is found at any member, nothing is found at all.
 none_all_from : {X Y : Type 0} (found : ℕ → X → List Y) (n : ℕ) (xs : List X) → ((i j : ℕ) (x : X) → slice_get xs i ≡ Some x → n + i ≡ j → found j x ≡ []) → flat_map (λ y. found y.0 y.1) (enumerate_from n xs) ≡ []
@@ -204,33 +204,33 @@ module _ (k : Classes) (stays : ℕ → Bool) where
         by_mark false e = by_found (find_class k f.shape.class) refl e
 
     -- Inline steps are as before.
-    inline_as_before : (n i : ℕ) (c : Class) → slice_get k i ≡ Some c → stays c.id ≡ true → goes_inline n m c ≡ goes_inline n k c
+    inline_as_before : (n i : ℕ) (c : Class) → slice_get k i ≡ Some c → stays c.id ≡ true → begins_chain n m c ≡ begins_chain n k c
     inline_as_before zero i c e s = refl
     inline_as_before (suc n) i c e s =
         by_kind (λ i d e s. inline_as_before n i d e s) (is_composite (kind_of c.name))
       where
         Rest : Type 0
-        Rest = (i : ℕ) (c : Class) → slice_get k i ≡ Some c → stays c.id ≡ true → goes_inline n m c ≡ goes_inline n k c
+        Rest = (i : ℕ) (c : Class) → slice_get k i ≡ Some c → stays c.id ≡ true → begins_chain n m c ≡ begins_chain n k c
 
-        one : Rest → (j : ℕ) (f : Field) → slice_get c.fields j ≡ Some f → option_map_or (λ d. goes_inline n m d) (step_class m f) false ≡ option_map_or (λ d. goes_inline n k d) (step_class k f) false
+        one : Rest → (j : ℕ) (f : Field) → slice_get c.fields j ≡ Some f → option_map_or (λ d. begins_chain n m d) (step_class m f) false ≡ option_map_or (λ d. begins_chain n k d) (step_class k f) false
         one rest j f g =
-            ap (λ o. option_map_or (λ d. goes_inline n m d) o false) (step_as_before f (field_stays i c e s j f g)) ∙ by_step (step_class k f) refl
+            ap (λ o. option_map_or (λ d. begins_chain n m d) o false) (step_as_before f (field_stays i c e s j f g)) ∙ by_step (step_class k f) refl
           where
-            by_step : (o : Option Class) → step_class k f ≡ o → option_map_or (λ d. goes_inline n m d) o false ≡ option_map_or (λ d. goes_inline n k d) o false
+            by_step : (o : Option Class) → step_class k f ≡ o → option_map_or (λ d. begins_chain n m d) o false ≡ option_map_or (λ d. begins_chain n k d) o false
             by_step None q = refl
             by_step (Some d) q = let r = step_there f d (field_stays i c e s j f g) q in rest r.0 d r.1 r.2
 
-        by_kind : Rest → (t : Bool) → list_any (λ f. option_map_or (λ d. goes_inline n m d) (step_class m f) false) (if t then c.fields else []) ≡ list_any (λ f. option_map_or (λ d. goes_inline n k d) (step_class k f) false) (if t then c.fields else [])
-        by_kind rest true = same_any (λ f. option_map_or (λ d. goes_inline n m d) (step_class m f) false) (λ f. option_map_or (λ d. goes_inline n k d) (step_class k f) false) c.fields (one rest)
+        by_kind : Rest → (t : Bool) → list_any (λ f. option_map_or (λ d. begins_chain n m d) (step_class m f) false) (if t then c.fields else []) ≡ list_any (λ f. option_map_or (λ d. begins_chain n k d) (step_class k f) false) (if t then c.fields else [])
+        by_kind rest true = same_any (λ f. option_map_or (λ d. begins_chain n m d) (step_class m f) false) (λ f. option_map_or (λ d. begins_chain n k d) (step_class k f) false) c.fields (one rest)
         by_kind rest false = refl
 
     deep_none : deep m ≡ []
     deep_none =
-        none_all (λ i (c : Class). flaw_if (goes_inline 33 m c) i None InlineDeep) m
+        none_all (λ i (c : Class). flaw_if (begins_chain 33 m c) i None InlineDeep) m
         (λ i c e.
         (let r = place i c e in
-        flaw_none (goes_inline 33 m c) i None InlineDeep
-        (inline_as_before 33 r.at c r.there r.passes ∙ no_flaw (goes_inline 33 k c) r.at None InlineDeep (none_at (λ i (c : Class). flaw_if (goes_inline 33 k c) i None InlineDeep) k r.at c no_deep r.there))))
+        flaw_none (begins_chain 33 m c) i None InlineDeep
+        (inline_as_before 33 r.at c r.there r.passes ∙ no_flaw (begins_chain 33 k c) r.at None InlineDeep (none_at (λ i (c : Class). flaw_if (begins_chain 33 k c) i None InlineDeep) k r.at c no_deep r.there))))
 
     pub staying_sound : Sound m
     unfolding class_faults
@@ -257,5 +257,5 @@ module _ (k : Classes) (stays : ℕ → Bool) where
         here : stays c.id ≡ true
         here = ap stays (eqb-true c.id id r.2) ∙ s
 
-    pub stay_well : StayWell k stays
+    pub stay_well : IsSoundSubset k stays
     stay_well = record { sound = staying_sound; found = found_staying; events = events_staying; agree = λ id c e s n. agree_within n id c e s }

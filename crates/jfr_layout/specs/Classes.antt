@@ -122,13 +122,13 @@ step_class k f = if f.shape.constant then None
     else option_and_then (λ d. if is_composite (kind_of d.name) then Some d else None) (find_class k f.shape.class)
 
 -- The class begins a chain of n inline steps.
-abbrev pub goes_inline : ℕ → Classes → Class → Bool
-goes_inline zero k c = true
-goes_inline (suc n) k c = list_any (λ f. option_map_or (λ d. goes_inline n k d) (step_class k f) false) (inline_fields c)
+abbrev pub begins_chain : ℕ → Classes → Class → Bool
+begins_chain zero k c = true
+begins_chain (suc n) k c = list_any (λ f. option_map_or (λ d. begins_chain n k d) (step_class k f) false) (inline_fields c)
 
 -- The inline step by this field is followed by n more.
-abbrev pub step_goes : ℕ → Classes → Field → Bool
-step_goes n k f = option_map_or (λ d. goes_inline n k d) (step_class k f) false
+abbrev pub step_begins_chain : ℕ → Classes → Field → Bool
+step_begins_chain n k f = option_map_or (λ d. begins_chain n k d) (step_class k f) false
 
 -- A flaw of a list of classes: the index of the class, the number of the field if the flaw is in one, and the
 -- reason.
@@ -188,21 +188,21 @@ empty_inline k = field_flaws EmptyInline (is_empty_inline k) k
 
 -- A flaw for each class that begins a chain of more than 32 inline steps.
 abbrev pub deep : Classes → List ClassFlaw
-deep k = each_at (λ i c. flaw_if (goes_inline 33 k c) i None InlineDeep) k
+deep k = each_at (λ i c. flaw_if (begins_chain 33 k c) i None InlineDeep) k
 
 -- The flaws, stage by stage, each stage in the order of the list. The first of them is reported.
 unfoldable pub class_faults : Classes → List ClassFlaw
 class_faults k = repeats k ++ (unknown k ++ (empty_inline k ++ deep k))
 
 -- The fault is the first flaw, unless memory ran out.
-abbrev pub TellsFirst : List ClassFlaw → ClassFault → Type 0
-TellsFirst flaws (Flawed i j why) = slice_get flaws 0 ≡ Some (record { class = i; field = j; reason = why })
-TellsFirst flaws Memory = ⊤
+abbrev pub IsFirstFlaw : List ClassFlaw → ClassFault → Type 0
+IsFirstFlaw flaws (Flawed i j why) = slice_get flaws 0 ≡ Some (record { class = i; field = j; reason = why })
+IsFirstFlaw flaws Memory = ⊤
 
 -- Either there are no flaws, or the first is reported.
-abbrev pub Judges : {T : Type 0} → List ClassFlaw → Result T ClassFault → Type 0
-Judges flaws (Ok x) = flaws ≡ []
-Judges flaws (Err e) = TellsFirst flaws e
+abbrev pub ReportsFirst : {T : Type 0} → List ClassFlaw → Result T ClassFault → Type 0
+ReportsFirst flaws (Ok x) = flaws ≡ []
+ReportsFirst flaws (Err e) = IsFirstFlaw flaws e
 
 -- A list is sound if it has no flaws.
 pub record Sound (k : Classes) : Type 0 where

@@ -1,7 +1,7 @@
 -- Laws of sound lists, and of lists that agree.
 use Rattle.std.specs.Prelude.{◌≡◌, ℕ, ◌<◌, length, IsSome, Some, false, slice_get}
 use Rattle.std.specs.List.{AllByRecursion}
-use Rattle.jfr_layout.specs.Classes.{Class, Classes, Field, find_class, class_index, field_at, field_number, step_class, goes_inline, Agree}
+use Rattle.jfr_layout.specs.Classes.{Class, Classes, Field, find_class, class_index, field_at, field_number, step_class, begins_chain, Agree}
 
 -- Each class is found by its id, and each field of a class by its name.
 pub record AreFound (k : Classes) : Type 0 where
@@ -15,7 +15,7 @@ pub record AreKnown (k : Classes) : Type 0 where
 
 -- No class begins a chain of more than 32 inline steps.
 pub record EndsInline (k : Classes) : Type 0 where
-  pub class : (id : ℕ) (c : Class) → find_class k id ≡ Some c → goes_inline 33 k c ≡ false
+  pub class : (id : ℕ) (c : Class) → find_class k id ≡ Some c → begins_chain 33 k c ≡ false
 
 -- Lists that agree on a class agree on the classes of its fields.
 pub record AgreeOnFields (k m : Classes) : Type 0 where

@@ -12,7 +12,7 @@ pub record IsClosed (k : Classes) (stays : ℕ → Bool) : Type 0 where
   pub fields : (i : ℕ) (c : Class) → slice_get k i ≡ Some c → stays c.id ≡ true → AllByRecursion (λ f. stays f.shape.class ≡ true) c.fields
 
 -- The classes that stay are sound; each is found by its id, as before, and both lists agree on it.
-pub record StayWell (k : Classes) (stays : ℕ → Bool) : Type 0 where
+pub record IsSoundSubset (k : Classes) (stays : ℕ → Bool) : Type 0 where
   pub sound : Sound (staying stays k)
   pub found : (id : ℕ) → find_class (staying stays k) id ≡ (if stays id then find_class k id else None)
   pub events : (id : ℕ) → is_event_class (staying stays k) id ≡ (stays id && is_event_class k id)

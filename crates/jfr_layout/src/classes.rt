@@ -2,7 +2,7 @@
 ghost use Rattle.std.specs.Prelude.{◌≡◌, ◌<◌, ◌↔◌, [], length, false, IsTrue, OnOk, IfOk, IfErr, IfSome, MatchOption, slice_get, option_map, option_and_then};
 ghost use Rattle.std.specs.Option.{option_copied};
 ghost use Rattle.std.specs.Str.{chars};
-ghost use Rattle.jfr_layout.specs.Classes.{class_faults, Sound, TellsFirst, find_class, class_index, kind_of, field_number, is_event_class, AreFieldLayouts, IsEventLayout};
+ghost use Rattle.jfr_layout.specs.Classes.{class_faults, Sound, IsFirstFlaw, find_class, class_index, kind_of, field_number, is_event_class, AreFieldLayouts, IsEventLayout};
 ghost use Rattle.jfr_layout.specs.Events.{event_index};
 ghost use Rattle.jfr_layout.specs.Names.{AreAllNumbered};
 ghost use Rattle.jfr_layout.specs.Resolved.{IsClassLayout};
@@ -47,7 +47,7 @@ impl Classes {
     pub fn make(alloc: Global, list: ClassList) -> Result<Classes, ClassFault>
         ensures ok { OnOk result (Sound list) }
         ensures exact { IfOk result (λ classes. classes ≡ list) }
-        ensures refused { IfErr result (TellsFirst (class_faults list)) }
+        ensures refused { IfErr result (IsFirstFlaw (class_faults list)) }
     {
         let numbers = number_fields(alloc, &list)?;
         Classes::make_numbered(alloc, list, &numbers)
@@ -64,7 +64,7 @@ impl Classes {
         requires numbered { AreAllNumbered list numbers.now }
         ensures ok { OnOk result (Sound list) }
         ensures exact { IfOk result (λ classes. classes ≡ list) }
-        ensures refused { IfErr result (TellsFirst (class_faults list)) }
+        ensures refused { IfErr result (IsFirstFlaw (class_faults list)) }
     {
         let resolved = Resolved::make(alloc, list, numbers)?;
         check_filled(&resolved)?;

@@ -2,7 +2,7 @@
 ghost use Rattle.std.specs.Prelude.{◌≡◌, ℕ, ◌+◌, ◌*◌, ◌≤◌, length, None, Some, IfOk, is_some, if◌then◌else◌, ◌==◌};
 ghost use Rattle.std.specs.BTreeMap as tree;
 ghost use Rattle.std.specs.Ordering.{nat_cmp};
-ghost use Rattle.jfr_layout.specs.Classes.{Judges, repeats, name_repeats};
+ghost use Rattle.jfr_layout.specs.Classes.{ReportsFirst, repeats, name_repeats};
 ghost use Rattle.jfr_layout.specs.Names.{AreAllNumbered, AreNumbered};
 ghost use Rattle.jfr_layout.specs.Resolved.{IsIndex, index_in};
 
@@ -99,7 +99,7 @@ fn check_names(
     numbers: &[u64],
 ) -> Result<(), ClassFault>
     requires { AreNumbered fields.now numbers.now }
-    ensures { Judges (name_repeats class fields.now) result }
+    ensures { ReportsFirst (name_repeats class fields.now) result }
 {
     let mut seen = BTreeSet::new(alloc);
     for field in 0..fields.len() {
@@ -124,7 +124,7 @@ pub fn index_classes(
 ) -> Result<Index, ClassFault>
     requires numbered { AreAllNumbered list.now numbers.now }
     ensures exact { IfOk result (IsIndex list.now) }
-    ensures judged { Judges (repeats list.now) result }
+    ensures judged { ReportsFirst (repeats list.now) result }
 {
     let mut index = Index::new(alloc, near_ids(list))?;
     for at in 0..list.len() {

@@ -1,7 +1,7 @@
 //! The checks of inline fields: each has bytes, and no chain of inline steps is too long.
 ghost use Rattle.std.specs.Prelude.{◌≡◌, ℕ, suc, ◌<◌, length, map, IfOk, IfSome, IsSome, slice_get};
 ghost use Rattle.jfr_base.specs.declared.reason.Reason.TheVariants.{EmptyInline};
-ghost use Rattle.jfr_layout.specs.Classes.{Judges, flaws_in, empty_inline, is_empty_inline, deep, field_at, goes_inline, step_goes};
+ghost use Rattle.jfr_layout.specs.Classes.{ReportsFirst, flaws_in, empty_inline, is_empty_inline, deep, field_at, begins_chain, step_begins_chain};
 
 use crate::resolved::Resolved;
 use crate::{ClassFault, Kind};
@@ -25,7 +25,7 @@ fn is_empty(classes: &Resolved, class: usize, number: usize) -> bool
 // Refuses a field of the class with inline values of a composite class without fields.
 fn check_filled_class(classes: &Resolved, class: usize) -> Result<(), ClassFault>
     requires { class < length classes.now }
-    ensures { IfSome (slice_get classes.now class) (λ c. Judges (flaws_in EmptyInline (is_empty_inline classes.now) class c.fields) result) }
+    ensures { IfSome (slice_get classes.now class) (λ c. ReportsFirst (flaws_in EmptyInline (is_empty_inline classes.now) class c.fields) result) }
 {
     let fields = &classes.class_at(class).fields;
     for number in 0..fields.len() {
@@ -42,7 +42,7 @@ fn check_filled_class(classes: &Resolved, class: usize) -> Result<(), ClassFault
 
 /// Refuses a field with inline values of a composite class without fields.
 pub fn check_filled(classes: &Resolved) -> Result<(), ClassFault>
-    ensures { Judges (empty_inline classes.now) result }
+    ensures { ReportsFirst (empty_inline classes.now) result }
 {
     for at in 0..classes.len() {
         check_filled_class(classes, at)?;
@@ -54,7 +54,7 @@ pub fn check_filled(classes: &Resolved) -> Result<(), ClassFault>
 fn goes_by(classes: &Resolved, class: usize, number: usize, goes: &[bool]) -> bool
     requires field { IsSome (field_at classes.now class number) }
     requires each { length goes.now ≡ length classes.now }
-    ensures { (n : ℕ) → goes.now ≡ map (goes_inline n classes.now) classes.now → IfSome (field_at classes.now class number) (λ f. result ≡ step_goes n classes.now f) }
+    ensures { (n : ℕ) → goes.now ≡ map (begins_chain n classes.now) classes.now → IfSome (field_at classes.now class number) (λ f. result ≡ step_begins_chain n classes.now f) }
 {
     match classes.step(class, number) {
         Some(target) => goes[target],
@@ -66,7 +66,7 @@ fn goes_by(classes: &Resolved, class: usize, number: usize, goes: &[bool]) -> bo
 fn goes_on(classes: &Resolved, class: usize, goes: &[bool]) -> bool
     requires within { class < length classes.now }
     requires each { length goes.now ≡ length classes.now }
-    ensures { (n : ℕ) → goes.now ≡ map (goes_inline n classes.now) classes.now → IfSome (slice_get classes.now class) (λ c. result ≡ goes_inline (suc n) classes.now c) }
+    ensures { (n : ℕ) → goes.now ≡ map (begins_chain n classes.now) classes.now → IfSome (slice_get classes.now class) (λ c. result ≡ begins_chain (suc n) classes.now c) }
 {
     match classes.kind_at(class) {
         Kind::Composite => {}
@@ -84,7 +84,7 @@ fn goes_on(classes: &Resolved, class: usize, goes: &[bool]) -> bool
 // For each class, whether it begins a chain of n + 1 steps, given which classes begin one of n steps.
 fn round(alloc: Global, classes: &Resolved, goes: &[bool]) -> Result<Vec<bool>, NoMemory>
     requires { length goes.now ≡ length classes.now }
-    ensures exact { IfOk result (λ next. (n : ℕ) → goes.now ≡ map (goes_inline n classes.now) classes.now → next.items ≡ map (goes_inline (suc n) classes.now) classes.now) }
+    ensures exact { IfOk result (λ next. (n : ℕ) → goes.now ≡ map (begins_chain n classes.now) classes.now → next.items ≡ map (begins_chain (suc n) classes.now) classes.now) }
 {
     let mut next = Vec::new(alloc);
     for at in 0..classes.len() {
@@ -96,7 +96,7 @@ fn round(alloc: Global, classes: &Resolved, goes: &[bool]) -> Result<Vec<bool>, 
 // For each class, whether it begins a chain that is too long. Each round looks at every field once, so that
 // no chain has to be followed, of which there can be exponentially many.
 fn too_deep(alloc: Global, classes: &Resolved) -> Result<Vec<bool>, NoMemory>
-    ensures exact { IfOk result (λ goes. goes.items ≡ map (goes_inline 33 classes.now) classes.now) }
+    ensures exact { IfOk result (λ goes. goes.items ≡ map (begins_chain 33 classes.now) classes.now) }
 {
     let mut goes = vec![in alloc; true; classes.len()]?;
     for step in 0..TOO_MANY_STEPS {
@@ -107,7 +107,7 @@ fn too_deep(alloc: Global, classes: &Resolved) -> Result<Vec<bool>, NoMemory>
 
 /// Refuses a class that begins a chain of more than 32 inline steps.
 pub fn check_depth(alloc: Global, classes: &Resolved) -> Result<(), ClassFault>
-    ensures { Judges (deep classes.now) result }
+    ensures { ReportsFirst (deep classes.now) result }
 {
     let goes = too_deep(alloc, classes)?;
     for at in 0..goes.len() {

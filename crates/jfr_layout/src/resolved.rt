@@ -2,7 +2,7 @@
 ghost use Rattle.std.specs.Prelude.{◌≡◌, ◌<◌, ◌++◌, ◌↔◌, [], length, map, IfOk, IfSome, IsSome, IsTrue, slice_get, option_and_then};
 ghost use Rattle.std.specs.Option.{option_copied};
 ghost use Rattle.jfr_base.specs.declared.reason.Reason.TheVariants.{UnknownType};
-ghost use Rattle.jfr_layout.specs.Classes.{Judges, repeats, unknown, flaws_in, is_unknown, field_at, find_class, class_index, kind_of, step_class, extends_event, AreFieldLayouts};
+ghost use Rattle.jfr_layout.specs.Classes.{ReportsFirst, repeats, unknown, flaws_in, is_unknown, field_at, find_class, class_index, kind_of, step_class, extends_event, AreFieldLayouts};
 ghost use Rattle.jfr_layout.specs.Names.{AreAllNumbered};
 ghost use Rattle.jfr_layout.specs.Resolved.{AreClassLayouts, IsIndex, IsClassLayout};
 
@@ -71,7 +71,7 @@ fn layouts_of(
     requires kinds { kinds.now ≡ map (λ c. kind_of c.name) list.now }
     requires within { class < length list.now }
     ensures exact { IfSome (slice_get list.now class) (λ c. IfOk result (λ layouts. AreFieldLayouts list.now c.fields layouts.items)) }
-    ensures judged { IfSome (slice_get list.now class) (λ c. Judges (flaws_in UnknownType (is_unknown list.now) class c.fields) result) }
+    ensures judged { IfSome (slice_get list.now class) (λ c. ReportsFirst (flaws_in UnknownType (is_unknown list.now) class c.fields) result) }
 {
     let fields = &list.at(class).fields;
     let mut layouts = Vec::with_capacity(alloc, fields.len())?;
@@ -107,7 +107,7 @@ fn class_layout_of(
     requires kinds { kinds.now ≡ map (λ c. kind_of c.name) list.now }
     requires within { class < length list.now }
     ensures exact { IfSome (slice_get list.now class) (λ c. IfOk result (IsClassLayout list.now c)) }
-    ensures judged { IfSome (slice_get list.now class) (λ c. Judges (flaws_in UnknownType (is_unknown list.now) class c.fields) result) }
+    ensures judged { IfSome (slice_get list.now class) (λ c. ReportsFirst (flaws_in UnknownType (is_unknown list.now) class c.fields) result) }
 {
     let layouts = layouts_of(alloc, list, index, kinds, class)?;
     let fused_fields = fused_of(alloc, &layouts)?;
@@ -128,7 +128,7 @@ fn class_layouts_of(
     requires indexed { IsIndex list.now index.now }
     requires kinds { kinds.now ≡ map (λ c. kind_of c.name) list.now }
     ensures exact { IfOk result (λ class_layouts. AreClassLayouts list.now list.now class_layouts.items) }
-    ensures judged { Judges (unknown list.now) result }
+    ensures judged { ReportsFirst (unknown list.now) result }
 {
     let mut class_layouts = Vec::new(alloc);
     for at in 0..list.len() {
@@ -147,7 +147,7 @@ impl Resolved {
     ) -> Result<Resolved, ClassFault>
         requires { AreAllNumbered list numbers.now }
         ensures exact { IfOk result (λ made. made ≡ list) }
-        ensures judged { Judges (repeats list ++ unknown list) result }
+        ensures judged { ReportsFirst (repeats list ++ unknown list) result }
     {
         let index = index_classes(alloc, &list, numbers)?;
         let kinds = kinds_of(alloc, &list)?;

@@ -10,7 +10,7 @@ use Rattle.std.proofs.lemmas.Option.{slice_get_within, get_or_from_slice_get, sl
 use Rattle.jfr_base.specs.declared.flaw.Flaw.{Flaw}
 use Rattle.jfr_base.specs.declared.flaw.ReadFault.{ReadFault}
 use Rattle.jfr_base.specs.declared.flaw.ReadFault.TheVariants.{Flawed, Memory}
-use Rattle.jfr_meta.specs.Answers.{TellsFirst}
+use Rattle.jfr_meta.specs.Answers.{IsFirstFlaw}
 
 -- A list as the members before an index, the one there, and those after it.
 at_place : {X : Type 0} (xs : List X) (i : ℕ) (x : X) → slice_get xs i ≡ Some x → xs ≡ take i xs ++ x ∷ drop (suc i) xs
@@ -45,7 +45,7 @@ judging_next flaws make xs i made x b j e f g = record {
 }
 
 pub judging_err : {A B : Type 0} (flaws : A → List Flaw) (make : A → Option B) (xs : List A) (i : ℕ) (made : List B) (x : A) (w : ReadFault) → Judging flaws make xs i made → slice_get xs i ≡ Some x
-    → TellsFirst (flaws x) w → TellsFirst (flat_map flaws xs) w
+    → IsFirstFlaw (flaws x) w → IsFirstFlaw (flat_map flaws xs) w
 judging_err flaws make xs i made x (Flawed f) j e t =
     ap (λ z. slice_get z 0) (ap (flat_map flaws) (at_place xs i x e) ∙ (flat_map-append flaws (take i xs) (x ∷ drop (suc i) xs) ∙ ap (λ z. z ++ (flaws x ++ flat_map flaws (drop (suc i) xs))) j.good))
     ∙ first_stays (flaws x) (flat_map flaws (drop (suc i) xs)) f t

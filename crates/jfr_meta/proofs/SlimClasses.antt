@@ -15,7 +15,7 @@ use Rattle.jfr_meta.specs.Attributes.{text_at, attribute, named, first_value, fl
 use Rattle.jfr_meta.specs.Described.{class_elements, field_elements, id_attribute, class_head, shape_of, field_of, flaw_unless, field_flaws, class_flaws, heads, is_category_id, is_category_head, is_category, annotations_of, categories_of, class_with, class_of, classes_of}
 use Rattle.jfr_layout.specs.Staying.{staying, IsClosed}
 use Rattle.jfr_meta.specs.Stays.{below, all_below, ids_below, HasHead}
-use Rattle.jfr_meta.specs.Slimmed.{is_named, head_stays, element_stays, first_changed, slim_holder, slim_root}
+use Rattle.jfr_meta.specs.Slimmed.{is_named, head_is_needed, element_is_needed, first_changed, slim_holder, slim_root}
 use Rattle.jfr_worklist.specs.Members.{In}
 use Rattle.jfr_worklist.proofs.Members.{get_in, in_contains, in_right, filter_map_in, in_filter_map}
 use Rattle.jfr_meta.proofs.Lists.{in_filter, all_members, all_in, filter_both, filter_map_filter, same_filter_map, same_find}
@@ -30,18 +30,18 @@ find_changed p f s (x ∷ xs) = by_test (p x) refl (find_changed p f s xs)
     by_test false e h = ap (λ b. if b then Some x else find p (first_changed p f xs)) e ∙ h
 
 module _ (texts : List (List ℕ)) (stays : ℕ → Bool) where
-  pub slim_elements : (root : Tree) → class_elements texts (slim_root texts stays root) ≡ option_map (filter (head_stays texts stays)) (class_elements texts root)
+  pub slim_elements : (root : Tree) → class_elements texts (slim_root texts stays root) ≡ option_map (filter (head_is_needed texts stays)) (class_elements texts root)
   unfolding slim_root
   slim_elements root =
       ap (λ cs. option_map (λ m. named texts (codes "class") (children_of m)) (find (is_named texts (codes "metadata")) cs)) (list_of-trees_of (first_changed (is_named texts (codes "metadata")) (slim_holder texts stays) (children_of root)))
       ∙ (ap (option_map (λ m. named texts (codes "class") (children_of m))) (find_changed (is_named texts (codes "metadata")) (slim_holder texts stays) (λ m. refl) (children_of root))
       ∙ by_one (find (is_named texts (codes "metadata")) (children_of root)))
     where
-      by_one : (o : Option Tree) → option_map (λ m. named texts (codes "class") (children_of m)) (option_map (slim_holder texts stays) o) ≡ option_map (filter (head_stays texts stays)) (option_map (λ m. named texts (codes "class") (children_of m)) o)
+      by_one : (o : Option Tree) → option_map (λ m. named texts (codes "class") (children_of m)) (option_map (slim_holder texts stays) o) ≡ option_map (filter (head_is_needed texts stays)) (option_map (λ m. named texts (codes "class") (children_of m)) o)
       by_one None = refl
       by_one (Some m) =
           ap (λ z. Some z)
-          (ap (named texts (codes "class")) (list_of-trees_of (filter (element_stays texts stays) (children_of m))) ∙ filter_both (is_named texts (codes "class")) (head_stays texts stays) (children_of m))
+          (ap (named texts (codes "class")) (list_of-trees_of (filter (element_is_needed texts stays) (children_of m))) ∙ filter_both (is_named texts (codes "class")) (head_is_needed texts stays) (children_of m))
 
 -- A child is below its parent.
 child_below : (t a : Tree) → In (children_of t) a → In (below t) a
@@ -156,7 +156,7 @@ module _ (texts : List (List ℕ)) (ts : List Tree) (k : Classes) (stays : ℕ �
   same_class t h i e s =
       ap (λ c. option_map (λ (h : ℕ × List ℕ). record { id = h.0; name = h.1; super_name = attribute texts t (codes "superType"); fields = filter_map (field_of texts) (field_elements texts t); categories = c }) (class_head texts t)) (same_categories t h i e s)
 
-  head_test : (t : Tree) (h : ℕ × List ℕ) → class_head texts t ≡ Some h → head_stays texts stays t ≡ stays h.0
+  head_test : (t : Tree) (h : ℕ × List ℕ) → class_head texts t ≡ Some h → head_is_needed texts stays t ≡ stays h.0
   head_test t h e = ap (λ o. option_map_or (λ (h : ℕ × List ℕ). stays h.0) o false) e
 
   class_here : (t : Tree) (h : ℕ × List ℕ) → class_head texts t ≡ Some h → class_of texts hs t ≡ Some (class_with texts hs t h)
@@ -167,21 +167,21 @@ module _ (texts : List (List ℕ)) (ts : List Tree) (k : Classes) (stays : ℕ �
     head_in : (t : Tree) → In ts t → (h : ℕ × List ℕ) × (class_head texts t ≡ Some h)
     head_in t i = has_head texts t (all_in (λ t. class_flaws texts t ≡ []) ts t good i)
 
-    heads_left : heads texts (filter (head_stays texts stays) ts) ≡ hs_left
+    heads_left : heads texts (filter (head_is_needed texts stays) ts) ≡ hs_left
     heads_left =
-        filter_map_filter (class_head texts) (head_stays texts stays) (λ (h : ℕ × List ℕ). stays h.0) ts
-        (all_members (λ t. (h : ℕ × List ℕ) × (class_head texts t ≡ Some h) × (head_stays texts stays t ≡ stays h.0)) ts (λ t i. (let h = head_in t i in (h.0, h.1, head_test t h.0 h.1))))
+        filter_map_filter (class_head texts) (head_is_needed texts stays) (λ (h : ℕ × List ℕ). stays h.0) ts
+        (all_members (λ t. (h : ℕ × List ℕ) × (class_head texts t ≡ Some h) × (head_is_needed texts stays t ≡ stays h.0)) ts (λ t i. (let h = head_in t i in (h.0, h.1, head_test t h.0 h.1))))
 
     -- The class elements that are left describe the classes that stay.
-    pub remaining_classes : classes_of texts (filter (head_stays texts stays) ts) ≡ staying stays k
+    pub remaining_classes : classes_of texts (filter (head_is_needed texts stays) ts) ≡ staying stays k
     unfolding classes_of
     remaining_classes =
-        ap (λ z. filter_map (class_of texts z) (filter (head_stays texts stays) ts)) heads_left
-        ∙ (same_filter_map (class_of texts hs_left) (class_of texts hs) (filter (head_stays texts stays) ts)
-        (all_members (λ t. class_of texts hs_left t ≡ class_of texts hs t) (filter (head_stays texts stays) ts)
-        (λ t j. (let i = in_filter (head_stays texts stays) ts t j in let h = head_in t i.0 in same_class t h.0 i.0 h.1 (sym (head_test t h.0 h.1) ∙ i.1))))
-        ∙ (filter_map_filter (class_of texts hs) (head_stays texts stays) (λ (c : Class). stays c.id) ts
-        (all_members (λ t. (c : Class) × (class_of texts hs t ≡ Some c) × (head_stays texts stays t ≡ stays c.id)) ts (λ t i. (let h = head_in t i in (class_with texts hs t h.0, class_here t h.0 h.1, head_test t h.0 h.1))))
+        ap (λ z. filter_map (class_of texts z) (filter (head_is_needed texts stays) ts)) heads_left
+        ∙ (same_filter_map (class_of texts hs_left) (class_of texts hs) (filter (head_is_needed texts stays) ts)
+        (all_members (λ t. class_of texts hs_left t ≡ class_of texts hs t) (filter (head_is_needed texts stays) ts)
+        (λ t j. (let i = in_filter (head_is_needed texts stays) ts t j in let h = head_in t i.0 in same_class t h.0 i.0 h.1 (sym (head_test t h.0 h.1) ∙ i.1))))
+        ∙ (filter_map_filter (class_of texts hs) (head_is_needed texts stays) (λ (c : Class). stays c.id) ts
+        (all_members (λ t. (c : Class) × (class_of texts hs t ≡ Some c) × (head_is_needed texts stays t ≡ stays c.id)) ts (λ t i. (let h = head_in t i in (class_with texts hs t h.0, class_here t h.0 h.1, head_test t h.0 h.1))))
         ∙ ap (staying stays) (sym made_each)))
 
     -- And the set has the classes of its members' fields.

@@ -10,7 +10,7 @@ use Rattle.jfr_meta.specs.Described.{class_elements, class_flaws, class_head, cl
 use Rattle.jfr_meta.proofs.Told.{no_flaws}
 use Rattle.jfr_layout.specs.Staying.{staying}
 use Rattle.jfr_meta.specs.Stays.{ids_below, HasHead}
-use Rattle.jfr_meta.specs.Slimmed.{head_stays, slim_root, table_of, retabled, slim_body, IsSlim}
+use Rattle.jfr_meta.specs.Slimmed.{head_is_needed, slim_root, table_of, retabled, slim_body, IsSlim}
 use Rattle.jfr_layout.proofs.StayingLaws.{staying_sound}
 use Rattle.jfr_meta.proofs.Lists.{Beside, nothing_each, all_filter, filter_map_zip, flat_map_none}
 use Rattle.jfr_meta.proofs.Alike.{Alike, head_alike, class_alike, class_good, elements_alike}
@@ -69,7 +69,7 @@ module _ (b : Body) (k : Classes) (stays : ℕ → Bool) (told : described b ≡
     ts = d.elements
 
     abbrev ts_left : List Tree
-    ts_left = filter (head_stays b.strings stays) ts
+    ts_left = filter (head_is_needed b.strings stays) ts
 
     good_each : AllByRecursion (λ t. class_flaws b.strings t ≡ []) ts
     good_each = nothing_each (class_flaws b.strings) ts d.good
@@ -81,14 +81,14 @@ module _ (b : Body) (k : Classes) (stays : ℕ → Bool) (told : described b ≡
     sound = staying_sound k stays d.sound (fields_closed b.strings ts k stays (sym d.classes) (closed ts d.there) good_each d.sound)
 
     there : class_elements b.strings left ≡ Some ts_left
-    there = slim_elements b.strings stays b.root ∙ ap (option_map (filter (head_stays b.strings stays))) d.there
+    there = slim_elements b.strings stays b.root ∙ ap (option_map (filter (head_is_needed b.strings stays))) d.there
 
     told_over : (at : ℕ) (o : Option (List Tree)) → Beside (AllZip (Alike b.strings table)) (Some ts_left) o → described_classes table at o ≡ Ok (staying stays k)
     told_over at None z = absurd z
     told_over at (Some us) z =
         let classes : classes_of table us ≡ staying stays k = same_classes b.strings table ts_left us z ∙ left_classes in
         let none : flat_map (class_flaws table) us ≡ [] =
-        flat_map_none (Alike b.strings table) (class_flaws b.strings) (class_flaws table) (class_good b.strings table) ts_left us z (all_filter (λ t. class_flaws b.strings t ≡ []) (head_stays b.strings stays) ts good_each) in
+        flat_map_none (Alike b.strings table) (class_flaws b.strings) (class_flaws table) (class_good b.strings table) ts_left us z (all_filter (λ t. class_flaws b.strings t ≡ []) (head_is_needed b.strings stays) ts good_each) in
         ap (λ fs. first_or fs (classes_of table us)) (no_flaws table us (staying stays k) none (sym classes) sound) ∙ ap (λ z. Ok z) classes
 
     pub is_slim : IsSlim b k stays

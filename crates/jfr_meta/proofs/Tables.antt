@@ -8,7 +8,7 @@ use Rattle.std.proofs.lemmas.Str.{chars-nil}
 use Rattle.jfr_meta.specs.Trees.{Tree, Node, Trees, Nil, Cons, list_of, trees_of}
 use Rattle.jfr_meta.specs.Attributes.{text_at}
 use Rattle.jfr_meta.specs.Written.{IsText, HasIndices, HaveIndices, depth, depths}
-use Rattle.jfr_meta.specs.Slimmed.{is_named, element_stays, first_changed, slim_holder, slim_root, uses, all_uses, firsts, table_of, index_in, renumbered, all_renumbered, retabled}
+use Rattle.jfr_meta.specs.Slimmed.{is_named, element_is_needed, first_changed, slim_holder, slim_root, uses, all_uses, firsts, table_of, index_in, renumbered, all_renumbered, retabled}
 use Rattle.jfr_worklist.specs.Members.{In}
 use Rattle.jfr_worklist.proofs.Members.{in_left, in_right}
 use Rattle.jfr_meta.proofs.Lists.{in_map, filter_in, all_filter}
@@ -147,7 +147,7 @@ changed_depths p f s (t ∷ ts) = by_test (p t) (changed_depths p f s ts)
     by_test false h = omega arith
 
 holder_depth : (texts : List (List ℕ)) (stays : ℕ → Bool) (t : Tree) → depth (slim_holder texts stays t) ≤ depth t
-holder_depth texts stays (Node place name pairs children) = omega (arith, filter_depths (element_stays texts stays) (list_of children), depths_of children)
+holder_depth texts stays (Node place name pairs children) = omega (arith, filter_depths (element_is_needed texts stays) (list_of children), depths_of children)
 
 pub slim_depth : (texts : List (List ℕ)) (stays : ℕ → Bool) (t : Tree) → depth (slim_root texts stays t) ≤ depth t
 unfolding slim_root

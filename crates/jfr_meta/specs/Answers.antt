@@ -17,14 +17,14 @@ IsFault a (Flawed f) = a ≡ Err f
 IsFault a Memory = ⊤
 
 -- The function returns the format's value and the offset after it, or the format's flaw, or memory ran out.
-abbrev pub Tells : {A : Type 0} → Answer A → Result (A × ℕ) ReadFault → Type 0
-Tells a (Ok r) = a ≡ Ok (record { value = r.0; place = r.1 })
-Tells a (Err e) = IsFault a e
+abbrev pub Returns : {A : Type 0} → Answer A → Result (A × ℕ) ReadFault → Type 0
+Returns a (Ok r) = a ≡ Ok (record { value = r.0; place = r.1 })
+Returns a (Err e) = IsFault a e
 
 -- The fault is the first of these flaws, or memory ran out.
-abbrev pub TellsFirst : List Flaw → ReadFault → Type 0
-TellsFirst flaws (Flawed f) = slice_get flaws 0 ≡ Some f
-TellsFirst flaws Memory = ⊤
+abbrev pub IsFirstFlaw : List Flaw → ReadFault → Type 0
+IsFirstFlaw flaws (Flawed f) = slice_get flaws 0 ≡ Some f
+IsFirstFlaw flaws Memory = ⊤
 
 -- The fault is a flaw of which this holds, or memory ran out.
 abbrev pub IfFlawed : (Flaw → Type 0) → ReadFault → Type 0
@@ -32,6 +32,6 @@ IfFlawed P (Flawed f) = P f
 IfFlawed P Memory = ⊤
 
 -- On success there are no flaws; a fault is the first flaw, or memory ran out.
-abbrev pub Judges : {T : Type 0} → List Flaw → Result T ReadFault → Type 0
-Judges flaws (Ok x) = flaws ≡ []
-Judges flaws (Err e) = TellsFirst flaws e
+abbrev pub ReportsFirst : {T : Type 0} → List Flaw → Result T ReadFault → Type 0
+ReportsFirst flaws (Ok x) = flaws ≡ []
+ReportsFirst flaws (Err e) = IsFirstFlaw flaws e

@@ -22,12 +22,12 @@ abbrev pub is_named : List (List ℕ) → List ℕ → Tree → Bool
 is_named texts name t = bytes_eq (text_at texts (name_of t)) name
 
 -- Whether the id of a class element is in the set.
-abbrev pub head_stays : List (List ℕ) → (ℕ → Bool) → Tree → Bool
-head_stays texts stays t = option_map_or (λ h. stays h.0) (class_head texts t) false
+abbrev pub head_is_needed : List (List ℕ) → (ℕ → Bool) → Tree → Bool
+head_is_needed texts stays t = option_map_or (λ h. stays h.0) (class_head texts t) false
 
 -- Whether the element is needed: it isn't a class element, or its id is in the set.
-abbrev pub element_stays : List (List ℕ) → (ℕ → Bool) → Tree → Bool
-element_stays texts stays t = not (is_named texts (codes "class") t) || head_stays texts stays t
+abbrev pub element_is_needed : List (List ℕ) → (ℕ → Bool) → Tree → Bool
+element_is_needed texts stays t = not (is_named texts (codes "class") t) || head_is_needed texts stays t
 
 -- The list with its first member that passes the test replaced.
 abbrev pub first_changed : {A : Type 0} → (A → Bool) → (A → A) → List A → List A
@@ -36,7 +36,7 @@ first_changed p f (x ∷ xs) = if p x then f x ∷ xs else x ∷ first_changed p
 
 -- The element that holds the class elements, with only the needed children.
 abbrev pub slim_holder : List (List ℕ) → (ℕ → Bool) → Tree → Tree
-slim_holder texts stays t = with_children (filter (element_stays texts stays) (children_of t)) t
+slim_holder texts stays t = with_children (filter (element_is_needed texts stays) (children_of t)) t
 
 -- A child of the root. If it is the first element named metadata, it has only the needed children; else it is
 -- unchanged.

@@ -1,7 +1,7 @@
 //! Reading the body of a metadata record, from left to right.
 ghost use Rattle.std.specs.Prelude.{◌≡◌, ◌<◌, ◌≤◌, length, Ok, IfOk, MatchResult};
 ghost use Rattle.jfr_base.specs.Formats.{run, times};
-ghost use Rattle.jfr_meta.specs.Answers.{var_answer, Tells, IsFault};
+ghost use Rattle.jfr_meta.specs.Answers.{var_answer, Returns, IsFault};
 ghost use Rattle.jfr_meta.specs.Body.{index, pair, element_format, meta_format};
 ghost use Rattle.jfr_meta.specs.Heads.{head_format, head_answer, body_value};
 
@@ -127,7 +127,7 @@ fn read_index(reader: Reader<'_>, at: usize) -> Result<Var, Flaw>
 fn read_pairs(reader: Reader<'_>, at: usize, count: u64) -> Result<(Pairs, usize), ReadFault>
     requires order { at ≤ reader.end }
     requires within { reader.end ≤ length reader.bytes.now }
-    ensures exact { Tells (run (times count (pair reader.entry.strings)) reader.entry.bytes.now reader.entry.end at) result }
+    ensures exact { Returns (run (times count (pair reader.entry.strings)) reader.entry.bytes.now reader.entry.end at) result }
     ensures range { IfOk result (λ r. (at ≤ r.1) × (r.1 ≤ reader.entry.end)) }
 {
     let room = count.min(((reader.end - at) / PAIR_LEN) as u64) as usize;
@@ -147,7 +147,7 @@ fn read_pairs(reader: Reader<'_>, at: usize, count: u64) -> Result<(Pairs, usize
 fn read_element(reader: Reader<'_>, at: usize, levels: u32) -> Result<(Element, usize), ReadFault>
     requires order { at ≤ reader.end }
     requires within { reader.end ≤ length reader.bytes.now }
-    ensures exact { Tells (run (element_format levels reader.entry.strings) reader.entry.bytes.now reader.entry.end at) result }
+    ensures exact { Returns (run (element_format levels reader.entry.strings) reader.entry.bytes.now reader.entry.end at) result }
     ensures range { IfOk result (λ r. (at ≤ r.1) × (r.1 ≤ reader.entry.end)) }
 {
     if levels == 0 {
@@ -175,7 +175,7 @@ fn read_elements(
 ) -> Result<(Elements, usize), ReadFault>
     requires order { at ≤ reader.end }
     requires within { reader.end ≤ length reader.bytes.now }
-    ensures exact { Tells (run (times count (element_format levels reader.entry.strings)) reader.entry.bytes.now reader.entry.end at) result }
+    ensures exact { Returns (run (times count (element_format levels reader.entry.strings)) reader.entry.bytes.now reader.entry.end at) result }
     ensures range { IfOk result (λ r. (at ≤ r.1) × (r.1 ≤ reader.entry.end)) }
 {
     let room = count.min(((reader.end - at) / ELEMENT_LEN) as u64) as usize;

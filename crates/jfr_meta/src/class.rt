@@ -6,7 +6,7 @@ ghost use Rattle.std.specs.Option.{option_copied, option_to_list};
 ghost use Rattle.std.specs.Ordering.{nat_cmp};
 ghost use Rattle.jfr_base.specs.declared.flaw.ReadFault.TheVariants.{Flawed};
 ghost use Rattle.jfr_layout.specs.Names.{AreAllNumbered, AreNumbered};
-ghost use Rattle.jfr_meta.specs.Answers.{Judges};
+ghost use Rattle.jfr_meta.specs.Answers.{ReportsFirst};
 ghost use Rattle.jfr_meta.specs.Attributes.{text_at};
 ghost use Rattle.jfr_meta.specs.Described.{AreCategoryIds, heads, is_category, is_category_id, category_annotation, categories_of, class_head, class_of, classes_of, class_flaws, field_of, field_elements, field_flaws};
 ghost use Rattle.jfr_meta.specs.Names.{AreNumbers, Grow, number_of};
@@ -64,7 +64,7 @@ fn read_field<'a>(
 ) -> Result<(FieldInfo, u64), ReadFault>
     requires { AreNumbers strings.now names.old }
     ensures ok { IfOk result (λ read. field_of strings.now element.now ≡ Some read.0) }
-    ensures judged { Judges (field_flaws strings.now element.now) result }
+    ensures judged { ReportsFirst (field_flaws strings.now element.now) result }
     ensures number { IfOk result (λ read. number_of names.new read.0.name ≡ Some read.1) }
     ensures grow { OnOk result (Grow strings.now names.old names.new) }
 {
@@ -88,7 +88,7 @@ fn read_fields<'a>(
 ) -> Result<(Fields, Vec<u64>), ReadFault>
     requires { AreNumbers strings.now names.old }
     ensures ok { IfOk result (λ read. read.0 ≡ filter_map (field_of strings.now) (field_elements strings.now element.now)) }
-    ensures judged { Judges (flat_map (field_flaws strings.now) (field_elements strings.now element.now)) result }
+    ensures judged { ReportsFirst (flat_map (field_flaws strings.now) (field_elements strings.now element.now)) result }
     ensures numbered { IfOk result (λ read. AreNumbered read.0 read.1.items) }
     ensures names { OnOk result (AreNumbers strings.now names.new) }
 {
@@ -157,7 +157,7 @@ fn read_class<'a>(
 ) -> Result<(ClassInfo, Vec<u64>), ReadFault>
     requires { AreNumbers strings.now names.old }
     ensures ok { IfOk result (λ read. (hs : List (ℕ × List ℕ)) → AreCategoryIds hs ids.now → class_of strings.now hs element.now ≡ Some read.0) }
-    ensures judged { Judges (class_flaws strings.now element.now) result }
+    ensures judged { ReportsFirst (class_flaws strings.now element.now) result }
     ensures numbered { IfOk result (λ read. AreNumbered read.0.fields read.1.items) }
     ensures names { OnOk result (AreNumbers strings.now names.new) }
 {
@@ -232,7 +232,7 @@ pub(crate) fn read_classes(
     elements: &[&Element],
 ) -> Result<(ClassList, Vec<Vec<u64>>), ReadFault>
     ensures ok { IfOk result (λ read. read.0 ≡ classes_of strings.now (map (λ e. e.now) elements.now)) }
-    ensures judged { Judges (flat_map (class_flaws strings.now) (map (λ e. e.now) elements.now)) result }
+    ensures judged { ReportsFirst (flat_map (class_flaws strings.now) (map (λ e. e.now) elements.now)) result }
     ensures numbered { IfOk result (λ read. AreAllNumbered read.0 read.1.items) }
 {
     let ids = category_ids(alloc, strings, elements)?;

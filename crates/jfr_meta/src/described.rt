@@ -2,7 +2,7 @@
 ghost use Rattle.std.specs.Prelude.{◌≡◌, Ok, map, find, option_map, IfOk, MatchResult};
 ghost use Rattle.std.specs.Option.{option_copied};
 ghost use Rattle.std.specs.Str.{bytes_eq};
-ghost use Rattle.jfr_meta.specs.Answers.{IsFault, TellsFirst, Judges};
+ghost use Rattle.jfr_meta.specs.Answers.{IsFault, IsFirstFlaw, ReportsFirst};
 ghost use Rattle.jfr_meta.specs.Attributes.{IsWord, text_at};
 ghost use Rattle.jfr_meta.specs.Described.{element_place, flaw_place, list_flaws, tree_flaws, described_classes, class_elements, classes_of};
 ghost use Rattle.jfr_meta.specs.Trees.{element_offset, name_of, children_of};
@@ -66,7 +66,7 @@ fn flaw_place(
 /// The flaw at the element that describes the faulty class or field; `Memory` if memory ran out.
 fn placed(alloc: Global, strings: &Words, elements: &[&Element], fault: ClassFault) -> ReadFault
     requires { classes.TellsFirst (classes.class_faults (classes_of strings.now (map (λ e. e.now) elements.now))) fault }
-    ensures { TellsFirst (list_flaws strings.now (map (λ e. e.now) elements.now)) result }
+    ensures { IsFirstFlaw (list_flaws strings.now (map (λ e. e.now) elements.now)) result }
 {
     match fault {
         ClassFault::Memory => ReadFault::Memory,
@@ -93,7 +93,7 @@ fn sound_classes(
     elements: &[&Element],
 ) -> Result<Classes, ReadFault>
     ensures ok { IfOk result (λ classes. classes ≡ classes_of strings.now (map (λ e. e.now) elements.now)) }
-    ensures judged { Judges (tree_flaws strings.now (map (λ e. e.now) elements.now)) result }
+    ensures judged { ReportsFirst (tree_flaws strings.now (map (λ e. e.now) elements.now)) result }
 {
     let made = {
         let (list, numbers) = read_classes(alloc, strings, elements)?;

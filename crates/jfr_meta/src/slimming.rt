@@ -6,7 +6,7 @@ ghost use Rattle.std.specs.List.{AllByRecursion};
 ghost use Rattle.jfr_meta.specs.Held.{body_in};
 ghost use Rattle.jfr_meta.specs.NewTables.{IsTable};
 ghost use Rattle.jfr_meta.specs.Rewritten.{WroteTree, WroteTrees};
-ghost use Rattle.jfr_meta.specs.Slimmed.{element_stays, first_changed, is_named, slim_body, slim_holder, slim_in, slim_root, slim_unless};
+ghost use Rattle.jfr_meta.specs.Slimmed.{element_is_needed, first_changed, is_named, slim_body, slim_holder, slim_in, slim_root, slim_unless};
 ghost use Rattle.jfr_meta.specs.Stays.{is_in};
 ghost use Rattle.jfr_meta.specs.Trees.{Tree, children_of};
 ghost use Rattle.jfr_meta.specs.Written.{HasIndices, IsText, ReadsBack, depth, record_bytes, table_bytes, tree_bytes};
@@ -24,8 +24,8 @@ use std::alloc::{AllocError, Global};
 const LIMIT: u64 = 1 << 29;
 
 /// Whether a child of the element `metadata` is needed: it isn't a class element, or its class is in the set.
-fn element_stays(strings: &Words, stay: &Ids, element: &Element) -> bool
-    ensures { result ≡ element_stays strings.now (is_in stay.now) element.now }
+fn element_is_needed(strings: &Words, stay: &Ids, element: &Element) -> bool
+    ensures { result ≡ element_is_needed strings.now (is_in stay.now) element.now }
 {
     if !has_name(strings, element, "class") {
         return true;
@@ -43,12 +43,12 @@ fn needed_children<'a>(
     stay: &Ids,
     element: &'a Element,
 ) -> Result<Vec<&'a Element>, AllocError>
-    ensures ok { IfOk result (λ found. map (λ e. e.now) found.items ≡ filter (element_stays strings.now (is_in stay.now)) (children_of element.now)) }
+    ensures ok { IfOk result (λ found. map (λ e. e.now) found.items ≡ filter (element_is_needed strings.now (is_in stay.now)) (children_of element.now)) }
 {
     let children = element.children().as_slice();
     children
         .iter()
-        .filter(|child| element_stays(strings, stay, child))
+        .filter(|child| element_is_needed(strings, stay, child))
         .collect(alloc)
 }
 

@@ -3,7 +3,7 @@ ghost use Rattle.std.specs.Prelude.{◌≡◌, ◌<◌, ◌≤◌, length, false
 ghost use Rattle.jfr_base.specs.Formats.{run, times};
 ghost use Rattle.jfr_text.specs.Spans.{answer_of, content_of};
 ghost use Rattle.jfr_text.specs.Strings.{string_format};
-ghost use Rattle.jfr_meta.specs.Answers.{Tells};
+ghost use Rattle.jfr_meta.specs.Answers.{Returns};
 ghost use Rattle.jfr_meta.specs.Body.{table_string, table_text};
 
 use jfr_base::{Flaw, NoMemory, ReadFault, Reason, Text, Words};
@@ -46,7 +46,7 @@ fn table_text(alloc: Global, string: &StringSpan<'_>) -> Result<Text, NoMemory>
 fn read_text(alloc: Global, bytes: &[u8], at: usize, end: usize) -> Result<(Text, usize), ReadFault>
     requires order { at ≤ end }
     requires within { end ≤ length bytes.now }
-    ensures exact { Tells (run table_string bytes.now end at) result }
+    ensures exact { Returns (run table_string bytes.now end at) result }
     ensures range { IfOk result (λ r. (at < r.1) × (r.1 ≤ end)) }
 {
     let string = read_plain(bytes, at, end)?;
@@ -66,7 +66,7 @@ pub(crate) fn read_strings(
 ) -> Result<(Words, usize), ReadFault>
     requires order { at ≤ end }
     requires within { end ≤ length bytes.now }
-    ensures exact { Tells (run (times count table_string) bytes.now end at) result }
+    ensures exact { Returns (run (times count table_string) bytes.now end at) result }
     ensures range { IfOk result (λ r. (at ≤ r.1) × (r.1 ≤ end)) }
 {
     let room = count.min((end - at) as u64) as usize;

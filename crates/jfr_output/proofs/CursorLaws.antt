@@ -23,7 +23,7 @@ use Rattle.jfr_laws.proofs.Premises.{all_links, IsCheckpoint, chained_checkpoint
 use Rattle.jfr_output.specs.declared.output_records.Cursor.{Cursor}
 use Rattle.jfr_output.specs.declared.output_records.OutputRecord as contents
 use Rattle.jfr_output.specs.declared.output_records.OutputRecord.TheVariants as declared_records
-use Rattle.jfr_output.specs.OutputRecords.{IsChosen, IsCursor, IsKeptEvent, ShowsEvent, ShowsMetadata, output_record_in, events_from, event_there, link_there, still_output_records, is_kept_at, event_after, linked_at, link_after}
+use Rattle.jfr_output.specs.OutputRecords.{IsChosen, IsCursor, IsKeptEvent, ShowsEvent, ShowsMetadata, output_record_in, events_from, event_there, link_there, remaining_output_records, is_kept_at, event_after, linked_at, link_after}
 use Rattle.jfr_output.proofs.OutputRecordLaws.{Rises, rises_given, rises_marked, Stands, at_head, past_head, elsewhere, found_place, any_found, Occurs, AllOccur, in_order}
 
 -- Where an event, or a numbered checkpoint, starts.
@@ -253,17 +253,17 @@ chosen_event p flags c r at link event metadata (Some (declared_records.Chained 
 
 -- What stays from a record on.
 pub output_records_at : (p : Parts) (flags : List Bool) (c : Cursor) (r : Framed) → slice_get p.records c.frame ≡ Some r →
-    still_output_records p flags c ≡ cons_option (output_record_of p (kept_by p flags) r) (filter_map (output_record_of p (kept_by p flags)) (drop (c.frame + 1) p.records))
+    remaining_output_records p flags c ≡ cons_option (output_record_of p (kept_by p flags) r) (filter_map (output_record_of p (kept_by p flags)) (drop (c.frame + 1) p.records))
 output_records_at p flags c r e = ap (filter_map (output_record_of p (kept_by p flags))) (drop_at p.records c.frame r e)
 
-pub output_records_none : (p : Parts) (flags : List Bool) (c : Cursor) → length p.records ≤ c.frame → still_output_records p flags c ≡ []
+pub output_records_none : (p : Parts) (flags : List Bool) (c : Cursor) → length p.records ≤ c.frame → remaining_output_records p flags c ≡ []
 output_records_none p flags c h = ap (filter_map (output_record_of p (kept_by p flags))) (drop_all c.frame p.records h)
 
 pub output_record_next : (p : Parts) (flags : List Bool) (c d : Cursor) (frames : List Framed) (at : ℕ) (o : Option contents.OutputRecord) → frames ≡ p.records → option_map (λ r. r.at) (slice_get frames c.frame) ≡ Some at → d.frame ≡ c.frame + 1 →
-    IfSome (slice_get p.records c.frame) (λ r. option_map (output_record_in p flags) o ≡ output_record_of p (kept_by p flags) r) → still_output_records p flags c ≡ cons_option (option_map (output_record_in p flags) o) (still_output_records p flags d)
+    IfSome (slice_get p.records c.frame) (λ r. option_map (output_record_in p flags) o ≡ output_record_of p (kept_by p flags) r) → remaining_output_records p flags c ≡ cons_option (option_map (output_record_in p flags) o) (remaining_output_records p flags d)
 output_record_next p flags c d frames at o e h f g = by_record (slice_get p.records c.frame) refl (ap (λ rs. option_map (λ r. r.at) (slice_get rs c.frame)) (sym e) ∙ h) g
   where
-    by_record : (x : Option Framed) → slice_get p.records c.frame ≡ x → option_map (λ r. r.at) x ≡ Some at → IfSome x (λ r. option_map (output_record_in p flags) o ≡ output_record_of p (kept_by p flags) r) → still_output_records p flags c ≡ cons_option (option_map (output_record_in p flags) o) (still_output_records p flags d)
+    by_record : (x : Option Framed) → slice_get p.records c.frame ≡ x → option_map (λ r. r.at) x ≡ Some at → IfSome x (λ r. option_map (output_record_in p flags) o ≡ output_record_of p (kept_by p flags) r) → remaining_output_records p flags c ≡ cons_option (option_map (output_record_in p flags) o) (remaining_output_records p flags d)
     by_record None e h g = cc
     by_record (Some r) e h g = output_records_at p flags c r e ∙ (λ i. cons_option (sym g i) (filter_map (output_record_of p (kept_by p flags)) (drop (sym f i) p.records)))
 

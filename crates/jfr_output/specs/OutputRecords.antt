@@ -81,8 +81,8 @@ pub record IsCursor (p : Parts) (flags : List Bool) (c : Cursor) : Type 0 where
   pub links : enumerate_from c.link (drop c.link (reverse p.chain)) ≡ filter_map (link_there p) (drop c.frame p.records)
 
 -- The output records for the records from the cursor's on.
-abbrev pub still_output_records : Parts → List Bool → Cursor → List OutputRecord
-still_output_records p flags c = filter_map (output_record_of p (kept_by p flags)) (drop c.frame p.records)
+abbrev pub remaining_output_records : Parts → List Bool → Cursor → List OutputRecord
+remaining_output_records p flags c = filter_map (output_record_of p (kept_by p flags)) (drop c.frame p.records)
 
 -- Whether the event with this number starts at this offset and is kept.
 abbrev pub is_kept_at : List EventAt → List Bool → ℕ → ℕ → Bool

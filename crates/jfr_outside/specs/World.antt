@@ -113,17 +113,17 @@ abbrev pub IsListing : List ℕ → Files → List (List ℕ) → Type 0
 IsListing folder files names = IsPermutation (names_in folder files) (map encode_utf8_all names)
 
 -- The world after a call, by the call's answer; running out of memory changes nothing.
-abbrev pub Leaves : {T : Type 0} → Result T Fault → Option World → Option World → (T → World → World) → (World → World) → Type 0
-Leaves (Ok x) before after ok failed = after ≡ option_map (ok x) before
-Leaves (Err Failed) before after ok failed = after ≡ option_map failed before
-Leaves (Err Memory) before after ok failed = after ≡ before
+abbrev pub IsAfterCall : {T : Type 0} → Result T Fault → Option World → Option World → (T → World → World) → (World → World) → Type 0
+IsAfterCall (Ok x) before after ok failed = after ≡ option_map (ok x) before
+IsAfterCall (Err Failed) before after ok failed = after ≡ option_map failed before
+IsAfterCall (Err Memory) before after ok failed = after ≡ before
 
 -- The world after a call that adds bytes, by the call's answer; after a failure the first k of them were
 -- added.
-abbrev pub LeavesPrefix : {T W : Type 0} → Result T Fault → Option W → Option W → List ℕ → (List ℕ → W → W) → Type 0
-LeavesPrefix (Ok x) before after bytes add = after ≡ option_map (add bytes) before
-LeavesPrefix (Err Failed) before after bytes add = (k : ℕ) × (after ≡ option_map (add (take k bytes)) before)
-LeavesPrefix (Err Memory) before after bytes add = after ≡ before
+abbrev pub IsAfterAppend : {T W : Type 0} → Result T Fault → Option W → Option W → List ℕ → (List ℕ → W → W) → Type 0
+IsAfterAppend (Ok x) before after bytes add = after ≡ option_map (add bytes) before
+IsAfterAppend (Err Failed) before after bytes add = (k : ℕ) × (after ≡ option_map (add (take k bytes)) before)
+IsAfterAppend (Err Memory) before after bytes add = after ≡ before
 
 -- A claim about the world before and after, if contracts see it before; then they see it after, too.
 abbrev pub IfKnown : Option World → Option World → (World → World → Type 0) → Type 0

@@ -1,7 +1,7 @@
 //! A place in memory whose calls can be made to fail.
 ghost use Rattle.std.specs.Prelude.{◌≡◌, ◌≤◌, ◌<◌, ◌↔◌, ◌⊎◌, [], ◌∷◌, ◌++◌, length, take, Some, None, true, false, IsTrue, IsSome, IfSome, IfOk, OnOk, OnErr, IsErrOf, option_map};
 ghost use Rattle.jfr_outside.specs.MemoryPlace.{state_of, scripts_of, most_of};
-ghost use Rattle.jfr_outside.specs.World.{file, put, empty_world, bytes_in, slice_of, opened, taken, shut, created, appended, finished, unchanged, IsListing, Leaves, LeavesPrefix};
+ghost use Rattle.jfr_outside.specs.World.{file, put, empty_world, bytes_in, slice_of, opened, taken, shut, created, appended, finished, unchanged, IsListing, IsAfterCall, IsAfterAppend};
 ghost use Rattle.jfr_outside.specs.Calls.{CountsRead, CountsWrite, KeepsPrefix};
 ghost use Rattle.jfr_outside.specs.Scripts.{kept, after_call, IsDue};
 ghost use Rattle.jfr_outside.specs.declared.fault.Fault.TheVariants.{Failed};
@@ -82,7 +82,7 @@ impl Place for MemoryPlace {
     ghost state = { λ p. state_of p };
 
     fn open_input(&mut self, name: &str) -> Result<(), Fault>
-        ensures contents { Leaves result (state_of self.old).contents (state_of self.new).contents (λ _. opened name.now) shut }
+        ensures contents { IsAfterCall result (state_of self.old).contents (state_of self.new).contents (λ _. opened name.now) shut }
         ensures there { OnOk result (IfSome (state_of self.old).contents (λ w. IsSome (file w name.now))) }
         ensures counted { CountsRead result (state_of self.old) (state_of self.new) }
         ensures steady { IsTrue (state_of self.old).steady → IsErrOf result Failed → IfSome (state_of self.old).contents (λ w. file w name.now ≡ None) }
@@ -101,7 +101,7 @@ impl Place for MemoryPlace {
     fn read(&mut self, into: &mut [u8]) -> Result<usize, Fault>
         requires { 0 < length into.old }
         ensures bound { IfOk result (λ n. n ≤ length into.new) }
-        ensures contents { Leaves result (state_of self.old).contents (state_of self.new).contents taken unchanged }
+        ensures contents { IsAfterCall result (state_of self.old).contents (state_of self.new).contents taken unchanged }
         ensures bytes { IfOk result (λ n. IfSome (state_of self.old).contents (λ w. IfSome w.input (λ left. (n ≤ length left) × (take n into.new ≡ take n left)))) }
         ensures end { IfOk result (λ n. IfSome (state_of self.old).contents (λ w. IfSome w.input (λ left. (n ≡ 0) ↔ (left ≡ [])))) }
         ensures open { OnOk result (IfSome (state_of self.old).contents (λ w. IsSome w.input)) }
@@ -132,7 +132,7 @@ impl Place for MemoryPlace {
     }
 
     fn create_output(&mut self, name: &str) -> Result<(), Fault>
-        ensures contents { Leaves result (state_of self.old).contents (state_of self.new).contents (λ _. created name.now) finished }
+        ensures contents { IsAfterCall result (state_of self.old).contents (state_of self.new).contents (λ _. created name.now) finished }
         ensures was_new { OnOk result (IfSome (state_of self.old).contents (λ w. (file w name.now ≡ None) × (w.output ≡ None))) }
         ensures counted { CountsWrite result (state_of self.old) (state_of self.new) }
         ensures steady { IsTrue (state_of self.old).steady → IsErrOf result Failed → IfSome (state_of self.old).contents (λ w. (file w name.now ≡ None) → IsSome w.output) }
@@ -149,7 +149,7 @@ impl Place for MemoryPlace {
     }
 
     fn append(&mut self, bytes: &[u8]) -> Result<(), Fault>
-        ensures contents { LeavesPrefix result (state_of self.old).contents (state_of self.new).contents bytes.now appended }
+        ensures contents { IsAfterAppend result (state_of self.old).contents (state_of self.new).contents bytes.now appended }
         ensures open { OnOk result (IfSome (state_of self.old).contents (λ w. IsSome w.output)) }
         ensures counted { CountsWrite result (state_of self.old) (state_of self.new) }
         ensures steady { IsTrue (state_of self.old).steady → IsErrOf result Failed → IfSome (state_of self.old).contents (λ w. w.output ≡ None) }
@@ -167,7 +167,7 @@ impl Place for MemoryPlace {
     }
 
     fn append_pieces(&mut self, pieces: &[&[u8]]) -> Result<(), Fault>
-        ensures contents { LeavesPrefix result (state_of self.old).contents (state_of self.new).contents (bytes_in pieces.now) appended }
+        ensures contents { IsAfterAppend result (state_of self.old).contents (state_of self.new).contents (bytes_in pieces.now) appended }
         ensures open { OnOk result (IfSome (state_of self.old).contents (λ w. IsSome w.output)) }
         ensures counted { CountsWrite result (state_of self.old) (state_of self.new) }
         ensures steady { IsTrue (state_of self.old).steady → IsErrOf result Failed → IfSome (state_of self.old).contents (λ w. w.output ≡ None) }
@@ -185,7 +185,7 @@ impl Place for MemoryPlace {
     }
 
     fn finish_output(&mut self) -> Result<(), Fault>
-        ensures contents { Leaves result (state_of self.old).contents (state_of self.new).contents (λ _. finished) finished }
+        ensures contents { IsAfterCall result (state_of self.old).contents (state_of self.new).contents (λ _. finished) finished }
         ensures open { OnOk result (IfSome (state_of self.old).contents (λ w. IsSome w.output)) }
         ensures counted { CountsWrite result (state_of self.old) (state_of self.new) }
         ensures steady { IsTrue (state_of self.old).steady → IsErrOf result Failed → IfSome (state_of self.old).contents (λ w. w.output ≡ None) }
@@ -202,7 +202,7 @@ impl Place for MemoryPlace {
     }
 
     fn list(&mut self, alloc: Global, folder: &str) -> Result<Words, Fault>
-        ensures contents { Leaves result (state_of self.old).contents (state_of self.new).contents (λ _. unchanged) unchanged }
+        ensures contents { IsAfterCall result (state_of self.old).contents (state_of self.new).contents (λ _. unchanged) unchanged }
         ensures names { IfOk result (λ names. IfSome (state_of self.old).contents (λ w. IsListing folder.now w.files names)) }
         ensures counted { CountsRead result (state_of self.old) (state_of self.new) }
         ensures steady { IsTrue (state_of self.old).steady → IsErrOf result Failed → ⊥ }

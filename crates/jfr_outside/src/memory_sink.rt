@@ -4,7 +4,7 @@ ghost use Rattle.jfr_outside.specs.Counts.{Counts};
 ghost use Rattle.jfr_outside.specs.MemorySink.{state_of, scripts_of};
 ghost use Rattle.jfr_outside.specs.Calls.{KeepsPrefix};
 ghost use Rattle.jfr_outside.specs.Scripts.{kept, after_call, IsDue};
-ghost use Rattle.jfr_outside.specs.World.{LeavesPrefix, added};
+ghost use Rattle.jfr_outside.specs.World.{IsAfterAppend, added};
 ghost use Rattle.jfr_outside.specs.declared.fault.Fault.TheVariants.{Failed, Memory};
 ghost use Rattle.jfr_outside.specs.declared.script.Call.TheVariants.{Append};
 
@@ -57,7 +57,7 @@ impl Sink for MemorySink {
     ghost state = { λ s. state_of s };
 
     fn write(&mut self, bytes: &[u8]) -> Result<(), Fault>
-        ensures contents { LeavesPrefix result (state_of self.old).written (state_of self.new).written bytes.now added }
+        ensures contents { IsAfterAppend result (state_of self.old).written (state_of self.new).written bytes.now added }
         ensures faults { Counts result (state_of self.old).faults (state_of self.new).faults }
 
         // A write fails exactly if a script says so, and keeps no more bytes than that script allows.

@@ -1,6 +1,6 @@
 //! A place: files, with at most one open input and one open output.
 ghost use Rattle.std.specs.Prelude.{◌≡◌, ◌<◌, ◌≤◌, ◌↔◌, [], length, take, None, IsTrue, IsSome, IfSome, IfOk, OnOk, IsErrOf, option_map};
-ghost use Rattle.jfr_outside.specs.World.{State, file, bytes_in, opened, shut, taken, created, appended, finished, unchanged, IsListing, Leaves, LeavesPrefix};
+ghost use Rattle.jfr_outside.specs.World.{State, file, bytes_in, opened, shut, taken, created, appended, finished, unchanged, IsListing, IsAfterCall, IsAfterAppend};
 ghost use Rattle.jfr_outside.specs.Counts.{Counts};
 ghost use Rattle.jfr_outside.specs.declared.fault.Fault.TheVariants.{Failed};
 
@@ -18,7 +18,7 @@ pub trait Place {
 
     /// Opens a file as the input. Fails if there is no such file; after a failure no input is open.
     fn open_input(&mut self, name: &str) -> Result<(), Fault>
-        ensures contents { Leaves result (state self.old).contents (state self.new).contents (λ _. opened name.now) shut }
+        ensures contents { IsAfterCall result (state self.old).contents (state self.new).contents (λ _. opened name.now) shut }
         ensures there { OnOk result (IfSome (state self.old).contents (λ w. IsSome (file w name.now))) }
 
         ensures reads { Counts result (state self.old).read_faults (state self.new).read_faults }
@@ -31,7 +31,7 @@ pub trait Place {
     fn read(&mut self, into: &mut [u8]) -> Result<usize, Fault>
         requires { 0 < length into.old }
         ensures bound { IfOk result (λ n. n ≤ length into.new) }
-        ensures contents { Leaves result (state self.old).contents (state self.new).contents taken unchanged }
+        ensures contents { IsAfterCall result (state self.old).contents (state self.new).contents taken unchanged }
         ensures bytes { IfOk result (λ n. IfSome (state self.old).contents (λ w. IfSome w.input (λ left. (n ≤ length left) × (take n into.new ≡ take n left)))) }
         ensures end { IfOk result (λ n. IfSome (state self.old).contents (λ w. IfSome w.input (λ left. (n ≡ 0) ↔ (left ≡ [])))) }
         ensures open { OnOk result (IfSome (state self.old).contents (λ w. IsSome w.input)) }
@@ -51,7 +51,7 @@ pub trait Place {
     /// Creates an empty file and opens it as the output. Fails if the file exists, or if an output is open.
     /// After a failure no output is open.
     fn create_output(&mut self, name: &str) -> Result<(), Fault>
-        ensures contents { Leaves result (state self.old).contents (state self.new).contents (λ _. created name.now) finished }
+        ensures contents { IsAfterCall result (state self.old).contents (state self.new).contents (λ _. created name.now) finished }
         ensures was_new { OnOk result (IfSome (state self.old).contents (λ w. (file w name.now ≡ None) × (w.output ≡ None))) }
 
         ensures reads { (state self.new).read_faults ≡ (state self.old).read_faults }
@@ -61,7 +61,7 @@ pub trait Place {
 
     /// Adds bytes at the end of the output; on failure, a prefix of them. Fails if no output is open.
     fn append(&mut self, bytes: &[u8]) -> Result<(), Fault>
-        ensures contents { LeavesPrefix result (state self.old).contents (state self.new).contents bytes.now appended }
+        ensures contents { IsAfterAppend result (state self.old).contents (state self.new).contents bytes.now appended }
         ensures open { OnOk result (IfSome (state self.old).contents (λ w. IsSome w.output)) }
 
         ensures reads { (state self.new).read_faults ≡ (state self.old).read_faults }
@@ -71,7 +71,7 @@ pub trait Place {
 
     /// Adds the pieces at the end of the output, one after another; on failure, a prefix of all their bytes.
     fn append_pieces(&mut self, pieces: &[&[u8]]) -> Result<(), Fault>
-        ensures contents { LeavesPrefix result (state self.old).contents (state self.new).contents (bytes_in pieces.now) appended }
+        ensures contents { IsAfterAppend result (state self.old).contents (state self.new).contents (bytes_in pieces.now) appended }
         ensures open { OnOk result (IfSome (state self.old).contents (λ w. IsSome w.output)) }
 
         ensures reads { (state self.new).read_faults ≡ (state self.old).read_faults }
@@ -82,7 +82,7 @@ pub trait Place {
     /// Finishes the output, which keeps its bytes. Fails if no output is open. After a failure no output is
     /// open.
     fn finish_output(&mut self) -> Result<(), Fault>
-        ensures contents { Leaves result (state self.old).contents (state self.new).contents (λ _. finished) finished }
+        ensures contents { IsAfterCall result (state self.old).contents (state self.new).contents (λ _. finished) finished }
         ensures open { OnOk result (IfSome (state self.old).contents (λ w. IsSome w.output)) }
 
         ensures reads { (state self.new).read_faults ≡ (state self.old).read_faults }
@@ -93,7 +93,7 @@ pub trait Place {
     /// The names of the files directly in a folder, without the folder, each once and in any order. Fails if
     /// a name isn't UTF-8.
     fn list(&mut self, alloc: Global, folder: &str) -> Result<Words, Fault>
-        ensures contents { Leaves result (state self.old).contents (state self.new).contents (λ _. unchanged) unchanged }
+        ensures contents { IsAfterCall result (state self.old).contents (state self.new).contents (λ _. unchanged) unchanged }
         ensures names { IfOk result (λ names. IfSome (state self.old).contents (λ w. IsListing folder.now w.files names)) }
 
         ensures reads { Counts result (state self.old).read_faults (state self.new).read_faults }

@@ -1,5 +1,5 @@
 //! Sinks, to which bytes are written.
-ghost use Rattle.jfr_outside.specs.World.{SinkState, LeavesPrefix, added};
+ghost use Rattle.jfr_outside.specs.World.{SinkState, IsAfterAppend, added};
 ghost use Rattle.jfr_outside.specs.Counts.{Counts};
 
 use crate::Fault;
@@ -13,6 +13,6 @@ pub trait Sink {
 
     /// Adds bytes at the end of the stream; on failure, a prefix of them.
     fn write(&mut self, bytes: &[u8]) -> Result<(), Fault>
-        ensures contents { LeavesPrefix result (state self.old).written (state self.new).written bytes.now added }
+        ensures contents { IsAfterAppend result (state self.old).written (state self.new).written bytes.now added }
         ensures faults { Counts result (state self.old).faults (state self.new).faults };
 }

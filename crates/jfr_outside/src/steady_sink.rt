@@ -2,7 +2,7 @@
 ghost use Rattle.std.specs.Prelude.{◌≡◌, [], Some, IsOkUnless};
 ghost use Rattle.jfr_outside.specs.Counts.{Counts};
 ghost use Rattle.jfr_outside.specs.SteadySink.{state_of};
-ghost use Rattle.jfr_outside.specs.World.{LeavesPrefix, added};
+ghost use Rattle.jfr_outside.specs.World.{IsAfterAppend, added};
 ghost use Rattle.jfr_outside.specs.declared.fault.Fault.TheVariants.{Memory};
 
 use crate::{Fault, Sink};
@@ -36,7 +36,7 @@ impl Sink for SteadySink {
     ghost state = { λ s. state_of s };
 
     fn write(&mut self, bytes: &[u8]) -> Result<(), Fault>
-        ensures contents { LeavesPrefix result (state_of self.old).written (state_of self.new).written bytes.now added }
+        ensures contents { IsAfterAppend result (state_of self.old).written (state_of self.new).written bytes.now added }
         ensures faults { Counts result (state_of self.old).faults (state_of self.new).faults }
         ensures steady { IsOkUnless result Memory }
     {

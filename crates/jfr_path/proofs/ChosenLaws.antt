@@ -11,12 +11,12 @@ use Rattle.jfr_value.specs.Nodes.{NodeAt, node_of}
 use Rattle.jfr_chunk.specs.declared.event.Event.{Event}
 use Rattle.jfr_chunk.specs.Chosen.{chosen, is_chosen}
 use Rattle.jfr_chunk.specs.Parts.{EventAt, Parts, AreParts, events_of}
-use Rattle.jfr_chunk.specs.Seen.{event_at}
+use Rattle.jfr_chunk.specs.Indexed.{event_at}
 use Rattle.jfr_worklist.specs.Members.{In}
 use Rattle.jfr_worklist.proofs.Members.{get_in, in_contains}
 use Rattle.jfr_path.specs.declared.verdict.ClassVerdict.{ClassVerdict}
 use Rattle.jfr_path.specs.declared.verdict.ClassVerdict.TheVariants.{ByThread, Dropped, Kept}
-use Rattle.jfr_path.specs.Verdicts.{IsVerdict, ReadsOrFails, is_kept}
+use Rattle.jfr_path.specs.Verdicts.{IsVerdict, IsRightFor, is_kept}
 use Rattle.jfr_path.proofs.EventLaws.{event_known, event_shape}
 use Rattle.jfr_path.proofs.ListLaws.{zip_at}
 
@@ -31,10 +31,10 @@ module _ (p : Parts) (parts : AreParts p) (e : Event) (q : slice_get (events_of 
   pub placed : None ≡ find_class k fields.shape.class → ⊥
   placed n = let x : IsSome {T = Class} None = subst (λ z. IsSome z) (sym (n ∙ same_class)) (event_known p parts (event_at e) listed) in cc
 
-  pub said : (g : Given) (verdicts : List ClassVerdict) (place : ℕ) (other : ClassVerdict) → AllZip (IsVerdict g) p.classes verdicts → slice_get k place ≡ find_class k fields.shape.class → ReadsOrFails g p (event_at e) (slice_index_or verdicts place other)
+  pub said : (g : Given) (verdicts : List ClassVerdict) (place : ℕ) (other : ClassVerdict) → AllZip (IsVerdict g) p.classes verdicts → slice_get k place ≡ find_class k fields.shape.class → IsRightFor g p (event_at e) (slice_index_or verdicts place other)
   said g verdicts place other all there = by_class (find_class p.classes e.frame.type_id) refl (zip_at (IsVerdict g) p.classes verdicts place other (find_class p.classes e.frame.type_id) all (ap (λ (z : Classes). slice_get z place) (sym h) ∙ (there ∙ same_class)))
     where
-      by_class : (o : Option Class) → find_class p.classes e.frame.type_id ≡ o → IfSome o (λ c. IsVerdict g c (slice_index_or verdicts place other)) → ReadsOrFails g p (event_at e) (slice_index_or verdicts place other)
+      by_class : (o : Option Class) → find_class p.classes e.frame.type_id ≡ o → IfSome o (λ c. IsVerdict g c (slice_index_or verdicts place other)) → IsRightFor g p (event_at e) (slice_index_or verdicts place other)
       by_class None n v = absurd (placed (sym (same_class ∙ n)))
       by_class (Some c) n v = v.each p (event_at e) (record { parts = parts; listed = in_contains (events_of p) (event_at e) listed; class = n })
 

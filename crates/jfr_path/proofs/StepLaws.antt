@@ -10,7 +10,7 @@ use Rattle.jfr_value.specs.Nodes.{NodeAt, IsNode, IsValue, child, node_of}
 use Rattle.jfr_chunk.specs.declared.event.Event.{Event}
 use Rattle.jfr_chunk.specs.Parts.{Parts, AreParts, events_of}
 use Rattle.jfr_chunk.specs.Paths.{step}
-use Rattle.jfr_chunk.specs.Seen.{event_at}
+use Rattle.jfr_chunk.specs.Indexed.{event_at}
 use Rattle.jfr_chunk.proofs.PathLaws.{HasNodes}
 use Rattle.jfr_worklist.proofs.Members.{get_in}
 use Rattle.jfr_chunk.proofs.HasNodesLaws.{has_nodes, event_is}

@@ -18,10 +18,10 @@ pub record IsOfClass (p : Parts) (c : Class) (e : EventAt) : Type 0 where
 
 -- The verdict is right for the event: it is kept, or dropped, or kept exactly if the filter allows the thread
 -- that its field with this number leads to.
-abbrev pub ReadsOrFails : Given → Parts → EventAt → ClassVerdict → Type 0
-ReadsOrFails g p e Kept = is_chosen g p e ≡ true
-ReadsOrFails g p e Dropped = is_chosen g p e ≡ false
-ReadsOrFails g p e (ByThread number) = (n : NodeAt) × (child p.classes p.bytes e.node (steps.Field number) ≡ Some n) × (is_chosen g p e ≡ allows_thread_at g p n)
+abbrev pub IsRightFor : Given → Parts → EventAt → ClassVerdict → Type 0
+IsRightFor g p e Kept = is_chosen g p e ≡ true
+IsRightFor g p e Dropped = is_chosen g p e ≡ false
+IsRightFor g p e (ByThread number) = (n : NodeAt) × (child p.classes p.bytes e.node (steps.Field number) ≡ Some n) × (is_chosen g p e ≡ allows_thread_at g p n)
 
 -- Whether the verdict is that all events of the class are kept.
 abbrev pub is_kept : ClassVerdict → Bool
@@ -30,4 +30,4 @@ is_kept _ = false
 
 -- The verdict is right for every event of the class, in every chunk.
 pub record IsVerdict (g : Given) (c : Class) (verdict : ClassVerdict) : Type 0 where
-  pub each : (p : Parts) (e : EventAt) → IsOfClass p c e → ReadsOrFails g p e verdict
+  pub each : (p : Parts) (e : EventAt) → IsOfClass p c e → IsRightFor g p e verdict

@@ -3,9 +3,9 @@ ghost use Rattle.std.specs.Prelude.{◌≡◌, IfOk, Some, length, slice_get};
 ghost use Rattle.std.specs.List.{AllZip};
 ghost use Rattle.jfr_filter.specs.Filters.{Given};
 ghost use Rattle.jfr_chunk.specs.Parts.{events_of};
-ghost use Rattle.jfr_chunk.specs.Seen.{event_at};
+ghost use Rattle.jfr_chunk.specs.Indexed.{event_at};
 ghost use Rattle.jfr_chunk.specs.Chosen.{chosen, is_chosen};
-ghost use Rattle.jfr_path.specs.Verdicts.{IsVerdict, ReadsOrFails};
+ghost use Rattle.jfr_path.specs.Verdicts.{IsVerdict, IsRightFor};
 
 use crate::fields_of;
 use crate::threads::ThreadVerdicts;
@@ -69,7 +69,7 @@ fn is_chosen<'a>(
 fn verdict_of(chunk: &Chunk<'_>, event: &Event<'_>, verdicts: &[ClassVerdict]) -> ClassVerdict
     requires event { slice_get (events_of chunk.now) event.now.number ≡ Some (event_at event.now) }
     requires each { length verdicts.now ≡ length chunk.now.classes }
-    ensures { (g : Given) → AllZip (IsVerdict g) chunk.now.classes verdicts.now → ReadsOrFails g chunk.now (event_at event.now) result }
+    ensures { (g : Given) → AllZip (IsVerdict g) chunk.now.classes verdicts.now → IsRightFor g chunk.now (event_at event.now) result }
 {
     let fields = fields_of(chunk, event);
     match chunk.classes().index_of(fields.shape.class) {

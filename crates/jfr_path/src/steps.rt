@@ -2,7 +2,7 @@
 ghost use Rattle.std.specs.Prelude.{◌≡◌, Some, IfSome, option_map, slice_get};
 ghost use Rattle.jfr_chunk.specs.Parts.{AreParts, events_of};
 ghost use Rattle.jfr_chunk.specs.Paths.{leads, step, string_of};
-ghost use Rattle.jfr_chunk.specs.Seen.{event_at};
+ghost use Rattle.jfr_chunk.specs.Indexed.{event_at};
 ghost use Rattle.jfr_text.specs.Spans.{content_of};
 ghost use Rattle.jfr_value.specs.Nodes.{IsValue, node_of};
 

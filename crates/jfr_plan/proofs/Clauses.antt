@@ -11,7 +11,7 @@ use Rattle.jfr_plan.specs.Effects.{Outside, Effect, Create, Append, Snapshot, sn
 use Rattle.jfr_plan.specs.Rules.{Rule, Walk, Target, File, Parts, Text, walk, walk_on, cut_after, plan_after, plan_in}
 use Rattle.jfr_plan.specs.Outcomes.{After, HaltedIn, AllDone, Breaks, Unchanged, CountedWrite, Tallied}
 use Rattle.jfr_plan.specs.Makes.{making, asks_made}
-use Rattle.jfr_plan.specs.Clauses.{Task, over, Leaves, Halted, IsPlanned, ByPlan, ForMemory, IsComplete, write_count, Ran, CanCreate}
+use Rattle.jfr_plan.specs.Clauses.{Task, over, IsAfterTask, Halted, IsPlanned, ByPlan, ForMemory, IsComplete, write_count, Ran, CanCreate}
 
 written_reads : (target : Target) (a b : Outside) → CountedWrite target a b → b.place.read_faults ≡ a.place.read_faults
 written_reads File a b t = t.0
@@ -98,7 +98,7 @@ if_all None F f = tt
 if_all (Some w) F f = f w
 
 -- The plan's end, or out of memory.
-complete_clause : (k : Task) (ended : CommandEnd) (a b : Outside) → Leaves k ended a b → Tallied k.target ended a b → IsComplete k ended a b
+complete_clause : (k : Task) (ended : CommandEnd) (a b : Outside) → IsAfterTask k ended a b → Tallied k.target ended a b → IsComplete k ended a b
 complete_clause k (Ends e) a b t c = λ p q. before_of a.place.contents b.place.contents (λ w v. AllDone (k.plan w) e (snapshot w a.sink.written) (snapshot v b.sink.written)) (λ w. IsPlanned (Ends e) (k.plan w).end) t (λ w v h. ByPlan e refl h.end)
 complete_clause k NotRead a b t c = λ p q. absurd (p c.0.1)
 complete_clause k NotWritten a b t c = λ p q. absurd (q (written_rose k.target a b c))
@@ -116,9 +116,9 @@ abbrev pub NeverHalts : Task → Type 0
 NeverHalts k = (a b : Outside) → k.Readable a.place → Halted k a b → ⊥
 
 -- All that a call promises follows from what it leaves and from the counts.
-pub ran : (k : Task) (e : Ending) (a b : Outside) → NeverHalts k → Leaves k (command_end e) a b → Tallied k.target (command_end e) a b → Ran k e a b
+pub ran : (k : Task) (e : Ending) (a b : Outside) → NeverHalts k → IsAfterTask k (command_end e) a b → Tallied k.target (command_end e) a b → Ran k e a b
 ran k e a b never t c =
-    let by : (x : Ending) → e ≡ x → Leaves k (command_end x) a b = λ x is. subst (λ (y : Ending). Leaves k (command_end y) a b) is t in
+    let by : (x : Ending) → e ≡ x → IsAfterTask k (command_end x) a b = λ x is. subst (λ (y : Ending). IsAfterTask k (command_end y) a b) is t in
     let no : k.Readable a.place → e ≡ ReadFault → ⊥ = λ can is. never a b can (by ReadFault is) in
     record {
       contents = t;

@@ -4,7 +4,7 @@ use Rattle.std.specs.Prelude.{is_some, MatchResult, IsErrAnd, IsErrOf}
 use Rattle.jfr_base.specs.declared.flaw.Flaw.{Flaw}
 use Rattle.jfr_base.specs.declared.flaw.ReadFault.{ReadFault}
 use Rattle.jfr_base.specs.declared.flaw.ReadFault.TheVariants as readings
-use Rattle.jfr_outside.specs.World.{World, State, IfKnown, Leaves, LeavesPrefix, file, opened, shut, created, appended, finished}
+use Rattle.jfr_outside.specs.World.{World, State, IfKnown, IsAfterCall, IsAfterAppend, file, opened, shut, created, appended, finished}
 use Rattle.jfr_outside.specs.Counts.{Counts}
 use Rattle.jfr_outside.specs.declared.fault.Fault.{Fault}
 use Rattle.jfr_outside.specs.declared.fault.Fault.TheVariants as faults
@@ -41,7 +41,7 @@ none_done : (st : Bool) (a : Asked) (p : Option (List ℕ)) (w : World) → Part
 none_done st a p w = (refl, record { first = []; rest = asked a; parts = refl; holds = refl })
 
 -- The output is to be created.
-pub create_leaves : (st : Bool) (name : List ℕ) (p : Option (List ℕ)) (b a : Option World) (r : Result (Unit {0}) Fault) (z : Result (Unit {0}) Ending) → Passes r z → Leaves r b a (λ _. created name) finished → OnOk r (IfSome b (λ w. (file w name ≡ None) × (w.output ≡ None))) → (IsTrue st → IsErrOf r faults.Failed → IfSome b (λ w. (file w name ≡ None) → IsSome w.output)) → IfKnown b a (PartWorld st (Goes (Create name ∷ [])) z p p)
+pub create_leaves : (st : Bool) (name : List ℕ) (p : Option (List ℕ)) (b a : Option World) (r : Result (Unit {0}) Fault) (z : Result (Unit {0}) Ending) → Passes r z → IsAfterCall r b a (λ _. created name) finished → OnOk r (IfSome b (λ w. (file w name ≡ None) × (w.output ≡ None))) → (IsTrue st → IsErrOf r faults.Failed → IfSome b (λ w. (file w name ≡ None) → IsSome w.output)) → IfKnown b a (PartWorld st (Goes (Create name ∷ [])) z p p)
 create_leaves st name p None a r z h t o c = tt
 create_leaves st name p (Some w) a r z h t o c =
     let asks = Goes (Create name ∷ []) in
@@ -52,7 +52,7 @@ create_leaves st name p (Some w) a r z h t o c =
     (λ e. rw (rw e at t) (none_done st asks p w))
 
 -- The output is to grow by these bytes.
-pub append_leaves : (st : Bool) (asks : Asked) (bytes : List ℕ) (p : Option (List ℕ)) (b a : Option World) (r : Result (Unit {0}) Fault) (z : Result (Unit {0}) Ending) → asks ≡ Goes (Append bytes ∷ []) → Passes r z → LeavesPrefix r b a bytes appended → OnOk r (IfSome b (λ w. IsSome w.output)) → (IsTrue st → IsErrOf r faults.Failed → IfSome b (λ w. w.output ≡ None)) → IfKnown b a (PartWorld st asks z p p)
+pub append_leaves : (st : Bool) (asks : Asked) (bytes : List ℕ) (p : Option (List ℕ)) (b a : Option World) (r : Result (Unit {0}) Fault) (z : Result (Unit {0}) Ending) → asks ≡ Goes (Append bytes ∷ []) → Passes r z → IsAfterAppend r b a bytes appended → OnOk r (IfSome b (λ w. IsSome w.output)) → (IsTrue st → IsErrOf r faults.Failed → IfSome b (λ w. w.output ≡ None)) → IfKnown b a (PartWorld st asks z p p)
 append_leaves st asks bytes p None a r z is h t o c = tt
 append_leaves st asks bytes p (Some w) a r z is h t o c =
     passed (λ y. IfKnown (Some w) a (PartWorld st asks y p p)) r z h
@@ -61,7 +61,7 @@ append_leaves st asks bytes p (Some w) a r z is h t o c =
     (λ e. rw (rw e at t) (none_done st asks p w))
 
 -- The output is to be finished.
-pub finish_leaves : (st : Bool) (p : Option (List ℕ)) (b a : Option World) (r : Result (Unit {0}) Fault) (z : Result (Unit {0}) Ending) → Passes r z → Leaves r b a (λ _. finished) finished → OnOk r (IfSome b (λ w. IsSome w.output)) → (IsTrue st → IsErrOf r faults.Failed → IfSome b (λ w. w.output ≡ None)) → IfKnown b a (PartWorld st (Goes (Finish ∷ [])) z p p)
+pub finish_leaves : (st : Bool) (p : Option (List ℕ)) (b a : Option World) (r : Result (Unit {0}) Fault) (z : Result (Unit {0}) Ending) → Passes r z → IsAfterCall r b a (λ _. finished) finished → OnOk r (IfSome b (λ w. IsSome w.output)) → (IsTrue st → IsErrOf r faults.Failed → IfSome b (λ w. w.output ≡ None)) → IfKnown b a (PartWorld st (Goes (Finish ∷ [])) z p p)
 finish_leaves st p None a r z h t o c = tt
 finish_leaves st p (Some w) a r z h t o c =
     let asks = Goes (Finish ∷ []) in
@@ -89,7 +89,7 @@ chunk_tallied target number (readings.Flawed f) y a is = rw is (tt, (refl, refl,
 chunk_tallied target number readings.Memory y a is = rw is (refl, refl, refl, refl)
 
 -- The input could not be opened, and nothing is done.
-pub open_failed : (st : Bool) (r : Rule) (earlier : List (List ℕ)) (input : List ℕ) (fault : Fault) (y : Ending) (o : Option (List ℕ)) (b a : Option World) → y ≡ after_read fault → Leaves {T = Unit {0}} (Err fault) b a (λ _. opened input) shut → (IsTrue st → IsErrOf {T = Unit {0}} (Err fault) faults.Failed → IfSome b (λ w. file w input ≡ None)) → IfKnown b a (OutcomeOf st r earlier input o o (command_end y))
+pub open_failed : (st : Bool) (r : Rule) (earlier : List (List ℕ)) (input : List ℕ) (fault : Fault) (y : Ending) (o : Option (List ℕ)) (b a : Option World) → y ≡ after_read fault → IsAfterCall {T = Unit {0}} (Err fault) b a (λ _. opened input) shut → (IsTrue st → IsErrOf {T = Unit {0}} (Err fault) faults.Failed → IfSome b (λ w. file w input ≡ None)) → IfKnown b a (OutcomeOf st r earlier input o o (command_end y))
 open_failed st r earlier input fault y o None a is t c = tt
 open_failed st r earlier input faults.Failed y o (Some w) a is t c = rw is (rw t (refl, λ k. c k refl))
 open_failed st r earlier input faults.Memory y o (Some w) a is t c = rw is (rw t (record { first = []; rest = _; parts = refl; holds = refl }))

@@ -9,7 +9,7 @@ use Rattle.jfr_plan.specs.Ends.{End, CommandEnd, Ends, NotRead, NotWritten, RanO
 use Rattle.jfr_plan.specs.Effects.{Outside, Effect, Snapshot, outside, snapshot, done, broken, Cannot}
 use Rattle.jfr_plan.specs.Rules.{Stops, Goes, Target, File, Parts, Text}
 use Rattle.jfr_plan.specs.Outcomes.{SomeDone, Breaks, Unchanged, Counted, Tallied, Rises}
-use Rattle.jfr_plan.specs.Parts.{PartEnded, PartOutcome, PartWorld, PartTallied, PlaceLeaves, PlaceCounts, WriteRises}
+use Rattle.jfr_plan.specs.Parts.{PartEnded, PartOutcome, PartWorld, PartTallied, IsPlaceAfter, PlaceCounts, WriteRises}
 use Rattle.jfr_plan.proofs.Walking.{done_append}
 
 -- More effects come after these.
@@ -76,19 +76,19 @@ stands_after st a b (Ok x) s t u e h = (refl, h.1 ∙ ap (done b) e ∙ sym (don
 stands_after st a b (Err x) s t u e h = ended_after st a b (command_end x) s t u e h
 
 -- One part ended, of which more was asked.
-pub leaves_more : (a b : List Effect) (e : Ending) (x y : State) → PlaceLeaves a (Err e) x y → PlaceLeaves (a ++ b) (Err e) x y
+pub leaves_more : (a b : List Effect) (e : Ending) (x y : State) → IsPlaceAfter a (Err e) x y → IsPlaceAfter (a ++ b) (Err e) x y
 leaves_more a b e x y h = λ sink.
     map_known x.contents y.contents (PartWorld x.steady (Goes a) (Err e) sink.written sink.written) (PartWorld x.steady (Goes (a ++ b)) (Err e) sink.written sink.written) (h sink)
     (λ w v k. (k.0, ended_more x.steady a b (command_end e) (snapshot w sink.written) (snapshot v sink.written) k.1))
 
 -- One part of the command was done, and memory ran out in the next.
-pub leaves_none : (a b : List Effect) (o : Unit {0}) (x y : State) → PlaceLeaves a (Ok o) x y → PlaceLeaves (a ++ b) (Err Memory) x y
+pub leaves_none : (a b : List Effect) (o : Unit {0}) (x y : State) → IsPlaceAfter a (Ok o) x y → IsPlaceAfter (a ++ b) (Err Memory) x y
 leaves_none a b o x y h = λ sink.
     map_known x.contents y.contents (PartWorld x.steady (Goes a) (Ok o) sink.written sink.written) (PartWorld x.steady (Goes (a ++ b)) (Err Memory) sink.written sink.written) (h sink)
     (λ w v k. (k.0, record { first = a; rest = b; parts = refl; holds = k.1.1 }))
 
 -- One part went on, and then the next was done.
-pub leaves_then : (a b : List Effect) (o : Unit {0}) (r : Result (Unit {0}) Ending) (x y z : State) → PlaceCounts (Ok o) x y → PlaceLeaves a (Ok o) x y → PlaceLeaves b r y z → PlaceLeaves (a ++ b) r x z
+pub leaves_then : (a b : List Effect) (o : Unit {0}) (r : Result (Unit {0}) Ending) (x y z : State) → PlaceCounts (Ok o) x y → IsPlaceAfter a (Ok o) x y → IsPlaceAfter b r y z → IsPlaceAfter (a ++ b) r x z
 leaves_then a b o r x y z c h k = λ sink.
     chain_known x.contents y.contents z.contents (PartWorld x.steady (Goes a) (Ok o) sink.written sink.written) (PartWorld x.steady (Goes b) r sink.written sink.written) (PartWorld x.steady (Goes (a ++ b)) r sink.written sink.written) (h sink)
     (subst (λ (st : Bool). IfKnown y.contents z.contents (PartWorld st (Goes b) r sink.written sink.written)) (c sink).3 (k sink))

@@ -35,28 +35,28 @@ over r input = record {
 }
 
 -- If the place's files are known, the claim holds of them and of the text written, before and after a call.
-abbrev pub Stands : Outside → Outside → (World → World → Snapshot → Snapshot → Type 0) → Type 0
-Stands a b P = IfKnown a.place.contents b.place.contents (λ w v. P w v (snapshot w a.sink.written) (snapshot v b.sink.written))
+abbrev pub IfFilesKnown : Outside → Outside → (World → World → Snapshot → Snapshot → Type 0) → Type 0
+IfFilesKnown a b P = IfKnown a.place.contents b.place.contents (λ w v. P w v (snapshot w a.sink.written) (snapshot v b.sink.written))
 
 -- The state after a task, for each way in which it can end.
-abbrev pub Leaves : Task → CommandEnd → Outside → Outside → Type 0
-Leaves k ended a b = Stands a b (λ w v. Outcome a.place.steady (k.plan w) (k.Halts a.place.steady w v) ended)
+abbrev pub IsAfterTask : Task → CommandEnd → Outside → Outside → Type 0
+IsAfterTask k ended a b = IfFilesKnown a b (λ w v. Outcome a.place.steady (k.plan w) (k.Halts a.place.steady w v) ended)
 
 -- The plan has this end, and all its effects are done.
 abbrev pub Ended : Task → End → Outside → Outside → Type 0
-Ended k e a b = Stands a b (λ w v. AllDone (k.plan w) e)
+Ended k e a b = IfFilesKnown a b (λ w v. AllDone (k.plan w) e)
 
 -- A read failed: over one input exactly the effects are done whose need is met.
 abbrev pub Halted : Task → Outside → Outside → Type 0
-Halted k a b = Stands a b (k.Halts a.place.steady)
+Halted k a b = IfFilesKnown a b (k.Halts a.place.steady)
 
 -- The first effects are done, and of the next one, which failed, a prefix of its bytes.
 abbrev pub Broken : Task → Outside → Outside → Type 0
-Broken k a b = Stands a b (λ w v. Breaks a.place.steady (effects (k.plan w).steps))
+Broken k a b = IfFilesKnown a b (λ w v. Breaks a.place.steady (effects (k.plan w).steps))
 
 -- The first effects are done.
 abbrev pub Partly : Task → Outside → Outside → Type 0
-Partly k a b = Stands a b (λ w v. SomeDone (effects (k.plan w).steps))
+Partly k a b = IfFilesKnown a b (λ w v. SomeDone (effects (k.plan w).steps))
 
 -- The command ended with the plan's end, or because memory ran out.
 pub data IsPlanned (ended : CommandEnd) (o : Option End) : Type 0 where
@@ -80,7 +80,7 @@ IsComplete k ended a b =
 -- What a call that carries out a task promises, by its answer.
 pub record Ran (task : Task) (result : Ending) (before after : Outside) : Type 0 where
   -- What is there after the call, and which counts rose, by the answer.
-  pub contents : Leaves task (command_end result) before after
+  pub contents : IsAfterTask task (command_end result) before after
   pub counts : Tallied task.target (command_end result) before after
   -- What is there after each answer, if the place's files are known.
   pub done : result ≡ ending.Done → Ended task Fine before after

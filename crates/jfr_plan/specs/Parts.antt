@@ -28,8 +28,8 @@ abbrev pub PartWorld : Bool → Asked → Result (Unit {0}) Ending → Option (L
 PartWorld steady a result text text' w v = (v.input ≡ w.input) × PartOutcome steady a result (snapshot w text) (snapshot v text')
 
 -- The state after a part that has to do this, if the files of the place are known.
-abbrev pub PartLeaves : Asked → Result (Unit {0}) Ending → Outside → Outside → Type 0
-PartLeaves a result before now = IfKnown before.place.contents now.place.contents (PartWorld before.place.steady a result before.sink.written now.sink.written)
+abbrev pub IsAfterPart : Asked → Result (Unit {0}) Ending → Outside → Outside → Type 0
+IsAfterPart a result before now = IfKnown before.place.contents now.place.contents (PartWorld before.place.steady a result before.sink.written now.sink.written)
 
 -- The counts that rose in a part, for each result.
 abbrev pub PartTallied : Target → Result (Unit {0}) Ending → Outside → Outside → Type 0
@@ -37,8 +37,8 @@ PartTallied target (Ok x) a b = Counted Unchanged Unchanged Unchanged a b
 PartTallied target (Err e) a b = Tallied target (command_end e) a b
 
 -- The state of a place after these effects on it, with any sink.
-abbrev pub PlaceLeaves : List Effect → Result (Unit {0}) Ending → State → State → Type 0
-PlaceLeaves es result a b = (sink : SinkState) → PartLeaves (Goes es) result (outside a sink) (outside b sink)
+abbrev pub IsPlaceAfter : List Effect → Result (Unit {0}) Ending → State → State → Type 0
+IsPlaceAfter es result a b = (sink : SinkState) → IsAfterPart (Goes es) result (outside a sink) (outside b sink)
 
 -- The count of write faults, for each result of effects on a place: it rises with a write fault. The only
 -- other failure is that memory runs out.

@@ -1,6 +1,6 @@
 //! The position in a recording, of one file or several.
 ghost use Rattle.std.specs.Prelude.{◌≡◌, ◌+◌, ◌≤◌, ◌^◌, [], true, false, IsTrue, IfSome, None};
-ghost use Rattle.jfr_header.specs.Taking.{Tells};
+ghost use Rattle.jfr_header.specs.Taking.{IfContentsKnown};
 ghost use Rattle.jfr_header.specs.Nexts.{NextOf, CutOf, Counted};
 
 use jfr_header::{ChunkCutter, Cut};
@@ -52,7 +52,7 @@ impl Position {
     pub(crate) fn next<P: Place>(&mut self, place: &mut P) -> Cut
         requires { self.old.live ≡ true }
         ensures cut { CutOf result self.old self.new }
-        ensures contents { Tells (P.state place.old) (P.state place.new) (NextOf result self.old self.new) }
+        ensures contents { IfContentsKnown (P.state place.old) (P.state place.new) (NextOf result self.old self.new) }
         ensures counts { Counted result (P.state place.old).read_faults (P.state place.new).read_faults }
         ensures writes { (P.state place.new).write_faults ≡ (P.state place.old).write_faults }
         ensures steady { (P.state place.new).steady ≡ (P.state place.old).steady }

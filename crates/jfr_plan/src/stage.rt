@@ -6,7 +6,7 @@ ghost use Rattle.jfr_plan.specs.Ends.{command_end};
 ghost use Rattle.jfr_plan.specs.Effects.{outside};
 ghost use Rattle.jfr_plan.specs.Rules.{Rule, Goes};
 ghost use Rattle.jfr_plan.specs.Outcomes.{After, OutcomeOf, Tallied};
-ghost use Rattle.jfr_plan.specs.Parts.{PartLeaves, PartTallied};
+ghost use Rattle.jfr_plan.specs.Parts.{IsAfterPart, PartTallied};
 ghost use Rattle.jfr_plan.specs.Goings.{Staged, IsAt, IsPast};
 
 use crate::Position;
@@ -25,7 +25,7 @@ pub trait Stage {
 
     /// Does what the command does when the input is open.
     fn opened<P: Place, O: Sink>(&self, place: &mut P, out: &mut O) -> Result<(), Ending>
-        ensures contents { PartLeaves (Goes (rule self.now).opens) result
+        ensures contents { IsAfterPart (Goes (rule self.now).opens) result
             (outside (P.state place.old) (O.state out.old))
             (outside (P.state place.new) (O.state out.new)) }
         ensures counts { PartTallied (rule self.now).target result
@@ -46,7 +46,7 @@ pub trait Stage {
         ensures seen { (before : List (List ℕ)) → seen self.old before → number ≡ length before + 1
             → OnOk result (seen self.new (before ++ chunk.now ∷ [])) }
         ensures contents { (before : List (List ℕ)) → seen self.old before → number ≡ length before + 1
-            → PartLeaves ((rule self.old).asks before chunk.now) result
+            → IsAfterPart ((rule self.old).asks before chunk.now) result
             (outside (P.state place.old) (O.state out.old))
             (outside (P.state place.new) (O.state out.new)) }
         ensures counts { PartTallied (rule self.old).target result
@@ -56,7 +56,7 @@ pub trait Stage {
     /// Does what the command does at the input's end.
     fn end<P: Place, O: Sink>(&self, place: &mut P, out: &mut O) -> Result<(), Ending>
         ensures contents { (before : List (List ℕ)) → seen self.now before
-            → PartLeaves (Goes ((rule self.now).ends before)) result
+            → IsAfterPart (Goes ((rule self.now).ends before)) result
             (outside (P.state place.old) (O.state out.old))
             (outside (P.state place.new) (O.state out.new)) }
         ensures counts { PartTallied (rule self.now).target result

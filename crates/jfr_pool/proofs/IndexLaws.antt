@@ -13,7 +13,7 @@ use Rattle.jfr_pool.specs.declared.index.TheConstants.{REACH}
 use Rattle.jfr_pool.specs.declared.table.Table.{Table}
 use Rattle.jfr_pool.specs.Tables.{ordinal_at}
 use Rattle.jfr_pool.specs.Entries.{number_in_force}
-use Rattle.jfr_pool.specs.Index.{target_cmp, Placed, held, number_in, is_open, slot_at, seat_from, home, seat, number_at, number_of, Indexes}
+use Rattle.jfr_pool.specs.Index.{target_cmp, Placed, held, number_in, is_open, slot_at, open_slot_from, home, open_slot, number_at, number_of, Indexes}
 use Rattle.jfr_pool.proofs.Targets.{clash, hits, same_target, target_same, eq_target, force_push, force_none, some_push}
 use Rattle.jfr_pool.proofs.Seats.{home_same, seat_found, held_numbered, none_of}
 
@@ -54,48 +54,48 @@ module _ (old new : Index) (e : EntryAt) (number place : ℕ) (within : place < 
   elsewhere : (i : ℕ) → i ≢ place → held (slot_at new.slots.items i) ≡ held (slot_at old.slots.items i)
   elsewhere i h = ap (λ z. held (slot_at z i)) slots ∙ ap held (get_or-set_other old.slots.items place i _ empty h)
 
-  -- The seat is open.
-  seat_open : (n at : ℕ) → seat_from n at old.slots.items (e.class, e.key) ≡ Some place → is_open (held (slot_at old.slots.items place)) (e.class, e.key) ≡ true
+  -- The open_slot is open.
+  seat_open : (n at : ℕ) → open_slot_from n at old.slots.items (e.class, e.key) ≡ Some place → is_open (held (slot_at old.slots.items place)) (e.class, e.key) ≡ true
   seat_open zero at h = cc
   seat_open (suc n) at h = by_test (is_open (held (slot_at old.slots.items at)) (e.class, e.key)) refl h (seat_open n (at + 1))
     where
-      by_test : (b : Bool) → is_open (held (slot_at old.slots.items at)) (e.class, e.key) ≡ b → (if b then Some at else seat_from n (at + 1) old.slots.items (e.class, e.key)) ≡ Some place → (seat_from n (at + 1) old.slots.items (e.class, e.key) ≡ Some place → is_open (held (slot_at old.slots.items place)) (e.class, e.key) ≡ true) → is_open (held (slot_at old.slots.items place)) (e.class, e.key) ≡ true
+      by_test : (b : Bool) → is_open (held (slot_at old.slots.items at)) (e.class, e.key) ≡ b → (if b then Some at else open_slot_from n (at + 1) old.slots.items (e.class, e.key)) ≡ Some place → (open_slot_from n (at + 1) old.slots.items (e.class, e.key) ≡ Some place → is_open (held (slot_at old.slots.items place)) (e.class, e.key) ≡ true) → is_open (held (slot_at old.slots.items place)) (e.class, e.key) ≡ true
       by_test true f h k = let q : at ≡ place = cc in ap (λ i. is_open (held (slot_at old.slots.items i)) (e.class, e.key)) (sym q) ∙ f
       by_test false f h k = k h
 
   -- It is still the first.
-  seat_stays : (n at : ℕ) → seat_from n at old.slots.items (e.class, e.key) ≡ Some place → seat_from n at new.slots.items (e.class, e.key) ≡ Some place
+  seat_stays : (n at : ℕ) → open_slot_from n at old.slots.items (e.class, e.key) ≡ Some place → open_slot_from n at new.slots.items (e.class, e.key) ≡ Some place
   seat_stays zero at h = cc
   seat_stays (suc n) at h = by_place (cases_eq at place) (seat_stays n (at + 1))
     where
-      by_test : (b : Bool) → at ≢ place → (if b then Some at else seat_from n (at + 1) old.slots.items (e.class, e.key)) ≡ Some place → (seat_from n (at + 1) old.slots.items (e.class, e.key) ≡ Some place → seat_from n (at + 1) new.slots.items (e.class, e.key) ≡ Some place) → (if b then Some at else seat_from n (at + 1) new.slots.items (e.class, e.key)) ≡ Some place
+      by_test : (b : Bool) → at ≢ place → (if b then Some at else open_slot_from n (at + 1) old.slots.items (e.class, e.key)) ≡ Some place → (open_slot_from n (at + 1) old.slots.items (e.class, e.key) ≡ Some place → open_slot_from n (at + 1) new.slots.items (e.class, e.key) ≡ Some place) → (if b then Some at else open_slot_from n (at + 1) new.slots.items (e.class, e.key)) ≡ Some place
       by_test true q h k = h
       by_test false q h k = k h
 
-      by_place : ((at ≡ place) ⊎ (at ≢ place)) → (seat_from n (at + 1) old.slots.items (e.class, e.key) ≡ Some place → seat_from n (at + 1) new.slots.items (e.class, e.key) ≡ Some place) → seat_from (suc n) at new.slots.items (e.class, e.key) ≡ Some place
+      by_place : ((at ≡ place) ⊎ (at ≢ place)) → (open_slot_from n (at + 1) old.slots.items (e.class, e.key) ≡ Some place → open_slot_from n (at + 1) new.slots.items (e.class, e.key) ≡ Some place) → open_slot_from (suc n) at new.slots.items (e.class, e.key) ≡ Some place
       by_place (inl q) k = rw (ap (λ i. held (slot_at new.slots.items i)) q ∙ here, target_same e.class e.key (e.class, e.key) refl) (ap (λ i. Some i) q)
       by_place (inr q) k = rw (elsewhere at q) (by_test (is_open (held (slot_at old.slots.items at)) (e.class, e.key)) q h k)
 
   -- The numbers of others are still found.
   abbrev Stays : ℕ × ℕ → ℕ → ℕ → ℕ → Type 0
-  Stays t m n at = number_at old t (seat_from n at old.slots.items t) ≡ Some m → number_at new t (seat_from n at new.slots.items t) ≡ Some m
+  Stays t m n at = number_at old t (open_slot_from n at old.slots.items t) ≡ Some m → number_at new t (open_slot_from n at new.slots.items t) ≡ Some m
 
   number_stays : (t : ℕ × ℕ) (m : ℕ) → hits e t ≡ false → is_open (held (slot_at old.slots.items place)) (e.class, e.key) ≡ true → (n at : ℕ) → Stays t m n at
   number_stays t m apart was_open zero at h = ap (λ z. get target_cmp z t) others ∙ h
   number_stays t m apart was_open (suc n) at h = by_place (cases_eq at place) (number_stays t m apart was_open n (at + 1))
     where
-      by_test : (b : Bool) → at ≢ place → number_at old t (if b then Some at else seat_from n (at + 1) old.slots.items t) ≡ Some m → Stays t m n (at + 1) → number_at new t (if b then Some at else seat_from n (at + 1) new.slots.items t) ≡ Some m
+      by_test : (b : Bool) → at ≢ place → number_at old t (if b then Some at else open_slot_from n (at + 1) old.slots.items t) ≡ Some m → Stays t m n (at + 1) → number_at new t (if b then Some at else open_slot_from n (at + 1) new.slots.items t) ≡ Some m
       by_test true q h k = ap (option_map (λ (p : Placed). p.number)) (elsewhere at q) ∙ h
       by_test false q h k = k h
 
-      by_slot : (slot : Option Placed) → held (slot_at old.slots.items at) ≡ slot → is_open slot (e.class, e.key) ≡ true → number_at old t (if is_open slot t then Some at else seat_from n (at + 1) old.slots.items t) ≡ Some m → Stays t m n (at + 1) → number_at new t (seat_from n (at + 1) new.slots.items t) ≡ Some m
+      by_slot : (slot : Option Placed) → held (slot_at old.slots.items at) ≡ slot → is_open slot (e.class, e.key) ≡ true → number_at old t (if is_open slot t then Some at else open_slot_from n (at + 1) old.slots.items t) ≡ Some m → Stays t m n (at + 1) → number_at new t (open_slot_from n (at + 1) new.slots.items t) ≡ Some m
       by_slot None f o h k = let g = ap (option_map (λ (p : Placed). p.number)) f in cc
       by_slot (Some p) f o h k =
           let same : (p.class, p.key) ≡ (e.class, e.key) = same_target p.class p.key (e.class, e.key) o in
           let g : is_open (Some p) t ≡ false = ap (λ (z : ℕ × ℕ). (z.0 == t.0) && (z.1 == t.1)) same ∙ apart in
           k (rw g at h)
 
-      by_place : ((at ≡ place) ⊎ (at ≢ place)) → Stays t m n (at + 1) → number_at new t (seat_from (suc n) at new.slots.items t) ≡ Some m
+      by_place : ((at ≡ place) ⊎ (at ≢ place)) → Stays t m n (at + 1) → number_at new t (open_slot_from (suc n) at new.slots.items t) ≡ Some m
       by_place (inl q) k =
           rw (ap (λ i. held (slot_at new.slots.items i)) q ∙ here, apart) (by_slot (held (slot_at old.slots.items at)) refl (ap (λ i. is_open (held (slot_at old.slots.items i)) (e.class, e.key)) q ∙ was_open) h k)
       by_place (inr q) k = rw (elsewhere at q) (by_test (is_open (held (slot_at old.slots.items at)) t) q h k)
@@ -104,16 +104,16 @@ module _ (old new : Index) (e : EntryAt) (number place : ℕ) (within : place < 
   homes_stay t = home_same new.slots.items old.slots.items t (ap length slots ∙ length-set old.slots.items place _)
 
   some_stays : (t : ℕ × ℕ) (m : ℕ) → hits e t ≡ false → is_open (held (slot_at old.slots.items place)) (e.class, e.key) ≡ true → number_of old t ≡ Some m → number_of new t ≡ Some m
-  unfolding seat
+  unfolding open_slot
   some_stays t m apart was_open = by_class (nat_lt t.0 (2 ^ 32))
     where
-      by_class : (b : Bool) → number_at old t (if b then seat_from REACH (home old.slots.items t) old.slots.items t else None) ≡ Some m → number_at new t (if b then seat_from REACH (home new.slots.items t) new.slots.items t else None) ≡ Some m
+      by_class : (b : Bool) → number_at old t (if b then open_slot_from REACH (home old.slots.items t) old.slots.items t else None) ≡ Some m → number_at new t (if b then open_slot_from REACH (home new.slots.items t) new.slots.items t else None) ≡ Some m
       by_class true h = rw (homes_stay t) (number_stays t m apart was_open REACH (home old.slots.items t) h)
       by_class false h = ap (λ z. get target_cmp z t) others ∙ h
 
-  module _ (found : seat old.slots.items (e.class, e.key) ≡ Some place) (by_class : List Table) (es : List EntryAt) (h : Indexes by_class old es) where
+  module _ (found : open_slot old.slots.items (e.class, e.key) ≡ Some place) (by_class : List Table) (es : List EntryAt) (h : Indexes by_class old es) where
     own : number_of new (e.class, e.key) ≡ Some number
-    unfolding seat
+    unfolding open_slot
     own =
         let f = seat_found old.slots.items (e.class, e.key) place found in
         rw (f.0, homes_stay (e.class, e.key), seat_stays REACH (home old.slots.items (e.class, e.key)) f.1) (ap (option_map (λ (p : Placed). p.number)) here)
@@ -159,9 +159,9 @@ module _ (old new : Index) (e : EntryAt) (number place : ℕ) (within : place < 
         by_place i p q (inr r) = some_push es e (p.class, p.key) (inr (h.in_slots i p (sym (elsewhere i r) ∙ q)))
 
 -- If no slot is open, the entry is put among the others.
-pub passed : (by_class : List Table) (old new : Index) (e : EntryAt) (number : ℕ) (es : List EntryAt) → seat old.slots.items (e.class, e.key) ≡ None → new.slots.items ≡ old.slots.items → Updates target_cmp old.others new.others (e.class, e.key) (Some number) → Indexes by_class old es → length es ≡ number → Indexes by_class new (es ++ e ∷ [])
+pub passed : (by_class : List Table) (old new : Index) (e : EntryAt) (number : ℕ) (es : List EntryAt) → open_slot old.slots.items (e.class, e.key) ≡ None → new.slots.items ≡ old.slots.items → Updates target_cmp old.others new.others (e.class, e.key) (Some number) → Indexes by_class old es → length es ≡ number → Indexes by_class new (es ++ e ∷ [])
 passed by_class old new e number es none slots u h n = record {
-  leads = λ t out. passed_number t (seat old.slots.items t) refl ∙ ap (cond (hits e t) (Some number)) (h.leads t out) ∙ ap (λ m. cond (hits e t) (Some m) (number_in_force es t)) (sym n) ∙ sym (force_push es e t);
+  leads = λ t out. passed_number t (open_slot old.slots.items t) refl ∙ ap (cond (hits e t) (Some number)) (h.leads t out) ∙ ap (λ m. cond (hits e t) (Some m) (number_in_force es t)) (sym n) ∙ sym (force_push es e t);
   in_slots = λ i p q. some_push es e (p.class, p.key) (inr (h.in_slots i p (ap (λ z. held (slot_at z i)) (sym slots) ∙ q)));
   in_others = λ t q. by_test t (hits e t) refl (subst (λ o. IsSome o) (updated t) q);
 }
@@ -169,16 +169,16 @@ passed by_class old new e number es none slots u h n = record {
     updated : (t : ℕ × ℕ) → get target_cmp new.others t ≡ cond (hits e t) (Some number) (get target_cmp old.others t)
     updated t = u.0 t ∙ ap (λ b. cond b (Some number) (get target_cmp old.others t)) (eq_target (e.class, e.key) t)
 
-    passed_number : (t : ℕ × ℕ) (o : Option ℕ) → seat old.slots.items t ≡ o → number_of new t ≡ cond (hits e t) (Some number) (number_of old t)
-    passed_number t None q = ap (number_at new t) (ap (λ z. seat z t) slots ∙ q) ∙ updated t ∙ ap (cond (hits e t) (Some number)) (sym (ap (number_at old t) q))
+    passed_number : (t : ℕ × ℕ) (o : Option ℕ) → open_slot old.slots.items t ≡ o → number_of new t ≡ cond (hits e t) (Some number) (number_of old t)
+    passed_number t None q = ap (number_at new t) (ap (λ z. open_slot z t) slots ∙ q) ∙ updated t ∙ ap (cond (hits e t) (Some number)) (sym (ap (number_at old t) q))
     passed_number t (Some place) q = by_hit (hits e t) refl
       where
         differ : (o : Option ℕ) → o ≡ None → o ≡ Some place → ⊥
         differ o f g = cc
 
         by_hit : (b : Bool) → hits e t ≡ b → number_of new t ≡ cond b (Some number) (number_of old t)
-        by_hit true f = absurd (differ (seat old.slots.items t) (ap (seat old.slots.items) (sym (same_target e.class e.key t f)) ∙ none) q)
-        by_hit false f = ap (number_at new t) (ap (λ z. seat z t) slots ∙ q) ∙ ap (λ z. number_in (slot_at z place)) slots ∙ sym (ap (number_at old t) q)
+        by_hit true f = absurd (differ (open_slot old.slots.items t) (ap (open_slot old.slots.items) (sym (same_target e.class e.key t f)) ∙ none) q)
+        by_hit false f = ap (number_at new t) (ap (λ z. open_slot z t) slots ∙ q) ∙ ap (λ z. number_in (slot_at z place)) slots ∙ sym (ap (number_at old t) q)
 
     by_test : (t : ℕ × ℕ) (b : Bool) → hits e t ≡ b → IsSome (cond b (Some number) (get target_cmp old.others t)) → IsSome (number_in_force (es ++ e ∷ []) t)
     by_test t true f s = some_push es e t (inl f)

@@ -43,9 +43,9 @@ abbrev pub slot_at : List Slot → ℕ → Slot
 slot_at slots place = slice_index_or slots place (record { key = 0; class = 0; ordinal = 0 })
 
 -- The index of the first open slot, of n slots from an index on.
-abbrev pub seat_from : ℕ → ℕ → List Slot → ℕ × ℕ → Option ℕ
-seat_from zero place slots t = None
-seat_from (suc n) place slots t = if is_open (held (slot_at slots place)) t then Some place else seat_from n (place + 1) slots t
+abbrev pub open_slot_from : ℕ → ℕ → List Slot → ℕ × ℕ → Option ℕ
+open_slot_from zero place slots t = None
+open_slot_from (suc n) place slots t = if is_open (held (slot_at slots place)) t then Some place else open_slot_from n (place + 1) slots t
 
 -- The slot where the search for a class and key starts. The two are mixed into a number of 64 bits, which is
 -- scaled to the slots that have at least REACH others after them.
@@ -54,8 +54,8 @@ home slots t = bit_xor t.1 (t.0 * 2 ^ CLASS_AT % 2 ^ 64) * MIX % 2 ^ 64 * (lengt
 
 -- The index of the first open slot within reach, if there is one. A class that is too large for a slot has
 -- none.
-unfoldable pub seat : List Slot → ℕ × ℕ → Option ℕ
-seat slots t = if nat_lt t.0 (2 ^ 32) then seat_from REACH (home slots t) slots t else None
+unfoldable pub open_slot : List Slot → ℕ × ℕ → Option ℕ
+open_slot slots t = if nat_lt t.0 (2 ^ 32) then open_slot_from REACH (home slots t) slots t else None
 
 -- The number in the slot with this index; without an index, the one in the map of the others.
 abbrev pub number_at : Index → ℕ × ℕ → Option ℕ → Option ℕ
@@ -64,7 +64,7 @@ number_at index t None = get target_cmp index.others t
 
 -- The number that the index has for a class and key.
 abbrev pub number_of : Index → ℕ × ℕ → Option ℕ
-number_of index t = number_at index t (seat index.slots.items t)
+number_of index t = number_at index t (open_slot index.slots.items t)
 
 -- For each class and key that no table has, the index has the number of the entry in force, if there is one;
 -- and it has only classes and keys of entries.

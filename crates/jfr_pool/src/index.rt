@@ -74,14 +74,14 @@ impl Index {
     ghost use Rattle.std.specs.Prelude.{List};
     ghost use Rattle.jfr_pool.specs.declared.entry.EntryAt.{EntryAt};
     ghost use Rattle.jfr_pool.specs.declared.table.Table.{Table};
-    ghost use Rattle.jfr_pool.specs.Index.{Indexes, held, home, is_open, number_at, number_of, seat, seat_from, slot_at};
+    ghost use Rattle.jfr_pool.specs.Index.{Indexes, held, home, is_open, number_at, number_of, open_slot, open_slot_from, slot_at};
 
     /// The index of the entries that no direct table has.
     pub fn of(alloc: Global, entries: &[EntryAt], tables: &Tables) -> Result<Index, NoMemory>
         requires { length entries.now < 2 ^ 32 }
         ensures { IfOk result (λ index. Indexes tables.now.by_class.items index entries.now) }
     {
-        let mut index = Index::new(alloc, count_past(entries, tables))?;
+        let mut index = Index::new(alloc, untabled_count(entries, tables))?;
         for (number, entry) in entries.iter().enumerate() {
             index.take(entry, number, tables)?;
         }
@@ -102,13 +102,13 @@ impl Index {
         if slot.ordinal == 0 && class < CLASSES {
             return None;
         }
-        self.number_past(home, class, key)
+        self.number_beyond_home(home, class, key)
     }
 
     /// As `number`, for a class and a key whose home slot holds another class and key, or whose class has an
     /// id too large for a slot.
     #[inline(never)]
-    fn number_past(&self, place: usize, class: u64, key: u64) -> Option<usize>
+    fn number_beyond_home(&self, place: usize, class: u64, key: u64) -> Option<usize>
         requires home { place ≡ home self.now.slots.items (class, key) }
         requires within { place + REACH ≤ vec_len self.now.slots }
         requires closed { class < 2 ^ 32 → is_open (held (slot_at self.now.slots.items place)) (class, key) ≡ false }
@@ -166,7 +166,7 @@ impl Index {
         ensures { OnOk result ((by_class : List Table) (es : List EntryAt) → Indexes by_class self.old es → length es ≡ number → Indexes by_class self.new (es ++ entry.now ∷ [])) }
     {
         let (class, key) = (entry.class, entry.key);
-        match self.seat(class, key) {
+        match self.open_slot(class, key) {
             Some(place) => {
                 self.slots[place] = Slot {
                     key,
@@ -182,8 +182,8 @@ impl Index {
     }
 
     /// The first slot within reach that is empty or has this class and key.
-    fn seat(&self, class: u64, key: u64) -> Option<usize>
-        ensures exact { result ≡ seat self.now.slots.items (class, key) }
+    fn open_slot(&self, class: u64, key: u64) -> Option<usize>
+        ensures exact { result ≡ open_slot self.now.slots.items (class, key) }
         ensures within { IfSome result (λ place. (place < vec_len self.now.slots) × (class < 2 ^ 32)) }
     {
         if class >= CLASSES {
@@ -197,7 +197,7 @@ impl Index {
     #[inline(always)]
     fn first_open(&self, from: usize, end: usize, class: u64, key: u64) -> Option<usize>
         requires { end ≤ vec_len self.now.slots }
-        ensures exact { result ≡ seat_from (end - from) from self.now.slots.items (class, key) }
+        ensures exact { result ≡ open_slot_from (end - from) from self.now.slots.items (class, key) }
         ensures within { IfSome result (λ place. place < vec_len self.now.slots) }
     {
         for place in from..end {
@@ -222,7 +222,7 @@ impl Index {
 }
 
 /// The number of entries whose class and key no direct table has.
-fn count_past(entries: &[EntryAt], tables: &Tables) -> usize
+fn untabled_count(entries: &[EntryAt], tables: &Tables) -> usize
     ensures { result ≤ length entries.now }
 {
     entries

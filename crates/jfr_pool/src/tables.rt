@@ -7,10 +7,10 @@ use jfr_base::NoMemory;
 use std::alloc::Global;
 
 // Only classes with ids below this can have a table.
-const MAY_HAVE: u64 = 4096;
+const TABLE_ID_LIMIT: u64 = 4096;
 
 // Classes with ids below this always have a table, if only one for the key 0.
-const ALWAYS_HAVE: usize = 1024;
+const FIRST_TABLES: usize = 1024;
 
 // All tables of a chunk together may have this many ordinals, whatever the number of entries.
 const ORDINALS: usize = 65_536;
@@ -115,9 +115,9 @@ impl Tables {
 /// The range of the keys above 0 of each class, by the class's id: for all ids below `ALWAYS_HAVE`, and from
 /// there up to the largest id below `MAY_HAVE` that an entry has.
 fn key_ranges(alloc: Global, entries: &[EntryAt]) -> Result<Vec<KeyRange>, NoMemory> {
-    let mut ranges = vec![in alloc; NO_KEYS; ALWAYS_HAVE]?;
+    let mut ranges = vec![in alloc; NO_KEYS; FIRST_TABLES]?;
     for entry in entries {
-        if entry.class < MAY_HAVE {
+        if entry.class < TABLE_ID_LIMIT {
             widen(&mut ranges, entry.class as usize, entry.key)?;
         }
     }

@@ -98,7 +98,7 @@ module _ (together : ℕ × ℕ → ℕ × ℕ → Bool) (same : Together togeth
     pub key : smallest together us t ≡ pair.1
 
   pub least_is : (us : List (ℕ × ℕ)) (t : ℕ × ℕ) → Least us t
-  least_is [] t = record { pair = t; from = inl refl; together_with = same.itself t; key = refl }
+  least_is [] t = record { pair = t; from = inl refl; together_with = same.reflexive t; key = refl }
   least_is (u ∷ us) t = by_test (together u t) refl (least_is us t)
     where
       either : (a b : ℕ) → (a ≤ b) ⊎ (b ≤ a)
@@ -144,7 +144,7 @@ module _ (together : ℕ × ℕ → ℕ × ℕ → Bool) (same : Together togeth
     smallest_below t u i j q =
         let l = least_is us u in
         let e : smallest together us u ≡ l.pair.1 = l.key in
-        let m : smallest together us t ≤ l.pair.1 = by_from l.from (same.on l.pair u t l.together_with (same.back t u q)) in
+        let m : smallest together us t ≤ l.pair.1 = by_from l.from (same.transitive l.pair u t l.together_with (same.symmetric t u q)) in
         omega arith
       where
         by_from : (u ≡ (least_is us u).pair) ⊎ In us (least_is us u).pair → together (least_is us u).pair t ≡ true → smallest together us t ≤ (least_is us u).pair.1
@@ -154,7 +154,7 @@ module _ (together : ℕ × ℕ → ℕ × ℕ → Bool) (same : Together togeth
     pub smallest_same : (t u : ℕ × ℕ) → In us t → In us u → together t u ≡ true → smallest together us t ≡ smallest together us u
     smallest_same t u i j q =
         let a = smallest_below t u i j q in
-        let b = smallest_below u t j i (same.back t u q) in
+        let b = smallest_below u t j i (same.symmetric t u q) in
         omega arith
 
     -- With its class, the smallest key is a member of the group.
@@ -214,7 +214,7 @@ module _ (together : ℕ × ℕ → ℕ × ℕ → Bool) (same : Together togeth
         let f = first_of_group t i in
         let g = first_of_group u j in
         let h = by_order (order (smallest together us t) (smallest together us u)) in
-        same.on t (u.0, smallest together us u) u (same.back (u.0, smallest together us u) t (subst (λ z. together z t ≡ true) (ap (λ (z : ℕ). (z, smallest together us t)) c ∙ ap (λ (z : ℕ). (u.0, z)) h) f.1)) g.1
+        same.transitive t (u.0, smallest together us u) u (same.symmetric (u.0, smallest together us u) t (subst (λ z. together z t ≡ true) (ap (λ (z : ℕ). (z, smallest together us t)) c ∙ ap (λ (z : ℕ). (u.0, z)) h) f.1)) g.1
       where
         order : (a b : ℕ) → (a < b) ⊎ ((b < a) ⊎ (a ≡ b))
         order a b = grind arith

@@ -19,10 +19,10 @@ use Rattle.jfr_chunk.specs.Laws.{AreEvents}
 use Rattle.jfr_worklist.specs.Members.{In}
 use Rattle.jfr_worklist.proofs.Members.{contains_in, in_contains}
 use Rattle.jfr_chunk.proofs.HasNodesLaws.{IsEvent, has_nodes, event_is}
-use Rattle.jfr_renumber.specs.Rekeyed.{rekeyed, rekeyed_all, moved}
+use Rattle.jfr_renumber.specs.Rekeyed.{rekeyed, rekeyed_all, rekeyed_pair}
 use Rattle.jfr_renumber.specs.Renumber.{Used, new_key, firsts}
-use Rattle.jfr_renumber.specs.Meaning.{AreNewKeys, AreRenamed, RenamedMeaning}
-use Rattle.jfr_renumber.specs.Laws.{KeepsMeaning, RenamedRecord, RenamedRecords, AgreeOnUsed}
+use Rattle.jfr_renumber.specs.Meaning.{AreNewKeys, AreRekeyedEntries, RekeyedMeaning}
+use Rattle.jfr_renumber.specs.Laws.{KeepsMeaning, RekeyedRecord, RekeyedRecords, AgreeOnUsed}
 use Rattle.jfr_renumber.proofs.RekeyedLaws.{rekeyed_fits, rekeyed_shape, rekeyed_leaves, rekeyed_short}
 use Rattle.jfr_renumber.proofs.ValueLaws.{fits_once}
 use Rattle.jfr_renumber.proofs.UsedLaws.{new_keys}
@@ -35,16 +35,16 @@ both_there R None (Some b) r = absurd r
 both_there R (Some a) None r = absurd r
 
 mutual
-  rekeyed_targets : (new : ℕ × ℕ → ℕ) (v : Value) → targets_of (rekeyed new v) ≡ map (moved new) (targets_of v)
+  rekeyed_targets : (new : ℕ × ℕ → ℕ) (v : Value) → targets_of (rekeyed new v) ≡ map (rekeyed_pair new) (targets_of v)
   rekeyed_targets new (Single s kind b None) = refl
   rekeyed_targets new (Single s kind b (Some key)) = refl
   rekeyed_targets new (Group s h vs) = rekeyed_targets_all new vs
 
-  rekeyed_targets_all : (new : ℕ × ℕ → ℕ) (vs : Values) → targets_of_all (rekeyed_all new vs) ≡ map (moved new) (targets_of_all vs)
+  rekeyed_targets_all : (new : ℕ × ℕ → ℕ) (vs : Values) → targets_of_all (rekeyed_all new vs) ≡ map (rekeyed_pair new) (targets_of_all vs)
   rekeyed_targets_all new Nil = refl
   rekeyed_targets_all new (Cons v vs) =
       ap (λ z. z ++ targets_of_all (rekeyed_all new vs)) (rekeyed_targets new v)
-      ∙ (ap (λ z. map (moved new) (targets_of v) ++ z) (rekeyed_targets_all new vs) ∙ sym (map-append (moved new) (targets_of v) (targets_of_all vs)))
+      ∙ (ap (λ z. map (rekeyed_pair new) (targets_of v) ++ z) (rekeyed_targets_all new vs) ∙ sym (map-append (rekeyed_pair new) (targets_of v) (targets_of_all vs)))
 
 pub keeps_meaning : (new : ℕ × ℕ → ℕ) (k : Classes) (v : Value) → Sound k → Fits k v → KeepsMeaning new k v
 keeps_meaning new k v sound f =
@@ -72,7 +72,7 @@ module _ (p : Parts) (a : AreParts p) (kept : List EventAt) (are : AreEvents p k
     over_used : AgreeOnUsed p q kept → (t : ℕ × ℕ) → Used p kept t → (v : Value) → (shape_of v).class ≡ t.0 → Fits p.classes v → Fits q.classes v
     over_used agree t u v e f = fits_agree p.classes q.classes v (subst (Agree p.classes q.classes) (sym e) (agree t u)) f
 
-    pub event_paired : (e f : EventAt) → IsEvent p e → IsEvent q f → RenamedRecord new p q e f → PairedEvent p q (has_nodes p a) (has_nodes q b) new e f
+    pub event_paired : (e f : EventAt) → IsEvent p e → IsEvent q f → RekeyedRecord new p q e f → PairedEvent p q (has_nodes p a) (has_nodes q b) new e f
     event_paired e f i j h =
         let shape : shape_of j.value ≡ shape_of i.value = sym j.node.shape ∙ (j.shape ∙ (ap inline (sym h.class) ∙ (sym i.shape ∙ i.node.shape))) in
         let g : Agree p.classes q.classes (shape_of i.value).class = subst (λ (z : Shape). Agree p.classes q.classes z.class) (sym i.shape ∙ i.node.shape) h.agree in
@@ -82,18 +82,18 @@ module _ (p : Parts) (a : AreParts p) (kept : List EventAt) (are : AreEvents p k
         fits_once q.classes j.value (rekeyed new i.value) (has_nodes q b).sound j.node.fits (rekeyed_fits new q.classes i.value (fits_agree p.classes q.classes i.value g i.node.fits)) (shape ∙ sym (rekeyed_shape new i.value)) bytes in
         record { class = h.class; rest = h.rest; fields = record { value = i.value; other = j.value; left = i.node; right = j.node; related = same } }
 
-    pub events_paired : (es fs : List EventAt) → ((e : EventAt) → In es e → IsEvent p e) → ((f : EventAt) → In fs f → IsEvent q f) → RenamedRecords new p q es fs → PairedEvents p q (has_nodes p a) (has_nodes q b) new es fs
+    pub events_paired : (es fs : List EventAt) → ((e : EventAt) → In es e → IsEvent p e) → ((f : EventAt) → In fs f → IsEvent q f) → RekeyedRecords new p q es fs → PairedEvents p q (has_nodes p a) (has_nodes q b) new es fs
     events_paired [] [] i j h = tt
     events_paired [] (f ∷ fs) i j h = absurd h
     events_paired (e ∷ es) [] i j h = absurd h
     events_paired (e ∷ es) (f ∷ fs) i j h = (event_paired e f (i e (inl refl)) (j f (inl refl)) h.0, events_paired es fs (λ e k. i e (inr k)) (λ f k. j f (inr k)) h.1)
 
-    pub renamed_the_same : (others : List EventAt) → AreEvents q others → AreNewKeys p kept new → AgreeOnUsed p q kept → AreRenamed new p q (firsts p kept) q.entries → RenamedRecords new p q kept others → RenamedMeaning new p q kept others
+    pub renamed_the_same : (others : List EventAt) → AreEvents q others → AreNewKeys p kept new → AgreeOnUsed p q kept → AreRekeyedEntries new p q (firsts p kept) q.entries → RekeyedRecords new p q kept others → RekeyedMeaning new p q kept others
     renamed_the_same others those keys agree entries records =
         renamed_meaning p q (has_nodes p a) (has_nodes q b) new kept others
         (events_paired kept others kept_event (λ f i. event_is q b f (contains_in (events_of q) f (All-contains (Contains (events_of q)) others f those (in_contains others f i)))) records)
         (entries_paired p q (has_nodes p a) (has_nodes q b) new kept kept_nodes keys entries (over_used agree))
 
     -- What is used has an entry in force exactly if its new key has one.
-    pub same_missing : AreNewKeys p kept new → AgreeOnUsed p q kept → AreRenamed new p q (firsts p kept) q.entries → (t : ℕ × ℕ) → Used p kept t → IsSome (in_force p.entries t) ↔ IsSome (in_force q.entries (moved new t))
-    same_missing keys agree entries t u = both_there _ (in_force p.entries t) (in_force q.entries (moved new t)) (entries_paired p q (has_nodes p a) (has_nodes q b) new kept kept_nodes keys entries (over_used agree) t u)
+    pub same_missing : AreNewKeys p kept new → AgreeOnUsed p q kept → AreRekeyedEntries new p q (firsts p kept) q.entries → (t : ℕ × ℕ) → Used p kept t → IsSome (in_force p.entries t) ↔ IsSome (in_force q.entries (rekeyed_pair new t))
+    same_missing keys agree entries t u = both_there _ (in_force p.entries t) (in_force q.entries (rekeyed_pair new t)) (entries_paired p q (has_nodes p a) (has_nodes q b) new kept kept_nodes keys entries (over_used agree) t u)

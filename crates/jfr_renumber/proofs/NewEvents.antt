@@ -9,7 +9,7 @@ use Rattle.jfr_frame.specs.declared.framed.Framed.{Framed}
 use Rattle.jfr_frame.specs.Records.{IsRecord}
 use Rattle.jfr_chunk.specs.Parts.{Parts, EventAt, AreParts, metadata_at}
 use Rattle.jfr_chunk.specs.Reach.{kept_by, marked}
-use Rattle.jfr_chunk.specs.Scrub.{OutputRecord, Whole, Chained, Rebuilt, Written, output_records_whole, output_record_by, written_anew}
+use Rattle.jfr_chunk.specs.Scrub.{OutputRecord, Whole, Chained, Rebuilt, Written, is_kept_or_metadata, output_record_by, written_anew}
 use Rattle.jfr_worklist.specs.Members.{In}
 use Rattle.jfr_laws.proofs.ReadBack.{moved_frame}
 use Rattle.jfr_laws.proofs.Order.{Numbered, numbered_at, output_records_in}
@@ -45,7 +45,7 @@ module _ (p : Parts) (a : AreParts p) (flags : List Bool) (n : Anew p a (kept_by
   is_event r = is_event_class classes r.type_id
 
   abbrev whole : Framed → Bool
-  whole = output_records_whole p these
+  whole = is_kept_or_metadata p these
 
   abbrev anew : Framed → Option (List ℕ)
   anew = written_anew p these

@@ -25,7 +25,7 @@ use Rattle.jfr_base.specs.Formats.{Format, Reads}
 use Rattle.jfr_chunk.specs.Parts.{Parts, EventAt, AreParts, HasFields, metadata_at}
 use Rattle.jfr_chunk.specs.Reach.{marked, kept_by}
 use Rattle.jfr_chunk.specs.Written.{Group, distance}
-use Rattle.jfr_chunk.specs.Scrub.{OutputRecord, Whole, Chained, Rebuilt, groups_of, output_records_whole, output_records, output_record_by, written_anew}
+use Rattle.jfr_chunk.specs.Scrub.{OutputRecord, Whole, Chained, Rebuilt, groups_of, is_kept_or_metadata, output_records, output_record_by, written_anew}
 use Rattle.jfr_worklist.specs.Members.{In}
 use Rattle.jfr_chunk.proofs.AllLaws.{all_in, filter_all}
 use Rattle.jfr_chunk.proofs.HasNodesLaws.{IsEvent, has_nodes}
@@ -179,7 +179,7 @@ module _ (p : Parts) (a : AreParts p) (flags : List Bool) (n : Anew p a (kept_by
       let f = find_in (test r) kept e q in
       (f.0, record_one p.bytes e.record_of r (event_record e f.0) s (exact_unsigned_eq e.record_of.at r.at f.1))
 
-  found_metadata : (r : Framed) → IsRecord p.bytes r → output_records_whole p kept r ≡ true → find (test r) kept ≡ None → r ≡ a.metadata_record
+  found_metadata : (r : Framed) → IsRecord p.bytes r → is_kept_or_metadata p kept r ≡ true → find (test r) kept ≡ None → r ≡ a.metadata_record
   found_metadata r s w q =
       record_one p.bytes r a.metadata_record s (metadata_stands p a) (exact_unsigned_eq r.at (metadata_at p.bytes) (by_any (list_any (test r) kept) (find_none (test r) kept q) w) ∙ sym a.metadata_there.place)
     where
@@ -196,7 +196,7 @@ module _ (p : Parts) (a : AreParts p) (flags : List Bool) (n : Anew p a (kept_by
   pub read_under : (id : ℕ) (b : List ℕ) (end at : ℕ) (v : Value) (to : ℕ) → is_event_class m id ≡ true → Reads (value_format p.classes (inline id)) b end at v to → Reads (value_format m (inline id)) b end at v to
   read_under id b end at v to t r = subst (λ (g : Format Value). Reads g b end at v to) (value_agree p.classes m (inline id) (n.suits.agree id t)) r
 
-  whole_by : (b : List ℕ) (r : Framed) → IsRecord p.bytes r → output_records_whole p kept r ≡ true → (at : ℕ) (o : Option EventAt) → find (test r) kept ≡ o → Holds b (length b) at (whole_bytes new p r o) → WholeStands b r at (length (whole_bytes new p r o))
+  whole_by : (b : List ℕ) (r : Framed) → IsRecord p.bytes r → is_kept_or_metadata p kept r ≡ true → (at : ℕ) (o : Option EventAt) → find (test r) kept ≡ o → Holds b (length b) at (whole_bytes new p r o) → WholeStands b r at (length (whole_bytes new p r o))
   whole_by b r s w at (Some e) q h =
       let f = found_event r e s q in
       let st = event_stands b e f.0 at h in
@@ -220,7 +220,7 @@ module _ (p : Parts) (a : AreParts p) (flags : List Bool) (n : Anew p a (kept_by
   ss = output_records p kept
 
   is_ready : Ready p remaining ss
-  is_ready = ready p a (output_records_whole p kept) (written_anew p kept) (good_anew p a kept) fm
+  is_ready = ready p a (is_kept_or_metadata p kept) (written_anew p kept) (good_anew p a kept) fm
 
   pub order : chained_of ss ≡ all_links p
   order = is_ready.order
@@ -229,7 +229,7 @@ module _ (p : Parts) (a : AreParts p) (flags : List Bool) (n : Anew p a (kept_by
   deltas = is_ready.deltas
 
   abbrev OnEach : OutputRecord → Type 0
-  OnEach = OnChosen (IsRecord p.bytes) (output_records_whole p kept)
+  OnEach = OnChosen (IsRecord p.bytes) (is_kept_or_metadata p kept)
 
   can_each : (xs : List OutputRecord) → AllByRecursion (IsOutputRecordIn p.bytes remaining p.classes) xs → AllByRecursion (IsOutputRecordIn p.bytes remaining m) xs → AllByRecursion Can xs
   can_each [] s t = tt
@@ -251,7 +251,7 @@ module _ (p : Parts) (a : AreParts p) (flags : List Bool) (n : Anew p a (kept_by
   each_small (Chained i l ∷ xs) s w = ((λ at older d. chained_short i l s.0 at older d), each_small xs s.1 w.1)
 
   chosen_all : AllByRecursion OnEach ss
-  chosen_all = on_chosen (IsRecord p.bytes) (all_links p) (output_records_whole p kept) (written_anew p kept) p.records (recorded p a)
+  chosen_all = on_chosen (IsRecord p.bytes) (all_links p) (is_kept_or_metadata p kept) (written_anew p kept) p.records (recorded p a)
 
   pub all_stand : (b : List ℕ) → AllByRecursion (Stands m bytes pools b) ss
   all_stand b = each_stands b ss can_all chosen_all

@@ -8,7 +8,7 @@ use Rattle.jfr_frame.specs.Records.{record_bytes}
 use Rattle.jfr_pool.specs.declared.entry.EntryAt.{EntryAt}
 use Rattle.jfr_chunk.specs.Parts.{Parts, EventAt, AreParts, metadata_at}
 use Rattle.jfr_chunk.specs.Reach.{marked, kept_by}
-use Rattle.jfr_chunk.specs.Scrub.{OutputRecord, Whole, Chained, Rebuilt, assembled, groups_of, header_with, last_at, moved, output_records, output_records_whole, written, written_anew}
+use Rattle.jfr_chunk.specs.Scrub.{OutputRecord, Whole, Chained, Rebuilt, assembled, groups_of, header_with, last_at, moved, output_records, is_kept_or_metadata, written, written_anew}
 use Rattle.jfr_chunk.proofs.HasNodesLaws.{has_nodes}
 use Rattle.jfr_laws.proofs.Anews.{Anew}
 use Rattle.jfr_laws.proofs.AnewLaws.{good_anew}
@@ -93,6 +93,6 @@ module _ (p : Parts) (a : AreParts p) (flags : List Bool) (n : Anew p a (kept_by
       let y = length-append (header_with p.bytes (68 + length there) last_there metadata_there) there in
       let bound : length (assembled p theirs outs) ≤ length p.bytes = out_shorter p kept ms a (good_anew p a kept) in
       let small = whole_small p.bytes whole in
-      let is_ready : Ready p ours outs = ready p a (output_records_whole p kept) (written_anew p kept) (good_anew p a kept) fm in
+      let is_ready : Ready p ours outs = ready p a (is_kept_or_metadata p kept) (written_anew p kept) (good_anew p a kept) fm in
       let i = body_short outs 68 68 None None refl (omega (arith, bound, small, hy, y)) is_ready.valid (all_small p a flags n new most fm agree) in
       omega (arith, i, hx, hy, x, y)

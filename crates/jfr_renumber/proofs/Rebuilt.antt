@@ -23,7 +23,7 @@ use Rattle.jfr_pool.specs.Chains.{IsChain}
 use Rattle.jfr_pool.specs.Entries.{AreEntries, PoolAt, inline}
 use Rattle.jfr_chunk.specs.Parts.{Parts, EventAt, HasFields, event_by, event_of, event_records, events_of, AreParts, StartsAt, pools_at, metadata_at}
 use Rattle.jfr_chunk.specs.Reach.{kept_by, marked}
-use Rattle.jfr_chunk.specs.Scrub.{OutputRecord, Written, last_at, moved, output_records_whole, written_anew}
+use Rattle.jfr_chunk.specs.Scrub.{OutputRecord, Written, last_at, moved, is_kept_or_metadata, written_anew}
 use Rattle.jfr_worklist.specs.Members.{In}
 use Rattle.jfr_worklist.proofs.Members.{contains_in, in_contains}
 use Rattle.jfr_chunk.proofs.AllLaws.{in_filter_map}
@@ -48,8 +48,8 @@ use Rattle.jfr_laws.proofs.Checkpoints.{all_numbers}
 use Rattle.jfr_laws.proofs.Output.{entries_by_number}
 use Rattle.jfr_renumber.specs.Rekeyed.{rekeyed}
 use Rattle.jfr_renumber.specs.Renumber.{event_bytes, whole_bytes, written_by, assembled_by}
-use Rattle.jfr_renumber.specs.Meaning.{AreRenamed}
-use Rattle.jfr_renumber.specs.Laws.{RenamedRecord, RenamedRecords}
+use Rattle.jfr_renumber.specs.Meaning.{AreRekeyedEntries}
+use Rattle.jfr_renumber.specs.Laws.{RekeyedRecord, RekeyedRecords}
 use Rattle.jfr_renumber.proofs.Made.{Found, bytes_from, frame_of, links_from, entries_at, found_made, last_inside, last_made, length_made, linked_made, no_links, tiles_made, entries_made}
 use Rattle.jfr_renumber.proofs.NewPools.{Renamed}
 use Rattle.jfr_renumber.proofs.NewOutput.{kept, remaining, bytes, pools, ss, order, deltas, all_stand, all_small, all_fields, all_entries, event_here, event_record, event_stands, found_event, read_under}
@@ -140,7 +140,7 @@ module _ (p : Parts) (a : AreParts p) (flags : List Bool) (n : Anew p a (kept_by
   module _ (b : List ℕ) (h : Holds b (length b) 68 body_of) where
     abbrev found : Found m write pooled b a.metadata_record metadata_anew 68 ws
     found =
-        found_made m write pooled b p.bytes (all_links p) (output_records_whole p these) (written_anew p these) a.metadata_record (metadata_stands p a)
+        found_made m write pooled b p.bytes (all_links p) (is_kept_or_metadata p these) (written_anew p these) a.metadata_record (metadata_stands p a)
         (no_link_at p.bytes (all_links p) a.metadata_record (chained_checkpoints p a) (metadata_stands p a) a.metadata_there.type_is)
         (or_right (is_kept these a.metadata_record) (a.metadata_record.at == metadata_at p.bytes) (is_eq a.metadata_record.at (metadata_at p.bytes) a.metadata_there.place))
         p.records 68 None (recorded p a) (contains_in p.records a.metadata_record a.metadata_there.listed) h
@@ -157,7 +157,7 @@ module _ (p : Parts) (a : AreParts p) (flags : List Bool) (n : Anew p a (kept_by
   body_fits : 68 + length body_of ≤ length p.bytes
   body_fits =
       let l = length_made m write pooled outs 68 None (all_small p a flags n new most fm agree) (deltas p a flags n new most fm agree) in
-      let s = sizes_within p.bytes (all_links p) (output_records_whole p these) (written_anew p these) (only_records p.bytes (all_links p) (chained_checkpoints p a)) p.records 68 (length p.bytes) a.records in
+      let s = sizes_within p.bytes (all_links p) (is_kept_or_metadata p these) (written_anew p these) (only_records p.bytes (all_links p) (chained_checkpoints p a)) p.records 68 (length p.bytes) a.records in
       omega (arith, l, s)
 
   pub out_shorter : length out ≤ length p.bytes
@@ -246,13 +246,13 @@ module _ (p : Parts) (a : AreParts p) (flags : List Bool) (n : Anew p a (kept_by
     }
 
     -- Its entries are those that are left, with new keys.
-    each_renamed : (xs ys : List EntryAt) → Each (Renamed p (has_nodes p a).sound new most b) xs ys → AreRenamed new p parts xs ys
+    each_renamed : (xs ys : List EntryAt) → Each (Renamed p (has_nodes p a).sound new most b) xs ys → AreRekeyedEntries new p parts xs ys
     each_renamed [] [] e = tt
     each_renamed [] (y ∷ ys) e = absurd e
     each_renamed (x ∷ xs) [] e = absurd e
     each_renamed (x ∷ xs) (y ∷ ys) e = (record { class = e.0.class; key = e.0.key; checkpoint = e.0.checkpoint; value = e.0.value }, each_renamed xs ys e.1)
 
-    pub entries_renamed : AreRenamed new p parts (remaining p a flags n new most fm agree) es
+    pub entries_renamed : AreRekeyedEntries new p parts (remaining p a flags n new most fm agree) es
     entries_renamed =
         let es_remaining : List EntryAt = remaining p a flags n new most fm agree in
         let each = all_entries p a flags n new most fm agree b (reverse p.chain) l.held (order p a flags n new most fm agree) in
@@ -266,12 +266,12 @@ module _ (p : Parts) (a : AreParts p) (flags : List Bool) (n : Anew p a (kept_by
         let y : event_of p.bytes p.classes e.record_of ≡ Some d = subst (λ z. event_of p.bytes p.classes z ≡ Some d) q (computed p d j).is in
         cc
 
-    renamed_record : (e f : EventAt) → In these e → In (events_of parts) f → NewEvent p a flags n new most fm agree b e.record_of f.record_of → RenamedRecord new p parts e f
+    renamed_record : (e f : EventAt) → In these e → In (events_of parts) f → NewEvent p a flags n new most fm agree b e.record_of f.record_of → RekeyedRecord new p parts e f
     renamed_record e f i j w =
         let same : w.event ≡ e = one_event e w.event (event_in e i) (event_in w.event w.is_kept) w.of in
         by_event (subst (In these) same w.is_kept) (subst (λ (z : EventAt). f.record_of ≡ moved_frame w.at e.record_of (length (event_bytes new p z))) same w.frame) (subst (λ z. Holds b (length b) w.at (event_bytes new p z)) same w.held)
       where
-        by_event : In these e → f.record_of ≡ moved_frame w.at e.record_of (length (event_bytes new p e)) → Holds b (length b) w.at (event_bytes new p e) → RenamedRecord new p parts e f
+        by_event : In these e → f.record_of ≡ moved_frame w.at e.record_of (length (event_bytes new p e)) → Holds b (length b) w.at (event_bytes new p e) → RekeyedRecord new p parts e f
         by_event k g h =
             let id : ℕ = e.record_of.type_id in
             let st = event_stands p a flags n new most fm agree b e k w.at h in
@@ -296,13 +296,13 @@ module _ (p : Parts) (a : AreParts p) (flags : List Bool) (n : Anew p a (kept_by
               agree = n.suits.agree id (n.suits.event e k);
             }
 
-    renamed_records : (xs ys : List EventAt) → ((e : EventAt) → In xs e → In these e) → ((f : EventAt) → In ys f → In (events_of parts) f) → Each (NewEvent p a flags n new most fm agree b) (records_of xs) (records_of ys) → RenamedRecords new p parts xs ys
+    renamed_records : (xs ys : List EventAt) → ((e : EventAt) → In xs e → In these e) → ((f : EventAt) → In ys f → In (events_of parts) f) → Each (NewEvent p a flags n new most fm agree b) (records_of xs) (records_of ys) → RekeyedRecords new p parts xs ys
     renamed_records [] [] i j e = tt
     renamed_records [] (y ∷ ys) i j e = absurd e
     renamed_records (x ∷ xs) [] i j e = absurd e
     renamed_records (x ∷ xs) (y ∷ ys) i j e = (renamed_record x y (i x (inl refl)) (j y (inl refl)) e.0, renamed_records xs ys (λ z k. i z (inr k)) (λ z k. j z (inr k)) e.1)
 
-    pub events_renamed : RenamedRecords new p parts these (events_of parts)
+    pub events_renamed : RekeyedRecords new p parts these (events_of parts)
     events_renamed =
         let rising : Rising 68 (event_records p.classes p.records) = rising_filter (λ r. is_event_class p.classes r.type_id) 68 p.records (rising_of p.bytes 68 68 (length p.bytes) p.records (omega arith) a.records) in
         let chosen : filter (is_kept these) (event_records p.classes p.records) ≡ records_of these = chosen_records flags (events_of p) (event_records p.classes p.records) 68 (event_records_of p a) rising in

@@ -22,7 +22,7 @@ use Rattle.jfr_laws.proofs.Passing.{clash}
 use Rattle.jfr_laws.proofs.Same.{chosen_events, event_of_chunk, marks_reached}
 use Rattle.jfr_laws.proofs.Suits.{event_agreed, left_agree, path_agreed}
 use Rattle.jfr_renumber.specs.Renumber.{Used, new_key, together, pair_of, firsts, firsts_of, new_bytes, assembled_by, renumber_of}
-use Rattle.jfr_renumber.specs.Meaning.{AreNewKeys, AreRenamed, IsRenumbered}
+use Rattle.jfr_renumber.specs.Meaning.{AreNewKeys, AreRekeyedEntries, IsRenumbered}
 use Rattle.jfr_renumber.proofs.Fewer.{Under}
 use Rattle.jfr_renumber.proofs.NoLonger.{no_longer}
 use Rattle.jfr_renumber.proofs.LawLaws.{new_keys_are, renamed_the_same, same_missing}
@@ -159,8 +159,8 @@ module _ (p : Parts) (a : AreParts p) (flags : List Bool) (whole : fronts.Whole 
     abbrev q_stands : AreParts q
     q_stands = valid p a flags n new keys.most fm agree b leading tiny
 
-    entries_are : AreRenamed new p q (firsts p these) q.entries
-    entries_are = subst (λ z. AreRenamed new p q z q.entries) (sym (firsts_marked p these).1) (entries_renamed p a flags n new keys.most fm agree b leading tiny)
+    entries_are : AreRekeyedEntries new p q (firsts p these) q.entries
+    entries_are = subst (λ z. AreRekeyedEntries new p q z q.entries) (sym (firsts_marked p these).1) (entries_renamed p a flags n new keys.most fm agree b leading tiny)
 
     pub renumbered_by : IsRenumbered p these
     renumbered_by = record {

@@ -77,9 +77,9 @@ module _ (p : Parts) where
 
   pub together_is : Together (together p)
   together_is = record {
-    itself = λ t. alike_together t t (refl, inl refl);
-    back = λ t u e. alike_together u t (alike_back t u (together_alike t u e));
-    on = λ t u v e f. alike_together t v (alike_on t u v (together_alike t u e) (together_alike u v f));
+    reflexive = λ t. alike_together t t (refl, inl refl);
+    symmetric = λ t u e. alike_together u t (alike_back t u (together_alike t u e));
+    transitive = λ t u v e f. alike_together t v (alike_on t u v (together_alike t u e) (together_alike u v f));
     class = λ t u e. (together_alike t u e).0;
   }
 
@@ -111,12 +111,12 @@ module _ (p : Parts) where
 
   pub first_with : (es : List EntryAt) (e : EntryAt) → In es e → (f : EntryAt) × In (firsts_of p es) f × (together p (pair_of f) (pair_of e) ≡ true)
   first_with [] e i = absurd i
-  first_with (f ∷ es) e (inl q) = (f, inl refl, subst (λ z. together p (pair_of f) (pair_of z) ≡ true) q (together_is.itself (pair_of f)))
+  first_with (f ∷ es) e (inl q) = (f, inl refl, subst (λ z. together p (pair_of f) (pair_of z) ≡ true) q (together_is.reflexive (pair_of f)))
   first_with (f ∷ es) e (inr i) = by_first (first_with es e i)
     where
       by_test : (g : EntryAt) → In (firsts_of p es) g → together p (pair_of g) (pair_of e) ≡ true → (b : Bool) → together p (pair_of f) (pair_of g) ≡ b
           → (h : EntryAt) × In (firsts_of p (f ∷ es)) h × (together p (pair_of h) (pair_of e) ≡ true)
-      by_test g j w true t = (f, inl refl, together_is.on (pair_of f) (pair_of g) (pair_of e) t w)
+      by_test g j w true t = (f, inl refl, together_is.transitive (pair_of f) (pair_of g) (pair_of e) t w)
       by_test g j w false t = (g, inr (filtered_in (λ g. not (together p (pair_of f) (pair_of g))) (firsts_of p es) g j (ap not t)), w)
 
       by_first : (g : EntryAt) × In (firsts_of p es) g × (together p (pair_of g) (pair_of e) ≡ true) → (h : EntryAt) × In (firsts_of p (f ∷ es)) h × (together p (pair_of h) (pair_of e) ≡ true)

@@ -21,7 +21,7 @@ use Rattle.jfr_chunk.specs.Parts.{Parts, EventAt, AreParts, events_of, metadata_
 use Rattle.jfr_chunk.specs.Reach.{kept_by, marked}
 use Rattle.jfr_chunk.specs.Written as old
 use Rattle.jfr_chunk.specs.Written.{Group, by_pool, distance, sized}
-use Rattle.jfr_chunk.specs.Scrub.{OutputRecord, Whole, Chained, Rebuilt, Written, groups_of, last_at, moved, older_after, output_records, output_records_whole, record_of, written_anew}
+use Rattle.jfr_chunk.specs.Scrub.{OutputRecord, Whole, Chained, Rebuilt, Written, groups_of, last_at, moved, older_after, output_records, is_kept_or_metadata, record_of, written_anew}
 use Rattle.jfr_chunk.proofs.AllLaws.{all_in}
 use Rattle.jfr_chunk.proofs.HasNodesLaws.{has_nodes}
 use Rattle.jfr_laws.proofs.AnewLaws.{good_anew}
@@ -153,7 +153,7 @@ module _ (p : Parts) (a : AreParts p) (flags : List Bool) (new : ℕ × ℕ → 
   -- All output records can be written.
   pub all_can : AllByRecursion CanBeWritten (written_by bytes 68 None (output_records p kept))
   all_can =
-      let r : Ready p remaining (output_records p kept) = ready p a (output_records_whole p kept) (written_anew p kept) (good_anew p a kept) fm in
+      let r : Ready p remaining (output_records p kept) = ready p a (is_kept_or_metadata p kept) (written_anew p kept) (good_anew p a kept) fm in
       each_can (output_records p kept) 68 None r.valid r.deltas
 
 seen_not : (o : Option ℕ) (t : Bool) (at : ℕ) → t ≡ false → offset_so_far o t at ≡ o

@@ -8,7 +8,7 @@ use Rattle.jfr_value.specs.Reading.{value_format}
 use Rattle.jfr_value.specs.Nodes.{node_bytes}
 use Rattle.jfr_value.specs.Leaves.{leaves_at}
 use Rattle.jfr_chunk.specs.Parts.{Parts, EventAt}
-use Rattle.jfr_renumber.specs.Rekeyed.{rekeyed, rekeyed_bytes, rekeyed_leaf, content, moved}
+use Rattle.jfr_renumber.specs.Rekeyed.{rekeyed, rekeyed_bytes, rekeyed_leaf, content, rekeyed_pair}
 use Rattle.jfr_renumber.specs.Renumber.{Used}
 
 -- A value with new keys is read from its own bytes. It has the same shape, and the same leaves except for the
@@ -19,23 +19,23 @@ pub record KeepsMeaning (new : ℕ × ℕ → ℕ) (k : Classes) (v : Value) : T
   pub shape : shape_of (rekeyed new v) ≡ shape_of v
   pub read : Exactly (value_format k (shape_of v)) (bytes_of (rekeyed new v)) (rekeyed new v)
   pub leaves : (at to : ℕ) → map content (leaves_at to (rekeyed new v)) ≡ map (rekeyed_leaf new) (leaves_at at v)
-  pub refers : targets_of (rekeyed new v) ≡ map (moved new) (targets_of v)
+  pub refers : targets_of (rekeyed new v) ≡ map (rekeyed_pair new) (targets_of v)
   pub short : ((t : ℕ × ℕ) → Contains (targets_of v) t → new t ≤ t.1) → length (bytes_of (rekeyed new v)) ≤ length (bytes_of v)
 
 -- Two events of the same class, on which the class lists agree: the second has the fields of the first with
 -- new keys, and the same bytes after them.
-pub record RenamedRecord (new : ℕ × ℕ → ℕ) (p q : Parts) (e f : EventAt) : Type 0 where
+pub record RekeyedRecord (new : ℕ × ℕ → ℕ) (p q : Parts) (e f : EventAt) : Type 0 where
   pub class : e.record_of.type_id ≡ f.record_of.type_id
   pub fields : rekeyed_bytes new p.classes p.bytes e.node ≡ node_bytes q.bytes f.node
   pub rest : slice_range p.bytes e.node.end (record_end e.record_of) ≡ slice_range q.bytes f.node.end (record_end f.record_of)
   pub agree : Agree p.classes q.classes e.record_of.type_id
 
--- The events correspond one to one, in order, each pair as in RenamedRecord.
-abbrev pub RenamedRecords : (ℕ × ℕ → ℕ) → Parts → Parts → List EventAt → List EventAt → Type 0
-RenamedRecords new p q [] [] = ⊤
-RenamedRecords new p q (e ∷ es) (f ∷ fs) = RenamedRecord new p q e f × RenamedRecords new p q es fs
-RenamedRecords new p q [] (f ∷ fs) = ⊥
-RenamedRecords new p q (e ∷ es) [] = ⊥
+-- The events correspond one to one, in order, each pair as in RekeyedRecord.
+abbrev pub RekeyedRecords : (ℕ × ℕ → ℕ) → Parts → Parts → List EventAt → List EventAt → Type 0
+RekeyedRecords new p q [] [] = ⊤
+RekeyedRecords new p q (e ∷ es) (f ∷ fs) = RekeyedRecord new p q e f × RekeyedRecords new p q es fs
+RekeyedRecords new p q [] (f ∷ fs) = ⊥
+RekeyedRecords new p q (e ∷ es) [] = ⊥
 
 -- The class lists agree on the class of each used class and key.
 abbrev pub AgreeOnUsed : Parts → Parts → List EventAt → Type 0

@@ -11,26 +11,26 @@ use Rattle.jfr_chunk.specs.Parts.{Parts, EventAt, AreParts, events_of}
 use Rattle.jfr_chunk.specs.Scrub.{scrub_of}
 use Rattle.jfr_chunk.specs.Metas.{remaining_classes}
 use Rattle.jfr_chunk.specs.Paths.{leads}
-use Rattle.jfr_renumber.specs.Rekeyed.{SameButKeys, rekeyed_bytes, moved}
+use Rattle.jfr_renumber.specs.Rekeyed.{SameButKeys, rekeyed_bytes, rekeyed_pair}
 use Rattle.jfr_renumber.specs.Renumber.{Used, together, new_key, firsts, pair_of, renumber_of}
 
 -- Each path leads from both to nodes of the same shape and leaves, except for the keys, or from both nowhere.
-abbrev pub RenamedPaths : (ℕ × ℕ → ℕ) → Parts → Parts → NodeAt → NodeAt → Type 0
-RenamedPaths new p q n o = (path : List Step) → Both (SameButKeys new p.classes q.classes p.bytes q.bytes) (leads p n path) (leads q o path)
+abbrev pub RekeyedPaths : (ℕ × ℕ → ℕ) → Parts → Parts → NodeAt → NodeAt → Type 0
+RekeyedPaths new p q n o = (path : List Step) → Both (SameButKeys new p.classes q.classes p.bytes q.bytes) (leads p n path) (leads q o path)
 
 -- Two events have the same class and the same bytes after their fields, and each path leads from both to the
 -- same, except for the keys.
-pub record RenamedEvent (new : ℕ × ℕ → ℕ) (p q : Parts) (e f : EventAt) : Type 0 where
+pub record RekeyedEvent (new : ℕ × ℕ → ℕ) (p q : Parts) (e f : EventAt) : Type 0 where
   pub class : e.record_of.type_id ≡ f.record_of.type_id
   pub rest : slice_range p.bytes e.node.end (record_end e.record_of) ≡ slice_range q.bytes f.node.end (record_end f.record_of)
-  pub paths : RenamedPaths new p q e.node f.node
+  pub paths : RekeyedPaths new p q e.node f.node
 
--- The events correspond one to one, in order, each pair as in RenamedEvent.
-abbrev pub RenamedMeaning : (ℕ × ℕ → ℕ) → Parts → Parts → List EventAt → List EventAt → Type 0
-RenamedMeaning new p q [] [] = ⊤
-RenamedMeaning new p q (e ∷ es) (f ∷ fs) = RenamedEvent new p q e f × RenamedMeaning new p q es fs
-RenamedMeaning new p q [] (f ∷ fs) = ⊥
-RenamedMeaning new p q (e ∷ es) [] = ⊥
+-- The events correspond one to one, in order, each pair as in RekeyedEvent.
+abbrev pub RekeyedMeaning : (ℕ × ℕ → ℕ) → Parts → Parts → List EventAt → List EventAt → Type 0
+RekeyedMeaning new p q [] [] = ⊤
+RekeyedMeaning new p q (e ∷ es) (f ∷ fs) = RekeyedEvent new p q e f × RekeyedMeaning new p q es fs
+RekeyedMeaning new p q [] (f ∷ fs) = ⊥
+RekeyedMeaning new p q (e ∷ es) [] = ⊥
 
 -- These are new keys: none is larger than the old one, the new keys of a class have no gaps, and two are
 -- equal exactly if the old keys are together.
@@ -40,18 +40,18 @@ pub record AreNewKeys (p : Parts) (kept : List EventAt) (new : ℕ × ℕ → �
   pub dense : (t : ℕ × ℕ) (n : ℕ) → Used p kept t → n < new t → (u : ℕ × ℕ) × Used p kept u × (u.0 ≡ t.0) × (new u ≡ n)
 
 -- The second entry is the first one with its new key, and with new keys in its value.
-pub record IsRenamed (new : ℕ × ℕ → ℕ) (p q : Parts) (e f : EntryAt) : Type 0 where
+pub record IsRekeyedEntry (new : ℕ × ℕ → ℕ) (p q : Parts) (e f : EntryAt) : Type 0 where
   pub class : e.class ≡ f.class
   pub key : new (pair_of e) ≡ f.key
   pub checkpoint : e.checkpoint ≡ f.checkpoint
   pub value : rekeyed_bytes new p.classes p.bytes (entry_node e) ≡ node_bytes q.bytes (entry_node f)
 
--- The entries correspond one to one, in order, each pair as in IsRenamed.
-abbrev pub AreRenamed : (ℕ × ℕ → ℕ) → Parts → Parts → List EntryAt → List EntryAt → Type 0
-AreRenamed new p q [] [] = ⊤
-AreRenamed new p q (e ∷ es) (f ∷ fs) = IsRenamed new p q e f × AreRenamed new p q es fs
-AreRenamed new p q [] (f ∷ fs) = ⊥
-AreRenamed new p q (e ∷ es) [] = ⊥
+-- The entries correspond one to one, in order, each pair as in IsRekeyedEntry.
+abbrev pub AreRekeyedEntries : (ℕ × ℕ → ℕ) → Parts → Parts → List EntryAt → List EntryAt → Type 0
+AreRekeyedEntries new p q [] [] = ⊤
+AreRekeyedEntries new p q (e ∷ es) (f ∷ fs) = IsRekeyedEntry new p q e f × AreRekeyedEntries new p q es fs
+AreRekeyedEntries new p q [] (f ∷ fs) = ⊥
+AreRekeyedEntries new p q (e ∷ es) [] = ⊥
 
 -- The output of a chunk with new keys if these events are kept: it is whole, accepted, and no longer than the
 -- chunk or than its output without new keys. Its classes are those of the output without new keys, its entries
@@ -66,6 +66,6 @@ pub record IsRenumbered (p : Parts) (kept : List EventAt) : Type 0 where
   pub valid : AreParts parts
   pub size : length (renumber_of p kept) ≤ length p.bytes
   pub no_longer : length (renumber_of p kept) ≤ length (scrub_of p kept)
-  pub entries : AreRenamed (new_key p kept) p parts (firsts p kept) parts.entries
-  pub missing : (t : ℕ × ℕ) → Used p kept t → IsSome (in_force p.entries t) ↔ IsSome (in_force parts.entries (moved (new_key p kept) t))
-  pub meaning : RenamedMeaning (new_key p kept) p parts kept (events_of parts)
+  pub entries : AreRekeyedEntries (new_key p kept) p parts (firsts p kept) parts.entries
+  pub missing : (t : ℕ × ℕ) → Used p kept t → IsSome (in_force p.entries t) ↔ IsSome (in_force parts.entries (rekeyed_pair (new_key p kept) t))
+  pub meaning : RekeyedMeaning (new_key p kept) p parts kept (events_of parts)

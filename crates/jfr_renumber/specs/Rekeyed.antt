@@ -33,8 +33,8 @@ abbrev mutual
   rekeyed_all new (Cons v vs) = Cons (rekeyed new v) (rekeyed_all new vs)
 
 -- The class and the new key of a class and a key.
-abbrev pub moved : (ℕ × ℕ → ℕ) → ℕ × ℕ → ℕ × ℕ
-moved new t = (t.0, new t)
+abbrev pub rekeyed_pair : (ℕ × ℕ → ℕ) → ℕ × ℕ → ℕ × ℕ
+rekeyed_pair new t = (t.0, new t)
 
 -- The bytes of a node in which each key is the new one.
 abbrev pub rekeyed_bytes : (ℕ × ℕ → ℕ) → Classes → List ℕ → NodeAt → List ℕ

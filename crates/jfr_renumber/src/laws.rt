@@ -10,9 +10,9 @@ ghost use Rattle.jfr_chunk.specs.Laws.{AreEvents};
 ghost use Rattle.jfr_chunk.specs.Reach.{kept_by};
 ghost use Rattle.jfr_chunk.specs.Scrub.{output_records};
 ghost use Rattle.jfr_chunk.specs.Parts.{AreParts, EventAt, Parts};
-ghost use Rattle.jfr_renumber.specs.Laws.{AgreeOnUsed, KeepsMeaning, RenamedRecords};
-ghost use Rattle.jfr_renumber.specs.Meaning.{AreNewKeys, AreRenamed, IsRenumbered, RenamedMeaning};
-ghost use Rattle.jfr_renumber.specs.Rekeyed.{moved};
+ghost use Rattle.jfr_renumber.specs.Laws.{AgreeOnUsed, KeepsMeaning, RekeyedRecords};
+ghost use Rattle.jfr_renumber.specs.Meaning.{AreNewKeys, AreRekeyedEntries, IsRenumbered, RekeyedMeaning};
+ghost use Rattle.jfr_renumber.specs.Rekeyed.{rekeyed_pair};
 ghost use Rattle.jfr_renumber.specs.Renumber.{Used, assembled_by, firsts, firsts_with, new_bytes, new_key, renumber_of};
 
 /// A value with new keys is read by its format. It has the same shape and the same leaves, except for the
@@ -34,8 +34,8 @@ pub fn keys_are_numbered()
 /// except for the keys.
 #[tactic(auto, using(crate::proofs::LawLaws::renamed_the_same, crate::proofs::LawLaws::same_missing))]
 pub fn renamed_paths()
-    ensures paths { (p q : Parts) (kept others : List EventAt) (new : ℕ × ℕ → ℕ) → AreParts p → AreEvents p kept → AreParts q → AreEvents q others → AreNewKeys p kept new → AgreeOnUsed p q kept → AreRenamed new p q (firsts p kept) q.entries → RenamedRecords new p q kept others → RenamedMeaning new p q kept others }
-    ensures missing { (p q : Parts) (kept : List EventAt) (new : ℕ × ℕ → ℕ) → AreParts p → AreEvents p kept → AreParts q → AreNewKeys p kept new → AgreeOnUsed p q kept → AreRenamed new p q (firsts p kept) q.entries → (t : ℕ × ℕ) → Used p kept t → IsSome (in_force p.entries t) ↔ IsSome (in_force q.entries (moved new t)) }
+    ensures paths { (p q : Parts) (kept others : List EventAt) (new : ℕ × ℕ → ℕ) → AreParts p → AreEvents p kept → AreParts q → AreEvents q others → AreNewKeys p kept new → AgreeOnUsed p q kept → AreRekeyedEntries new p q (firsts p kept) q.entries → RekeyedRecords new p q kept others → RekeyedMeaning new p q kept others }
+    ensures missing { (p q : Parts) (kept : List EventAt) (new : ℕ × ℕ → ℕ) → AreParts p → AreEvents p kept → AreParts q → AreNewKeys p kept new → AgreeOnUsed p q kept → AreRekeyedEntries new p q (firsts p kept) q.entries → (t : ℕ × ℕ) → Used p kept t → IsSome (in_force p.entries t) ↔ IsSome (in_force q.entries (rekeyed_pair new t)) }
 {}
 
 /// The output of an accepted chunk with new keys is accepted, for every choice of the events that are kept. It

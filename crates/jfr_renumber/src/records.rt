@@ -5,7 +5,7 @@ ghost use Rattle.jfr_frame.specs.Records.{IsRecord, record_end};
 ghost use Rattle.jfr_layout.specs.Classes.{Sound};
 ghost use Rattle.jfr_value.specs.Nodes.{IsValue};
 ghost use Rattle.jfr_chunk.specs.Parts.{Parts, events_of};
-ghost use Rattle.jfr_chunk.specs.Seen.{event_at};
+ghost use Rattle.jfr_chunk.specs.Indexed.{event_at};
 ghost use Rattle.jfr_renumber.specs.Renumber.{event_bytes};
 
 use crate::field::{Passed, RekeyContext};

@@ -10,7 +10,7 @@ use Rattle.std.proofs.Common.{Result, Ok, Err, OnOk}
 use Rattle.std.specs.Prelude.{encode_utf8_all}
 use Rattle.std.specs.Str.{chars, IsUtf8}
 use Rattle.std.proofs.lemmas.Str.{encodes-append, encodes-chars}
-use Rattle.jfr_outside.specs.World.{LeavesPrefix, added}
+use Rattle.jfr_outside.specs.World.{IsAfterAppend, added}
 use Rattle.jfr_outside.specs.Counts.{Counts}
 use Rattle.jfr_outside.specs.declared.fault.Fault.{Fault}
 use Rattle.jfr_header.specs.declared.ending.Ending.{Ending}
@@ -154,7 +154,7 @@ pub page_torn : (all : List (List ℕ)) (before now next : Option (List ℕ)) (g
 page_torn all before now next g bytes rest e some w i = tears all before now next g rest w.0 some (w.1 ∙ ap (λ z. option_map (added (take w.0 z)) now) e) i
 
 -- The page could not be written.
-pub page_failed : (all : List (List ℕ)) (before now next : Option (List ℕ)) (g bytes : List ℕ) (rest : List (List ℕ)) (r : Result (Unit {0}) Fault) (z : Result (Unit {0}) Ending) (y : Ending) → Passes r z → z ≡ Err y → bytes ≡ g → (g ≡ [] → ⊥) → LeavesPrefix r now next bytes added → IsGathered all before now g rest → TextLeaves all (Err y) before next
+pub page_failed : (all : List (List ℕ)) (before now next : Option (List ℕ)) (g bytes : List ℕ) (rest : List (List ℕ)) (r : Result (Unit {0}) Fault) (z : Result (Unit {0}) Ending) (y : Ending) → Passes r z → z ≡ Err y → bytes ≡ g → (g ≡ [] → ⊥) → IsAfterAppend r now next bytes added → IsGathered all before now g rest → TextLeaves all (Err y) before next
 page_failed all before now next g bytes rest r z y h q e some w i =
     passed (λ s. s ≡ Err y → TextLeaves all (Err y) before next) r z h
     (λ x p k. cc)
@@ -163,7 +163,7 @@ page_failed all before now next g bytes rest r z y h q e some w i =
     q
 
 -- The page was written.
-pub page_passed : (now next : Option (List ℕ)) (bytes : List ℕ) (r : Result (Unit {0}) Fault) (z : Result (Unit {0}) Ending) (y : Unit {0}) → Passes r z → z ≡ Ok y → LeavesPrefix r now next bytes added → next ≡ option_map (added bytes) now
+pub page_passed : (now next : Option (List ℕ)) (bytes : List ℕ) (r : Result (Unit {0}) Fault) (z : Result (Unit {0}) Ending) (y : Unit {0}) → Passes r z → z ≡ Ok y → IsAfterAppend r now next bytes added → next ≡ option_map (added bytes) now
 page_passed now next bytes r z y h q w =
     passed (λ s. s ≡ Ok y → next ≡ option_map (added bytes) now) r z h
     (λ x p k. rw p at w)
@@ -172,7 +172,7 @@ page_passed now next bytes r z y h q w =
     q
 
 -- One text is written, as its write answers.
-pub text_leaves : (text : List ℕ) (before now : Option (List ℕ)) (r : Result (Unit {0}) Fault) (z : Result (Unit {0}) Ending) → Passes r z → LeavesPrefix r before now text added → TextLeaves (text ∷ []) z before now
+pub text_leaves : (text : List ℕ) (before now : Option (List ℕ)) (r : Result (Unit {0}) Fault) (z : Result (Unit {0}) Ending) → Passes r z → IsAfterAppend r before now text added → TextLeaves (text ∷ []) z before now
 text_leaves text before now r z h t =
     passed (λ y. TextLeaves (text ∷ []) y before now) r z h
     (λ x e. let w : now ≡ option_map (added text) before = rw e at t in w ∙ ap (λ y. option_map (added y) before) (sym (append-nil text)))

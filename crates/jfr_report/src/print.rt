@@ -4,7 +4,7 @@ ghost use Rattle.jfr_plan.specs.Effects.{outside};
 ghost use Rattle.jfr_plan.specs.Clauses.{over, Ran};
 ghost use Rattle.jfr_value.specs.Nodes.{node_of};
 ghost use Rattle.jfr_chunk.specs.Parts.{events_of};
-ghost use Rattle.jfr_chunk.specs.Seen.{event_at};
+ghost use Rattle.jfr_chunk.specs.Indexed.{event_at};
 ghost use Rattle.jfr_chunk.specs.Reach.{kept_by, marked};
 ghost use Rattle.jfr_report.specs.Reports.{printing, chunk_of, event_bytes, events_bytes, text_by, writer_of};
 ghost use Rattle.jfr_report.specs.Gathered.{IsGathered, PageLeaves, TextLeaves, TextCounted};

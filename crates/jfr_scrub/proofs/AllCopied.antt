@@ -10,7 +10,7 @@ use Rattle.jfr_pool.specs.declared.entry.EntryAt.{EntryAt}
 use Rattle.jfr_pool.specs.Entries.{AreEntries, entries_from}
 use Rattle.jfr_chunk.specs.Parts.{Parts, EventAt, AreParts, events_of, metadata_at}
 use Rattle.jfr_chunk.specs.Reach.{kept_by, marked, reached_marks, remain}
-use Rattle.jfr_chunk.specs.Scrub.{Whole, Chained, output_record_by, output_record_of, output_records, output_records_whole, written_anew}
+use Rattle.jfr_chunk.specs.Scrub.{Whole, Chained, output_record_by, output_record_of, output_records, is_kept_or_metadata, written_anew}
 use Rattle.jfr_chunk.specs.Metas.{metadata_size, rebuilt}
 use Rattle.jfr_worklist.specs.Members.{In}
 use Rattle.jfr_worklist.proofs.Members.{contains_in, in_cases}
@@ -83,7 +83,7 @@ or_first b d e = ap (λ z. z || d) e
 
 module _ (p : Parts) (a : AreParts p) (ps : List Part) where
   -- Of what stays whole.
-  whole_copied : (kept : List EventAt) (remaining : List EntryAt) (r : Framed) → AllByRecursion (OutputRecordIsCopied remaining ps) (output_records p kept) → In p.records r → link_there p r ≡ None → output_records_whole p kept r ≡ true → written_anew p kept r ≡ None → RecordIsCopied ps r
+  whole_copied : (kept : List EventAt) (remaining : List EntryAt) (r : Framed) → AllByRecursion (OutputRecordIsCopied remaining ps) (output_records p kept) → In p.records r → link_there p r ≡ None → is_kept_or_metadata p kept r ≡ true → written_anew p kept r ≡ None → RecordIsCopied ps r
   whole_copied kept remaining r c i l w n =
       all_in (OutputRecordIsCopied remaining ps) (output_records p kept) (Whole r) c (in_given (output_record_of p kept) p.records r (Whole r) i (λ j. output_record_by (l j) (w j) (n j) r))
 
@@ -112,7 +112,7 @@ module _ (p : Parts) (a : AreParts p) (ps : List Part) where
       let r : Framed = there.0 in
       let all : AllByRecursion (EntryIsCopied ps) (filter (λ x. x.checkpoint == e.checkpoint) remaining) =
       all_in (OutputRecordIsCopied remaining ps) (output_records p kept) (Chained e.checkpoint link.0) c
-      (in_given (output_record_of p kept) p.records r (Chained e.checkpoint link.0) there.1 (λ h. output_record_by (there.2 h) (output_records_whole p kept r) (written_anew p kept r) r)) in
+      (in_given (output_record_of p kept) p.records r (Chained e.checkpoint link.0) there.1 (λ h. output_record_by (there.2 h) (is_kept_or_metadata p kept r) (written_anew p kept r) r)) in
       all_in (EntryIsCopied ps) (filter (λ x. x.checkpoint == e.checkpoint) remaining) e all (in_filter (λ x. x.checkpoint == e.checkpoint) remaining e i (is_eq e.checkpoint e.checkpoint refl))
 
   pub entries_are_copied : (kept : List EventAt) → AllByRecursion (OutputRecordIsCopied (remain p kept) ps) (output_records p kept) → AllByRecursion (EntryIsCopied ps) (remain p kept)

@@ -13,7 +13,7 @@ use Rattle.jfr_output.specs.Positions.{IsBefore, offset_so_far}
 use Rattle.jfr_output.proofs.PositionLaws.{last_next, last_none, moved_next, or_none, or_place, still_before}
 use Rattle.jfr_scrub.specs.Bodies.{Progress, OutputRecordFits, body_with, IsBody}
 use Rattle.jfr_scrub.specs.Sizes.{HasRange}
-use Rattle.jfr_scrub.specs.Pieces.{Laying, more}
+use Rattle.jfr_scrub.specs.Pieces.{OutputSoFar, more}
 use Rattle.jfr_scrub.proofs.CheckpointLaws.{more_more}
 
 pub range_filter : (n : ℕ) (t : EntryAt → Bool) (es : List EntryAt) → AllByRecursion (HasRange n) es → AllByRecursion (HasRange n) (filter t es)
@@ -48,7 +48,7 @@ pub going_room : (p : Parts) (remaining : List EntryAt) (all ss : List OutputRec
 going_room p remaining all ss s b g =
     let x = bytes_of p.bytes remaining s b.at b.older in
     let y = flat_map (written_bytes p.bytes remaining) (written p.bytes remaining (b.at + length x) (older_after s b.at b.older) ss) in
-    let k : length (b.output.bytes ++ (x ++ y)) ≡ length (flat_map (written_bytes p.bytes remaining) (written p.bytes remaining 68 None all)) = ap (λ (z : Laying). length z.bytes) g.output in
+    let k : length (b.output.bytes ++ (x ++ y)) ≡ length (flat_map (written_bytes p.bytes remaining) (written p.bytes remaining 68 None all)) = ap (λ (z : OutputSoFar). length z.bytes) g.output in
     let l : length (b.output.bytes ++ (x ++ y)) ≡ length b.output.bytes + length (x ++ y) = length-append b.output.bytes (x ++ y) in
     let m : length (x ++ y) ≡ length x + length y = length-append x y in
     let w : 68 + length (flat_map (written_bytes p.bytes remaining) (written p.bytes remaining 68 None all)) ≤ length p.bytes = g.within in
@@ -88,7 +88,7 @@ going_all p remaining all ss b g e = done (subst (λ z. Going p remaining all z 
     done : Going p remaining all [] b → IsBody p remaining all b
     done g =
         let o : b.output ≡ record { chunk = p.bytes; bytes = flat_map (written_bytes p.bytes remaining) (written p.bytes remaining 68 None all) } = (λ i. record { chunk = b.output.chunk; bytes = sym (append-nil b.output.bytes) i }) ∙ g.output in
-        let l : length b.output.bytes ≡ length (flat_map (written_bytes p.bytes remaining) (written p.bytes remaining 68 None all)) = ap (λ (z : Laying). length z.bytes) o in
+        let l : length b.output.bytes ≡ length (flat_map (written_bytes p.bytes remaining) (written p.bytes remaining 68 None all)) = ap (λ (z : OutputSoFar). length z.bytes) o in
         let a : b.at ≡ 68 + length b.output.bytes = g.at in
         let w : 68 + length (flat_map (written_bytes p.bytes remaining) (written p.bytes remaining 68 None all)) ≤ length p.bytes = g.within in
         record {
@@ -105,5 +105,5 @@ pub laid_all : (p : Parts) (kept : List EventAt) (remaining : List EntryAt) (b :
 unfolding scrub_of
 laid_all p kept remaining b h front joined l i e f j =
     let k : IsBody p (remain p kept) (output_records p kept) b = subst (λ z. IsBody p z (output_records p kept) b) l i in
-    let bytes = ap (λ (z : Laying). z.bytes) k.output in
+    let bytes = ap (λ (z : OutputSoFar). z.bytes) k.output in
     j ∙ (ap (λ z. z ++ b.output.bytes) f ∙ (λ n. header_bytes (record (e n) { size = k.at n; pools = k.older n; metadata = k.metadata n }) ++ bytes n))

@@ -16,7 +16,7 @@ use Rattle.jfr_scrub.specs.Sizes.{HasRange, entries_size, pool_size, groups_size
 use Rattle.jfr_scrub.specs.declared.piece.MadePart.TheVariants.{EntryCount, PoolClass}
 use Rattle.jfr_scrub.specs.Bodies.{pool_parts}
 use Rattle.jfr_scrub.specs.Fits.{LinkFits}
-use Rattle.jfr_scrub.specs.Pieces.{Laying, more}
+use Rattle.jfr_scrub.specs.Pieces.{OutputSoFar, more}
 use Rattle.jfr_scrub.proofs.MeasureLaws.{range_drop}
 
 -- The entries of a group lie in the chunk.
@@ -86,7 +86,7 @@ tail_length c l delta gs f a =
     omega arith
 
 -- One part after another.
-pub more_more : (o : Laying) (a b : List ℕ) → more (more o a) b ≡ more o (a ++ b)
+pub more_more : (o : OutputSoFar) (a b : List ℕ) → more (more o a) b ≡ more o (a ++ b)
 more_more o a b = λ i. record { chunk = o.chunk; bytes = append_assoc o.bytes a b i }
 
 -- One entry after another.
@@ -95,28 +95,28 @@ flat_map_suc f [] i d h = absurd (omega arith)
 flat_map_suc f (e ∷ es) zero d h = append-nil (f e)
 flat_map_suc f (e ∷ es) (suc i) d h = ap (λ z. f e ++ z) (flat_map_suc f es i d (omega arith)) ∙ sym (append_assoc (f e) (flat_map f (take i es)) (f (get_or es i d)))
 
-pub entry_laid : (o now next : Laying) (es : List EntryAt) (i : ℕ) (d : EntryAt) → i < length es → now ≡ more o (flat_map (entry_bytes o.chunk) (take i es)) → next ≡ more now (entry_bytes now.chunk (get_or es i d)) →
+pub entry_laid : (o now next : OutputSoFar) (es : List EntryAt) (i : ℕ) (d : EntryAt) → i < length es → now ≡ more o (flat_map (entry_bytes o.chunk) (take i es)) → next ≡ more now (entry_bytes now.chunk (get_or es i d)) →
     next ≡ more o (flat_map (entry_bytes o.chunk) (take (i + 1) es))
 entry_laid o now next es i d h l n =
     let f = entry_bytes o.chunk in
     let t : flat_map f (take (i + 1) es) ≡ flat_map f (take i es) ++ f (get_or es i d) = ap (λ m. flat_map f (take m es)) (add-one i) ∙ flat_map_suc f es i d h in
-    n ∙ (ap (λ (z : Laying). more z (entry_bytes z.chunk (get_or es i d))) l ∙ (more_more o (flat_map f (take i es)) (f (get_or es i d)) ∙ ap (more o) (sym t)))
+    n ∙ (ap (λ (z : OutputSoFar). more z (entry_bytes z.chunk (get_or es i d))) l ∙ (more_more o (flat_map f (take i es)) (f (get_or es i d)) ∙ ap (more o) (sym t)))
 
 regrouped : (o s a t m d k n g : List ℕ) → a ≡ t ++ m → (((((o ++ s) ++ a) ++ d) ++ k) ++ n) ++ g ≡ o ++ (s ++ (t ++ (m ++ (d ++ (k ++ (n ++ g))))))
 regrouped o s a t m d k n g e = rw e (simp append_assoc)
 
 -- Parts one after another, of the chunk that doesn't change.
-pub laid_parts : (o a b d e f g : Laying) (s v n : List ℕ) (p q t u : ℕ) (h : List ℕ → List ℕ) → a ≡ more o s → b ≡ more a (slice_range a.chunk p q) → d ≡ more b v → e ≡ more d (slice_range d.chunk t u) → f ≡ more e n → g ≡ more f (h f.chunk) →
+pub laid_parts : (o a b d e f g : OutputSoFar) (s v n : List ℕ) (p q t u : ℕ) (h : List ℕ → List ℕ) → a ≡ more o s → b ≡ more a (slice_range a.chunk p q) → d ≡ more b v → e ≡ more d (slice_range d.chunk t u) → f ≡ more e n → g ≡ more f (h f.chunk) →
     g ≡ more (more (more (more (more (more o s) (slice_range o.chunk p q)) v) (slice_range o.chunk t u)) n) (h o.chunk)
 laid_parts o a b d e f g s v n p q t u h i j k l m w =
-    let b' : b ≡ more (more o s) (slice_range o.chunk p q) = j ∙ ap (λ (z : Laying). more z (slice_range z.chunk p q)) i in
+    let b' : b ≡ more (more o s) (slice_range o.chunk p q) = j ∙ ap (λ (z : OutputSoFar). more z (slice_range z.chunk p q)) i in
     let d' : d ≡ more (more (more o s) (slice_range o.chunk p q)) v = k ∙ ap (λ z. more z v) b' in
-    let e' : e ≡ more (more (more (more o s) (slice_range o.chunk p q)) v) (slice_range o.chunk t u) = l ∙ ap (λ (z : Laying). more z (slice_range z.chunk t u)) d' in
+    let e' : e ≡ more (more (more (more o s) (slice_range o.chunk p q)) v) (slice_range o.chunk t u) = l ∙ ap (λ (z : OutputSoFar). more z (slice_range z.chunk t u)) d' in
     let f' : f ≡ more (more (more (more (more o s) (slice_range o.chunk p q)) v) (slice_range o.chunk t u)) n = m ∙ ap (λ z. more z n) e' in
-    w ∙ ap (λ (z : Laying). more z (h z.chunk)) f'
+    w ∙ ap (λ (z : OutputSoFar). more z (h z.chunk)) f'
 
 -- The parts of a checkpoint.
-pub laid_checkpoint : (o : Laying) (l : Link) (delta size : ℕ) (gs : List Group) → LinkFits o.chunk l delta gs → size ≡ (l.frame.type_at - l.frame.at) + length (checkpoint_tail o.chunk l delta gs) →
+pub laid_checkpoint : (o : OutputSoFar) (l : Link) (delta size : ℕ) (gs : List Group) → LinkFits o.chunk l delta gs → size ≡ (l.frame.type_at - l.frame.at) + length (checkpoint_tail o.chunk l delta gs) →
     more (more (more (more (more (more o (spell_in (l.frame.type_at - l.frame.at) size)) (slice_range o.chunk l.frame.type_at l.delta_at)) (spell delta)) (slice_range o.chunk l.delta_end (l.delta_end + 1))) (spell (length gs))) (flat_map (group_bytes o.chunk) gs)
     ≡ more o (checkpoint_bytes o.chunk l delta gs)
 laid_checkpoint o l delta size gs f e =
@@ -127,23 +127,23 @@ laid_checkpoint o l delta size gs f e =
     (λ i. record { chunk = o.chunk; bytes = b i }) ∙ ap (λ n. more o (spell_in w n ++ checkpoint_tail o.chunk l delta gs)) e
 
 -- The pools that are left to lay out.
-pub record LayingPools (o now : Laying) (es rest : List EntryAt) : Type 0 where
+pub record LayingPools (o now : OutputSoFar) (es rest : List EntryAt) : Type 0 where
   pub chunk : now.chunk ≡ o.chunk
   pub laid : more now (flat_map (group_bytes o.chunk) (by_pool rest)) ≡ more o (flat_map (group_bytes o.chunk) (by_pool es))
   pub ranges : AllByRecursion (HasRange (length o.chunk)) rest
 
-pub laying_none : (o : Laying) (es : List EntryAt) → AllByRecursion (HasRange (length o.chunk)) es → LayingPools o o es es
+pub laying_none : (o : OutputSoFar) (es : List EntryAt) → AllByRecursion (HasRange (length o.chunk)) es → LayingPools o o es es
 laying_none o es a = record { chunk = refl; laid = refl; ranges = a }
 
 one_group : (x a b d f : List ℕ) → (((x ++ a) ++ b) ++ d) ++ f ≡ x ++ ((a ++ (b ++ d)) ++ f)
 one_group x a b d f = simp append_assoc
 
-pub group_laid : (o a b d : Laying) (x y : List ℕ) (f : List ℕ → List ℕ) → a ≡ more o x → b ≡ more a y → d ≡ more b (f b.chunk) → d ≡ more (more (more o x) y) (f o.chunk)
+pub group_laid : (o a b d : OutputSoFar) (x y : List ℕ) (f : List ℕ → List ℕ) → a ≡ more o x → b ≡ more a y → d ≡ more b (f b.chunk) → d ≡ more (more (more o x) y) (f o.chunk)
 group_laid o a b d x y f p q r =
     let m : b ≡ more (more o x) y = q ∙ ap (λ z. more z y) p in
-    r ∙ ap (λ (z : Laying). more z (f z.chunk)) m
+    r ∙ ap (λ (z : OutputSoFar). more z (f z.chunk)) m
 
-pub laying_next : (o now next : Laying) (es rest : List EntryAt) (e : EntryAt) → LayingPools o now es rest → slice_get rest 0 ≡ Some e →
+pub laying_next : (o now next : OutputSoFar) (es rest : List EntryAt) (e : EntryAt) → LayingPools o now es rest → slice_get rest 0 ≡ Some e →
     next ≡ more (more (more now (spell e.class)) (spell (length (take (leading e rest) rest)))) (flat_map (entry_bytes now.chunk) (take (leading e rest) rest)) → LayingPools o next es (drop (leading e rest) rest)
 laying_next o now next es [] e m r n = cc
 laying_next o now next es (x ∷ behind) e m r n =
@@ -158,12 +158,12 @@ laying_next o now next es (x ∷ behind) e m r n =
     let u : next ≡ more (more (more now (spell e.class)) (spell (length pool))) (flat_map (entry_bytes o.chunk) pool) = n ∙ ap (λ z. more (more (more now (spell e.class)) (spell (length pool))) (flat_map (entry_bytes z) pool)) m.chunk in
     let v = one_group now.bytes (spell e.class) (spell (length pool)) (flat_map (entry_bytes o.chunk) pool) f in
     record {
-      chunk = ap (λ (z : Laying). z.chunk) n ∙ m.chunk;
+      chunk = ap (λ (z : OutputSoFar). z.chunk) n ∙ m.chunk;
       laid = ap (λ z. more z f) u ∙ ((λ i. record { chunk = now.chunk; bytes = v i }) ∙ (ap (λ gs. more now (flat_map (group_bytes o.chunk) gs)) (sym b) ∙ m.laid));
       ranges = range_drop (length o.chunk) rest (leading e rest) m.ranges;
     }
 
-pub laying_all : (o now : Laying) (es rest : List EntryAt) → LayingPools o now es rest → length rest ≤ 0 → now ≡ more o (flat_map (group_bytes o.chunk) (by_pool es))
+pub laying_all : (o now : OutputSoFar) (es rest : List EntryAt) → LayingPools o now es rest → length rest ≤ 0 → now ≡ more o (flat_map (group_bytes o.chunk) (by_pool es))
 laying_all o now es [] m h = (λ i. record { chunk = now.chunk; bytes = sym (append-nil now.bytes) i }) ∙ m.laid
 laying_all o now es (e ∷ rest) m h = absurd (omega arith)
 

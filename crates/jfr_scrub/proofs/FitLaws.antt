@@ -19,7 +19,7 @@ use Rattle.jfr_pool.specs.Entries.{Constant, PoolAt, entry_of, entries_from, Are
 use Rattle.jfr_chunk.specs.Parts.{Parts, EventAt, AreParts}
 use Rattle.jfr_chunk.specs.Reach.{reached_marks, remain}
 use Rattle.jfr_chunk.specs.Written.{distance}
-use Rattle.jfr_chunk.specs.Scrub.{OutputRecord, Whole, Chained, Rebuilt, groups_of, bytes_of, written_bytes, written, written_anew, output_records, output_records_whole}
+use Rattle.jfr_chunk.specs.Scrub.{OutputRecord, Whole, Chained, Rebuilt, groups_of, bytes_of, written_bytes, written, written_anew, output_records, is_kept_or_metadata}
 use Rattle.jfr_laws.specs.InChunk.{IsLinkIn, Constants, Pools}
 use Rattle.jfr_laws.proofs.InChunk.{body_stands}
 use Rattle.jfr_laws.proofs.Marks.{all_marked}
@@ -76,7 +76,7 @@ module _ (p : Parts) (a : AreParts p) (kept : List EventAt) where
 
   is_ready : Ready p (remain p kept) (output_records p kept)
   unfolding remain
-  is_ready = ready p a (output_records_whole p kept) (written_anew p kept) (good_anew p a kept) (reached_marks p kept)
+  is_ready = ready p a (is_kept_or_metadata p kept) (written_anew p kept) (good_anew p a kept) (reached_marks p kept)
 
   pub all_fit : AllByRecursion (WrittenFits p.bytes (remain p kept)) (written p.bytes (remain p kept) 68 None (output_records p kept))
   all_fit = all_written p.bytes (remain p kept) p.classes (output_records p kept) 68 None is_ready.valid is_ready.deltas
@@ -84,7 +84,7 @@ module _ (p : Parts) (a : AreParts p) (kept : List EventAt) where
   pub all_within : 68 + length (flat_map (written_bytes p.bytes (remain p kept)) (written p.bytes (remain p kept) 68 None (output_records p kept))) ≤ length p.bytes
   all_within =
       let i = length_back p.bytes (remain p kept) p.classes (output_records p kept) 68 None is_ready.valid is_ready.deltas in
-      let j = sizes_within p.bytes (all_links p) (output_records_whole p kept) (written_anew p kept) (records_of (all_links p) (chained_checkpoints p a)) p.records 68 (length p.bytes) a.records in
+      let j = sizes_within p.bytes (all_links p) (is_kept_or_metadata p kept) (written_anew p kept) (records_of (all_links p) (chained_checkpoints p a)) p.records 68 (length p.bytes) a.records in
       omega arith
 
 module _ (c : List ℕ) (k : Classes) where

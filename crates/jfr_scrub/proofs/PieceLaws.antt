@@ -12,7 +12,7 @@ use Rattle.jfr_scrub.specs.declared.piece.MadePart.{MadePart}
 use Rattle.jfr_scrub.specs.declared.piece.MadePart.TheVariants.{ChunkHeader}
 use Rattle.jfr_scrub.specs.declared.piece.Part.{Part}
 use Rattle.jfr_scrub.specs.declared.piece.Part.TheVariants as parts
-use Rattle.jfr_scrub.specs.Pieces.{IsHeaded, IsHeader, IsNumber, IsNumberIn, Laid, Laying, Lies, joined, laying_of, more, part_bytes}
+use Rattle.jfr_scrub.specs.Pieces.{IsHeaded, IsHeader, IsMadeBytes, IsMadeBytesIn, PieceList, OutputSoFar, Lies, joined, output_so_far, more, part_bytes}
 
 -- What is made later changes no range of what was made.
 pub range_front : (xs ys : List ℕ) (p q : ℕ) → p ≤ q → q ≤ length xs → slice_range (xs ++ ys) p q ≡ slice_range xs p q
@@ -97,40 +97,40 @@ lies_get n m (p ∷ ps) zero d a h = a.0
 lies_get n m (p ∷ ps) (suc i) d a h = lies_get n m ps i d a.1 (omega arith)
 
 -- The pieces, followed by a range of the chunk.
-abbrev pub pending : Laid → ℕ → ℕ → Laid
+abbrev pub pending : PieceList → ℕ → ℕ → PieceList
 pending l from to = record { chunk = l.chunk; made = l.made; pieces = l.pieces ++ parts.Copied from to ∷ [] }
 
-pub pending_bytes : (l : Laid) (from to : ℕ) → joined (pending l from to) ≡ joined l ++ slice_range l.chunk from to
+pub pending_bytes : (l : PieceList) (from to : ℕ) → joined (pending l from to) ≡ joined l ++ slice_range l.chunk from to
 pending_bytes l from to =
     flat_map-append (part_bytes l.chunk l.made) l.pieces (parts.Copied from to ∷ []) ∙ ap (λ z. joined l ++ z) (append-nil (slice_range l.chunk from to))
 
-laying_pending : (l : Laid) (from to : ℕ) → laying_of (pending l from to) ≡ record { chunk = l.chunk; bytes = joined l ++ slice_range l.chunk from to }
+laying_pending : (l : PieceList) (from to : ℕ) → output_so_far (pending l from to) ≡ record { chunk = l.chunk; bytes = joined l ++ slice_range l.chunk from to }
 laying_pending l from to = λ i. record { chunk = l.chunk; bytes = pending_bytes l from to i }
 
 -- A range that continues the last one.
-pub longer_laid : (l o : Laid) (from middle at to : ℕ) → pending l from middle ≡ o → at ≡ middle → from ≤ middle → at ≤ to → laying_of (pending l from to) ≡ more (laying_of o) (slice_range o.chunk at to)
+pub longer_laid : (l o : PieceList) (from middle at to : ℕ) → pending l from middle ≡ o → at ≡ middle → from ≤ middle → at ≤ to → output_so_far (pending l from to) ≡ more (output_so_far o) (slice_range o.chunk at to)
 longer_laid l o from middle at to v e h i =
     let c = l.chunk in
     let split : joined l ++ slice_range c from to ≡ (joined l ++ slice_range c from middle) ++ slice_range c at to =
     ap (λ z. joined l ++ z) (range_split c from middle to h (omega arith)) ∙ (sym (append_assoc (joined l) (slice_range c from middle) (slice_range c middle to)) ∙ ap (λ n. (joined l ++ slice_range c from middle) ++ slice_range c n to) (sym e)) in
     laying_pending l from to ∙ ((λ i. record { chunk = c; bytes = split i })
-    ∙ (ap (λ z. more z (slice_range c at to)) (sym (laying_pending l from middle)) ∙ ap (λ (z : Laid). more (laying_of z) (slice_range z.chunk at to)) v))
+    ∙ (ap (λ z. more z (slice_range c at to)) (sym (laying_pending l from middle)) ∙ ap (λ (z : PieceList). more (output_so_far z) (slice_range z.chunk at to)) v))
 
 -- The last range is a piece now.
-settled : (l m o : Laid) (from to : ℕ) → pending l from to ≡ o → m.chunk ≡ l.chunk → joined m ≡ joined l ++ slice_range l.chunk from to → laying_of m ≡ laying_of o
-settled l m o from to v e f = (λ i. record { chunk = e i; bytes = f i }) ∙ (sym (laying_pending l from to) ∙ ap laying_of v)
+settled : (l m o : PieceList) (from to : ℕ) → pending l from to ≡ o → m.chunk ≡ l.chunk → joined m ≡ joined l ++ slice_range l.chunk from to → output_so_far m ≡ output_so_far o
+settled l m o from to v e f = (λ i. record { chunk = e i; bytes = f i }) ∙ (sym (laying_pending l from to) ∙ ap output_so_far v)
 
 -- Another range.
-pub next_laid : (l m o : Laid) (from to at end : ℕ) → pending l from to ≡ o → m.chunk ≡ l.chunk → joined m ≡ joined l ++ slice_range l.chunk from to → laying_of (pending m at end) ≡ more (laying_of o) (slice_range o.chunk at end)
-next_laid l m o from to at end v e f = laying_pending m at end ∙ ap (λ (z : Laying). more z (slice_range z.chunk at end)) (settled l m o from to v e f)
+pub next_laid : (l m o : PieceList) (from to at end : ℕ) → pending l from to ≡ o → m.chunk ≡ l.chunk → joined m ≡ joined l ++ slice_range l.chunk from to → output_so_far (pending m at end) ≡ more (output_so_far o) (slice_range o.chunk at end)
+next_laid l m o from to at end v e f = laying_pending m at end ∙ ap (λ (z : OutputSoFar). more z (slice_range z.chunk at end)) (settled l m o from to v e f)
 
 -- Bytes that are made after the last range.
-pub made_laid : (l m n o : Laid) (x : List ℕ) (from to : ℕ) → pending l from to ≡ o → m.chunk ≡ l.chunk → joined m ≡ joined l ++ slice_range l.chunk from to → n.chunk ≡ m.chunk → joined n ≡ joined m ++ x → laying_of (pending n 0 0) ≡ more (laying_of o) x
+pub made_laid : (l m n o : PieceList) (x : List ℕ) (from to : ℕ) → pending l from to ≡ o → m.chunk ≡ l.chunk → joined m ≡ joined l ++ slice_range l.chunk from to → n.chunk ≡ m.chunk → joined n ≡ joined m ++ x → output_so_far (pending n 0 0) ≡ more (output_so_far o) x
 made_laid l m n o x from to v e f g h =
     laying_pending n 0 0 ∙ ((λ i. record { chunk = g i; bytes = (append-nil (joined n) ∙ h) i }) ∙ ap (λ z. more z x) (settled l m o from to v e f))
 
 -- The bytes before and with the last range.
-pub finished : (l o : Laid) (front all : List ℕ) (from to : ℕ) → pending l from to ≡ o → all ≡ front ++ (joined l ++ slice_range l.chunk from to) → all ≡ front ++ joined o
+pub finished : (l o : PieceList) (front all : List ℕ) (from to : ℕ) → pending l from to ≡ o → all ≡ front ++ (joined l ++ slice_range l.chunk from to) → all ≡ front ++ joined o
 finished l o front all from to v e = e ∙ ap (λ z. front ++ z) (sym (pending_bytes l from to) ∙ ap joined v)
 
 -- One more range of the chunk lies in it, and what is made last in what is made.
@@ -145,30 +145,30 @@ lies_last n made x more ps qs part from to a e f t q =
     (all_append (Lies n (length more)) ps (parts.Made part from to ∷ []) (lies_more n (length made) (length more) ps (omega arith) a) ((omega arith, omega arith), tt))
 
 -- What is made later changes no number.
-pub numbers_more : (n : ℕ) (made x : List ℕ) (ps : List Part) → AllByRecursion (Lies n (length made)) ps → AllByRecursion (IsNumberIn made) ps → AllByRecursion (IsNumberIn (made ++ x)) ps
+pub numbers_more : (n : ℕ) (made x : List ℕ) (ps : List Part) → AllByRecursion (Lies n (length made)) ps → AllByRecursion (IsMadeBytesIn made) ps → AllByRecursion (IsMadeBytesIn (made ++ x)) ps
 numbers_more n made x [] a b = tt
 numbers_more n made x (parts.Copied from to ∷ ps) a b = (tt, numbers_more n made x ps a.1 b.1)
-numbers_more n made x (parts.Made part from to ∷ ps) a b = (subst (IsNumber part) (sym (range_front made x from to a.0.0 a.0.1)) b.0, numbers_more n made x ps a.1 b.1)
+numbers_more n made x (parts.Made part from to ∷ ps) a b = (subst (IsMadeBytes part) (sym (range_front made x from to a.0.0 a.0.1)) b.0, numbers_more n made x ps a.1 b.1)
 
 -- One more number.
 pub numbers_last : (n : ℕ) (made x more : List ℕ) (ps qs : List Part) (part : MadePart) (from to : ℕ) → AllByRecursion (Lies n (length made)) ps → more ≡ made ++ x → from ≡ length made → to ≡ length more →
-    qs ≡ ps ++ parts.Made part from to ∷ [] → IsNumber part x → AllByRecursion (IsNumberIn made) ps → AllByRecursion (IsNumberIn more) qs
+    qs ≡ ps ++ parts.Made part from to ∷ [] → IsMadeBytes part x → AllByRecursion (IsMadeBytesIn made) ps → AllByRecursion (IsMadeBytesIn more) qs
 numbers_last n made x more ps qs part from to a e f t q i b =
-    let old : AllByRecursion (IsNumberIn more) ps = subst (λ z. AllByRecursion (IsNumberIn z) ps) (sym e) (numbers_more n made x ps a b) in
-    subst (AllByRecursion (IsNumberIn more)) (sym q) (all_append (IsNumberIn more) ps (parts.Made part from to ∷ []) old (subst (IsNumber part) (sym (made_last made x more from to e f t)) i, tt))
+    let old : AllByRecursion (IsMadeBytesIn more) ps = subst (λ z. AllByRecursion (IsMadeBytesIn z) ps) (sym e) (numbers_more n made x ps a b) in
+    subst (AllByRecursion (IsMadeBytesIn more)) (sym q) (all_append (IsMadeBytesIn more) ps (parts.Made part from to ∷ []) old (subst (IsMadeBytes part) (sym (made_last made x more from to e f t)) i, tt))
 
 -- One more range of the chunk.
-pub numbers_range : (made : List ℕ) (ps qs : List Part) (from to : ℕ) → qs ≡ ps ++ parts.Copied from to ∷ [] → AllByRecursion (IsNumberIn made) ps → AllByRecursion (IsNumberIn made) qs
-numbers_range made ps qs from to q b = subst (AllByRecursion (IsNumberIn made)) (sym q) (all_append (IsNumberIn made) ps (parts.Copied from to ∷ []) b (tt, tt))
+pub numbers_range : (made : List ℕ) (ps qs : List Part) (from to : ℕ) → qs ≡ ps ++ parts.Copied from to ∷ [] → AllByRecursion (IsMadeBytesIn made) ps → AllByRecursion (IsMadeBytesIn made) qs
+numbers_range made ps qs from to q b = subst (AllByRecursion (IsMadeBytesIn made)) (sym q) (all_append (IsMadeBytesIn made) ps (parts.Copied from to ∷ []) b (tt, tt))
 
 -- The header before the numbers.
 pub headed_first : (c made x more : List ℕ) (ps qs : List Part) (from to : ℕ) → AllByRecursion (Lies (length c) (length made)) ps → more ≡ made ++ x → from ≡ length made → to ≡ length more →
-    qs ≡ parts.Made ChunkHeader from to ∷ ps → IsHeader x → AllByRecursion (IsNumberIn made) ps → IsHeaded (record { chunk = c; made = more; pieces = qs })
+    qs ≡ parts.Made ChunkHeader from to ∷ ps → IsHeader x → AllByRecursion (IsMadeBytesIn made) ps → IsHeaded (record { chunk = c; made = more; pieces = qs })
 headed_first c made x more ps qs from to a e f t q i b = record {
   from = from;
   to = to;
   others = ps;
   pieces = q;
   header = subst IsHeader (sym (made_last made x more from to e f t)) i;
-  numbers = subst (λ z. AllByRecursion (IsNumberIn z) ps) (sym e) (numbers_more (length c) made x ps a b);
+  numbers = subst (λ z. AllByRecursion (IsMadeBytesIn z) ps) (sym e) (numbers_more (length c) made x ps a b);
 }

@@ -21,11 +21,11 @@ use Rattle.jfr_chunk.proofs.AllLaws.{all_append, all_get}
 use Rattle.jfr_laws.proofs.Quiet.{IsQuiet, quiet_records}
 use Rattle.jfr_output.specs.declared.output_records.Cursor.{Cursor}
 use Rattle.jfr_output.specs.Positions.{offset_so_far}
-use Rattle.jfr_output.specs.OutputRecords.{IsCursor, is_kept_at, link_after, link_there, linked_at, still_output_records}
+use Rattle.jfr_output.specs.OutputRecords.{IsCursor, is_kept_at, link_after, link_there, linked_at, remaining_output_records}
 use Rattle.jfr_output.proofs.CursorLaws.{cursor_passed, output_records_at}
 use Rattle.jfr_scrub.specs.declared.run.Run.{Run}
 use Rattle.jfr_scrub.specs.Bodies.{Progress, body_with}
-use Rattle.jfr_scrub.specs.Pieces.{Laying, more}
+use Rattle.jfr_scrub.specs.Pieces.{OutputSoFar, more}
 use Rattle.jfr_scrub.specs.Runs.{HasEventAt, IsRun, Passes, body_with_run, is_in_run, record_start}
 use Rattle.jfr_scrub.proofs.GallopingLaws.{event_recorded, in_run}
 use Rattle.jfr_scrub.proofs.BodyLaws.{Going, going_next}
@@ -44,7 +44,7 @@ pub record AtRun (p : Parts) (flags : List Bool) (c : Cursor) : Type 0 where
   pub event : c.event < length (events_of p)
   pub other : (frame.at == metadata_at p.bytes) ≡ false
   pub cursor : IsCursor p flags (next_event c)
-  pub output_records : still_output_records p flags c ≡ Whole frame ∷ still_output_records p flags (next_event c)
+  pub output_records : remaining_output_records p flags c ≡ Whole frame ∷ remaining_output_records p flags (next_event c)
 
 unlinked : (ls : List Link) (n at : ℕ) → linked_at ls n at ≡ None → link_after ls n at ≡ n
 unlinked ls n at e = by_link (slice_get ls n) e
@@ -145,7 +145,7 @@ run_next p flags c d from u a =
       tiles = subst (Tiles p.bytes from (u.records ++ a.frame ∷ [])) (sym e) (tiles_more p.bytes from (record_start p d.frame) u.records a.frame u.tiles (sym f) s.0);
       within = start_within p a.cursor.parts (d.frame + 1);
       others = all_append (λ r. (r.at == metadata_at p.bytes) ≡ false) u.records (a.frame ∷ []) u.others (a.other, tt);
-      output_records = u.output_records ∙ (ap (λ ss. map (λ r. Whole r) u.records ++ ss) a.output_records ∙ more_output_records u.records a.frame (still_output_records p flags (next_event d)));
+      output_records = u.output_records ∙ (ap (λ ss. map (λ r. Whole r) u.records ++ ss) a.output_records ∙ more_output_records u.records a.frame (remaining_output_records p flags (next_event d)));
     }
 
 -- If all events are kept, consecutive ones are a run.
@@ -231,16 +231,16 @@ laid_run p remaining all ss (r ∷ rs) from to b g t o =
     subst (Going p remaining all ss) (e ∙ ap (λ n. with_range b n to) t.0) rest
 
 -- What is left to lay out after a run.
-pub going_run : (p : Parts) (flags : List Bool) (remaining : List EntryAt) (all rest : List OutputRecord) (c d : Cursor) (run : Run) (b next : Progress) → IsRun p flags c d run.from run.to → Going p remaining all (still_output_records p flags c) b → next ≡ body_with_run b run → still_output_records p flags d ≡ rest → Going p remaining all rest next
+pub going_run : (p : Parts) (flags : List Bool) (remaining : List EntryAt) (all rest : List OutputRecord) (c d : Cursor) (run : Run) (b next : Progress) → IsRun p flags c d run.from run.to → Going p remaining all (remaining_output_records p flags c) b → next ≡ body_with_run b run → remaining_output_records p flags d ≡ rest → Going p remaining all rest next
 going_run p flags remaining all rest c d run b next u g n e =
-    let laid = laid_run p remaining all (still_output_records p flags d) u.records run.from run.to b (subst (λ ss. Going p remaining all ss b) u.output_records g) u.tiles u.others in
-    subst (λ ss. Going p remaining all ss next) e (subst (Going p remaining all (still_output_records p flags d)) (sym n) laid)
+    let laid = laid_run p remaining all (remaining_output_records p flags d) u.records run.from run.to b (subst (λ ss. Going p remaining all ss b) u.output_records g) u.tiles u.others in
+    subst (λ ss. Going p remaining all ss next) e (subst (Going p remaining all (remaining_output_records p flags d)) (sym n) laid)
 
 -- What is laid out is no longer than the chunk.
 pub going_within : (p : Parts) (remaining : List EntryAt) (all ss : List OutputRecord) (b : Progress) → Going p remaining all ss b → b.at ≤ length p.bytes
 going_within p remaining all ss b g =
     let y = flat_map (written_bytes p.bytes remaining) (written p.bytes remaining b.at b.older ss) in
-    let k : length (b.output.bytes ++ y) ≡ length (flat_map (written_bytes p.bytes remaining) (written p.bytes remaining 68 None all)) = ap (λ (z : Laying). length z.bytes) g.output in
+    let k : length (b.output.bytes ++ y) ≡ length (flat_map (written_bytes p.bytes remaining) (written p.bytes remaining 68 None all)) = ap (λ (z : OutputSoFar). length z.bytes) g.output in
     let l : length (b.output.bytes ++ y) ≡ length b.output.bytes + length y = length-append b.output.bytes y in
     let w : 68 + length (flat_map (written_bytes p.bytes remaining) (written p.bytes remaining 68 None all)) ≤ length p.bytes = g.within in
     let a : b.at ≡ 68 + length b.output.bytes = g.at in

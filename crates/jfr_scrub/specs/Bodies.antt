@@ -12,19 +12,19 @@ use Rattle.jfr_scrub.specs.declared.body.Body.{Body}
 use Rattle.jfr_scrub.specs.declared.piece.MadePart.{MadePart}
 use Rattle.jfr_scrub.specs.declared.piece.MadePart.TheVariants.{ChunkHeader, CheckpointSize, CheckpointDelta, PoolCount, PoolClass, EntryCount, MetadataRecord}
 use Rattle.jfr_scrub.specs.declared.piece.Part.{Part}
-use Rattle.jfr_scrub.specs.Pieces.{Laying, laying_of, more, EntryIsCopied, Keeps, RecordIsCopied}
+use Rattle.jfr_scrub.specs.Pieces.{OutputSoFar, output_so_far, more, EntryIsCopied, Keeps, RecordIsCopied}
 use Rattle.jfr_scrub.specs.Fits.{LinkFits}
 
 -- The body so far, as bytes.
 pub record Progress : Type 0 where
-  pub output : Laying
+  pub output : OutputSoFar
   pub at : ℕ
   pub older : Option ℕ
   pub metadata : Option ℕ
 
 -- The body so far that the code's `Body` holds.
 abbrev pub progress_of : Body → Progress
-progress_of b = record { output = laying_of b.output; at = b.at; older = b.older; metadata = b.metadata }
+progress_of b = record { output = output_so_far b.output; at = b.at; older = b.older; metadata = b.metadata }
 
 -- The output record takes no more bytes than the record of the chunk from which it is made.
 abbrev pub OutputRecordFits : List ℕ → List EntryAt → OutputRecord → ℕ → Option ℕ → Type 0

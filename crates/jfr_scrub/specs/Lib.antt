@@ -2,7 +2,7 @@ pub mod Pieces
 pub mod Sizes
 pub mod Fits
 pub mod Bodies
-pub mod LaysOut
+pub mod IsLaidOut
 pub mod Runs
 pub mod Scrubbing
 pub mod Scrubs

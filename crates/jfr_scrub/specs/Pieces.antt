@@ -18,7 +18,7 @@ use Rattle.jfr_scrub.specs.declared.piece.Piece.TheVariants as pieces
 use Rattle.jfr_scrub.specs.declared.ranges.Ranges.{Ranges}
 
 -- A chunk, the made bytes, and the pieces in order.
-pub record Laid : Type 0 where
+pub record PieceList : Type 0 where
   pub chunk : List ℕ
   pub made : List ℕ
   pub pieces : List Part
@@ -29,7 +29,7 @@ part_bytes c made (parts.Copied from to) = slice_range c from to
 part_bytes c made (parts.Made part from to) = slice_range made from to
 
 -- The bytes of the pieces, one after another.
-abbrev pub joined : Laid → List ℕ
+abbrev pub joined : PieceList → List ℕ
 joined l = flat_map (part_bytes l.chunk l.made) l.pieces
 
 -- The range of a piece lies in the chunk, or in the made bytes, of these lengths.
@@ -38,11 +38,11 @@ Lies n m (parts.Copied from to) = (from ≤ to) × (to ≤ n)
 Lies n m (parts.Made part from to) = (from ≤ to) × (to ≤ m)
 
 -- The pieces lie in the chunk and in the made bytes.
-abbrev pub LieIn : Laid → Type 0
+abbrev pub LieIn : PieceList → Type 0
 LieIn l = AllByRecursion (Lies (length l.chunk) (length l.made)) l.pieces
 
 -- The pieces given by a chunk and these ranges.
-abbrev pub laid_in : List ℕ → Ranges → Laid
+abbrev pub laid_in : List ℕ → Ranges → PieceList
 laid_in c r = record { chunk = c; made = r.made.items; pieces = r.parts.items }
 
 -- The range of a piece.
@@ -119,14 +119,14 @@ pub record IsInWidth (b : List ℕ) : Type 0 where
 
 -- The bytes are those of a part with this meaning: an integer in the right spelling, or a metadata record. A
 -- header is neither.
-abbrev pub IsNumber : MadePart → List ℕ → Type 0
-IsNumber ChunkHeader b = ⊥
-IsNumber CheckpointSize b = IsInWidth b
-IsNumber CheckpointDelta b = IsShortest b
-IsNumber PoolCount b = IsShortest b
-IsNumber PoolClass b = IsShortest b
-IsNumber EntryCount b = IsShortest b
-IsNumber MetadataRecord b = IsMetadataRecord b
+abbrev pub IsMadeBytes : MadePart → List ℕ → Type 0
+IsMadeBytes ChunkHeader b = ⊥
+IsMadeBytes CheckpointSize b = IsInWidth b
+IsMadeBytes CheckpointDelta b = IsShortest b
+IsMadeBytes PoolCount b = IsShortest b
+IsMadeBytes PoolClass b = IsShortest b
+IsMadeBytes EntryCount b = IsShortest b
+IsMadeBytes MetadataRecord b = IsMetadataRecord b
 
 -- An integer with this meaning is in its shortest spelling.
 abbrev pub TakesShortest : MadePart → Type 0
@@ -139,32 +139,32 @@ TakesShortest EntryCount = ⊤
 TakesShortest MetadataRecord = ⊥
 
 -- A made piece has the bytes of its meaning, which isn't a header.
-abbrev pub IsNumberIn : List ℕ → Part → Type 0
-IsNumberIn made (parts.Copied from to) = ⊤
-IsNumberIn made (parts.Made part from to) = IsNumber part (slice_range made from to)
+abbrev pub IsMadeBytesIn : List ℕ → Part → Type 0
+IsMadeBytesIn made (parts.Copied from to) = ⊤
+IsMadeBytesIn made (parts.Made part from to) = IsMadeBytes part (slice_range made from to)
 
 -- Each made piece has the bytes of its meaning, which isn't a header.
-abbrev pub AreNumbers : Laid → Type 0
-AreNumbers l = AllByRecursion (IsNumberIn l.made) l.pieces
+abbrev pub AreMadeBytes : PieceList → Type 0
+AreMadeBytes l = AllByRecursion (IsMadeBytesIn l.made) l.pieces
 
 -- The first piece is the header, and each other made piece has the bytes of its meaning.
-pub record IsHeaded (l : Laid) : Type 0 where
+pub record IsHeaded (l : PieceList) : Type 0 where
   pub from : ℕ
   pub to : ℕ
   pub others : List Part
   pub pieces : l.pieces ≡ parts.Made ChunkHeader from to ∷ others
   pub header : IsHeader (slice_range l.made from to)
-  pub numbers : AllByRecursion (IsNumberIn l.made) others
+  pub numbers : AllByRecursion (IsMadeBytesIn l.made) others
 
 -- A chunk, and the bytes of its output so far.
-pub record Laying : Type 0 where
+pub record OutputSoFar : Type 0 where
   pub chunk : List ℕ
   pub bytes : List ℕ
 
 -- The bytes of the pieces so far.
-abbrev pub laying_of : Laid → Laying
-laying_of l = record { chunk = l.chunk; bytes = joined l }
+abbrev pub output_so_far : PieceList → OutputSoFar
+output_so_far l = record { chunk = l.chunk; bytes = joined l }
 
 -- The output with more bytes.
-abbrev pub more : Laying → List ℕ → Laying
+abbrev pub more : OutputSoFar → List ℕ → OutputSoFar
 more l bytes = record { chunk = l.chunk; bytes = l.bytes ++ bytes }

@@ -7,7 +7,7 @@ use Rattle.jfr_frame.specs.Records.{Tiles}
 use Rattle.jfr_chunk.specs.Parts.{Parts, EventAt, events_of, metadata_at}
 use Rattle.jfr_chunk.specs.Scrub.{Whole}
 use Rattle.jfr_output.specs.declared.output_records.Cursor.{Cursor}
-use Rattle.jfr_output.specs.OutputRecords.{IsCursor, events_from, is_kept_at, still_output_records}
+use Rattle.jfr_output.specs.OutputRecords.{IsCursor, events_from, is_kept_at, remaining_output_records}
 use Rattle.jfr_scrub.specs.declared.run.Run.{Run}
 use Rattle.jfr_scrub.specs.Bodies.{Progress}
 use Rattle.jfr_scrub.specs.Pieces.{more}
@@ -45,7 +45,7 @@ pub record IsRun (p : Parts) (flags : List Bool) (c d : Cursor) (from to : ℕ) 
   pub tiles : Tiles p.bytes from records to
   pub within : to ≤ length p.bytes
   pub others : AllByRecursion (λ r. (r.at == metadata_at p.bytes) ≡ false) records
-  pub output_records : still_output_records p flags c ≡ map (λ r. Whole r) records ++ still_output_records p flags d
+  pub output_records : remaining_output_records p flags c ≡ map (λ r. Whole r) records ++ remaining_output_records p flags d
 
 -- The cursor has moved past a run.
 pub record Passes (p : Parts) (flags : List Bool) (c d : Cursor) : Type 0 where

@@ -2,7 +2,7 @@
 use Rattle.std.specs.Prelude.{ℕ, List}
 use Rattle.jfr_header.specs.Fronts.{Whole}
 use Rattle.jfr_chunk.specs.Parts.{Parts, AreParts}
-use Rattle.jfr_scrub.specs.Pieces.{Laid, joined}
+use Rattle.jfr_scrub.specs.Pieces.{PieceList, joined}
 
 -- The parts are those of a whole chunk.
 pub record IsAccepted (p : Parts) : Type 0 where
@@ -11,7 +11,7 @@ pub record IsAccepted (p : Parts) : Type 0 where
 
 -- The pieces of the output, a bound on their bytes, and the numbers of events and entries that are kept.
 pub record Prepared : Type 0 where
-  pub laid : Laid
+  pub laid : PieceList
   pub size : ℕ
   pub events : ℕ
   pub entries : ℕ
@@ -19,7 +19,7 @@ pub record Prepared : Type 0 where
 -- The pieces of the output, the bytes that have been written, and the numbers of events and entries that are
 -- kept.
 pub record Scrubbing : Type 0 where
-  pub laid : Laid
+  pub laid : PieceList
   pub written : List ℕ
   pub events : ℕ
   pub entries : ℕ

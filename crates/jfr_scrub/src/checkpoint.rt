@@ -4,7 +4,7 @@ ghost use Rattle.std.specs.List.{AllByRecursion, flat_map};
 ghost use Rattle.jfr_chunk.specs.Written.{by_pool, checkpoint_bytes, entry_bytes, group_bytes};
 ghost use Rattle.jfr_scrub.specs.Bodies.{checkpoint_parts, pool_parts};
 ghost use Rattle.jfr_scrub.specs.Fits.{LinkFits};
-ghost use Rattle.jfr_scrub.specs.Pieces.{EntryIsCopied, Grows, laying_of, more};
+ghost use Rattle.jfr_scrub.specs.Pieces.{EntryIsCopied, Grows, output_so_far, more};
 ghost use Rattle.jfr_scrub.specs.Sizes.{HasRange};
 
 use crate::measure::measured;
@@ -26,7 +26,7 @@ pub(crate) fn lay_checkpoint(
     requires fits { LinkFits output.old.chunk link.now delta (by_pool entries.now) }
     requires ranges { AllByRecursion (HasRange (length output.old.chunk)) entries.now }
     requires small { length output.old.chunk < 2 ^ 64 }
-    ensures ok { OnOk result (laying_of output.new ≡ more (laying_of output.old) (checkpoint_bytes output.old.chunk link.now delta (by_pool entries.now))) }
+    ensures ok { OnOk result (output_so_far output.new ≡ more (output_so_far output.old) (checkpoint_bytes output.old.chunk link.now delta (by_pool entries.now))) }
     ensures copied { OnOk result (AllByRecursion (EntryIsCopied output.new.pieces) entries.now) }
     ensures grows { OnOk result (Grows output.old.pieces output.new.pieces (checkpoint_parts (by_pool entries.now))) }
     ensures size { IfOk result (λ size. size ≡ length (checkpoint_bytes output.old.chunk link.now delta (by_pool entries.now))) }
@@ -48,7 +48,7 @@ pub(crate) fn lay_checkpoint(
 // Lays out the pools of a checkpoint's entries.
 fn lay_pools(output: &mut Output, entries: &[EntryAt]) -> Result<(), NoMemory>
     requires { AllByRecursion (HasRange (length output.old.chunk)) entries.now }
-    ensures ok { OnOk result (laying_of output.new ≡ more (laying_of output.old) (flat_map (group_bytes output.old.chunk) (by_pool entries.now))) }
+    ensures ok { OnOk result (output_so_far output.new ≡ more (output_so_far output.old) (flat_map (group_bytes output.old.chunk) (by_pool entries.now))) }
     ensures copied { OnOk result (AllByRecursion (EntryIsCopied output.new.pieces) entries.now) }
     ensures grows { OnOk result (Grows output.old.pieces output.new.pieces (flat_map pool_parts (by_pool entries.now))) }
 {
@@ -66,7 +66,7 @@ fn lay_pools(output: &mut Output, entries: &[EntryAt]) -> Result<(), NoMemory>
 // Lays out the entries of a pool.
 fn lay_entries(output: &mut Output, entries: &[EntryAt]) -> Result<(), NoMemory>
     requires { AllByRecursion (HasRange (length output.old.chunk)) entries.now }
-    ensures ok { OnOk result (laying_of output.new ≡ more (laying_of output.old) (flat_map (entry_bytes output.old.chunk) entries.now)) }
+    ensures ok { OnOk result (output_so_far output.new ≡ more (output_so_far output.old) (flat_map (entry_bytes output.old.chunk) entries.now)) }
     ensures copied { OnOk result (AllByRecursion (EntryIsCopied output.new.pieces) entries.now) }
     ensures grows { OnOk result (Grows output.old.pieces output.new.pieces []) }
 {

@@ -6,7 +6,7 @@ ghost use Rattle.jfr_chunk.specs.Reach.{kept_by, reached_marks};
 ghost use Rattle.jfr_laws.specs.Laws.{IsSettled};
 ghost use Rattle.jfr_output.specs.Metadata.{IsMetadataRecord};
 ghost use Rattle.jfr_output.specs.OutputRecords.{new_metadata};
-ghost use Rattle.jfr_scrub.specs.LaysOut.{LaysOut};
+ghost use Rattle.jfr_scrub.specs.IsLaidOut.{IsLaidOut};
 ghost use Rattle.jfr_scrub.specs.Pieces.{joined, laid_in, LieIn};
 ghost use Rattle.jfr_scrub.specs.Scrubbing.{IsAccepted};
 
@@ -52,7 +52,7 @@ impl<'a> LaidOut<'a> {
         chunk: &Chunk<'a>,
         filter: &Filter,
     ) -> Result<LaidOut<'a>, NoMemory>
-        ensures laid { IfOk result (λ s. LaysOut chunk.now (kept_of filter.now chunk.now) s.laid s.events s.entries) }
+        ensures laid { IfOk result (λ s. IsLaidOut chunk.now (kept_of filter.now chunk.now) s.laid s.events s.entries) }
         ensures settled { IfOk result (λ s. IsSettled filter.now chunk.now) }
     {
         let kept = choose(alloc, chunk, filter)?;
@@ -112,7 +112,7 @@ fn lay_out<'a>(
     requires kept { length kept.now ≡ length (events_of chunk.now) }
     requires slim { option_map (λ s. s.now) slim ≡ new_metadata chunk.now kept.now }
     requires metadata { IfSome slim (λ s. IsMetadataRecord s.now) }
-    ensures laid { IfOk result (λ s. LaysOut chunk.now (kept_by chunk.now kept.now) s.laid s.events s.entries) }
+    ensures laid { IfOk result (λ s. IsLaidOut chunk.now (kept_by chunk.now kept.now) s.laid s.events s.entries) }
     ensures accepted { IfOk result (λ s. IsAccepted chunk.now) }
 {
     let remaining = remaining_entries(alloc, chunk.pools(), marks)?;

@@ -3,7 +3,7 @@ ghost use Rattle.std.specs.Prelude.{◌≡◌, ◌≤◌, ◌<◌, ◌++◌, [],
 ghost use Rattle.jfr_base.specs.Integer.{FitsIn, spell, spell_in};
 ghost use Rattle.jfr_output.specs.Metadata.{IsMetadataRecord};
 ghost use Rattle.jfr_scrub.specs.declared.piece.MadePart.TheVariants.{CheckpointSize, ChunkHeader, MetadataRecord};
-ghost use Rattle.jfr_scrub.specs.Pieces.{Grows, IsCopied, IsHeaded, IsHeader, IsNumber, joined, Keeps, laying_of, made_parts, more, TakesShortest};
+ghost use Rattle.jfr_scrub.specs.Pieces.{Grows, IsCopied, IsHeaded, IsHeader, IsMadeBytes, joined, Keeps, output_so_far, made_parts, more, TakesShortest};
 
 use crate::piece::MadePart;
 use crate::pieces::Pieces;
@@ -24,19 +24,19 @@ pub(crate) struct Output<'a> {
 impl<'a> Model for Output<'a> {
     ghost use Rattle.std.specs.Prelude.{length, ◌∷◌, [], ◌++◌, ◌≤◌, ◌≡◌};
     ghost use Rattle.jfr_scrub.specs.declared.piece.Part.TheVariants.{Copied};
-    ghost use Rattle.jfr_scrub.specs.Pieces.{AreNumbers, Laid};
+    ghost use Rattle.jfr_scrub.specs.Pieces.{AreMadeBytes, PieceList};
 
-    ghost Value = { Laid };
+    ghost Value = { PieceList };
 
     ghost view = { λ o. record { chunk = o.pieces.chunk; made = o.pieces.made; pieces = o.pieces.pieces ++ Copied o.from o.to ∷ [] } };
 
-    ghost invariant = { λ o. (o.from ≤ o.to) × (o.to ≤ length o.pieces.chunk) × AreNumbers o.pieces };
+    ghost invariant = { λ o. (o.from ≤ o.to) × (o.to ≤ length o.pieces.chunk) × AreMadeBytes o.pieces };
 }
 
 impl<'a> Output<'a> {
     /// An output with nothing laid out yet.
     pub(crate) fn new(alloc: Global, chunk: &'a [u8]) -> Output<'a>
-        ensures bytes { laying_of result ≡ record { chunk = chunk.now; bytes = [] } }
+        ensures bytes { output_so_far result ≡ record { chunk = chunk.now; bytes = [] } }
         ensures made { made_parts result.pieces ≡ [] }
     {
         Output {
@@ -50,7 +50,7 @@ impl<'a> Output<'a> {
     pub(crate) fn copy(&mut self, from: usize, to: usize) -> Result<(), NoMemory>
         requires order { from ≤ to }
         requires within { to ≤ length self.old.chunk }
-        ensures ok { OnOk result (laying_of self.new ≡ more (laying_of self.old) (slice_range self.old.chunk from to)) }
+        ensures ok { OnOk result (output_so_far self.new ≡ more (output_so_far self.old) (slice_range self.old.chunk from to)) }
         ensures copied { OnOk result (IsCopied self.new.pieces from to) }
         ensures grows { OnOk result (Grows self.old.pieces self.new.pieces []) }
     {
@@ -66,8 +66,8 @@ impl<'a> Output<'a> {
 
     // Adds made bytes.
     fn put(&mut self, part: MadePart, bytes: &[u8]) -> Result<(), NoMemory>
-        requires { IsNumber part bytes.now }
-        ensures ok { OnOk result (laying_of self.new ≡ more (laying_of self.old) bytes.now) }
+        requires { IsMadeBytes part bytes.now }
+        ensures ok { OnOk result (output_so_far self.new ≡ more (output_so_far self.old) bytes.now) }
         ensures grows { OnOk result (Grows self.old.pieces self.new.pieces (part ∷ [])) }
     {
         self.pieces.copy(self.from, self.to)?;
@@ -80,7 +80,7 @@ impl<'a> Output<'a> {
     /// Adds an integer in its shortest spelling.
     pub(crate) fn put_integer(&mut self, part: MadePart, value: u64) -> Result<(), NoMemory>
         requires { TakesShortest part }
-        ensures ok { OnOk result (laying_of self.new ≡ more (laying_of self.old) (spell value)) }
+        ensures ok { OnOk result (output_so_far self.new ≡ more (output_so_far self.old) (spell value)) }
         ensures grows { OnOk result (Grows self.old.pieces self.new.pieces (part ∷ [])) }
     {
         let mut spelled = [0; 9];
@@ -92,7 +92,7 @@ impl<'a> Output<'a> {
     pub(crate) fn put_size(&mut self, value: u64, width: usize) -> Result<(), NoMemory>
         requires width { (1 ≤ width) × (width ≤ 9) }
         requires fits { FitsIn value width }
-        ensures ok { OnOk result (laying_of self.new ≡ more (laying_of self.old) (spell_in width value)) }
+        ensures ok { OnOk result (output_so_far self.new ≡ more (output_so_far self.old) (spell_in width value)) }
         ensures grows { OnOk result (Grows self.old.pieces self.new.pieces (CheckpointSize ∷ [])) }
     {
         let mut spelled = [0; 9];
@@ -103,7 +103,7 @@ impl<'a> Output<'a> {
     /// Adds a metadata record.
     pub(crate) fn put_metadata(&mut self, bytes: &[u8]) -> Result<(), NoMemory>
         requires { IsMetadataRecord bytes.now }
-        ensures ok { OnOk result (laying_of self.new ≡ more (laying_of self.old) bytes.now) }
+        ensures ok { OnOk result (output_so_far self.new ≡ more (output_so_far self.old) bytes.now) }
         ensures grows { OnOk result (Grows self.old.pieces self.new.pieces (MetadataRecord ∷ [])) }
     {
         self.put(MadePart::MetadataRecord, bytes)

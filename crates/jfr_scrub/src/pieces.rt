@@ -2,7 +2,7 @@
 ghost use Rattle.std.specs.Prelude.{◌≡◌, ℕ, ◌<◌, ◌≤◌, ◌+◌, ◌++◌, [], ◌∷◌, length, slice_get, slice_range, option_map, vec_len, vec_capacity, IfSome, OnOk};
 ghost use Rattle.std.specs.List.{AllByRecursion, flat_map};
 ghost use Rattle.jfr_scrub.specs.declared.piece.MadePart.TheVariants.{ChunkHeader};
-ghost use Rattle.jfr_scrub.specs.Pieces.{AreNumbers, Grows, IsCopied, IsHeaded, IsHeader, IsNumber, IsOfChunk, joined, Keeps, laid_in, LieIn, Lies, made_parts, part_bytes, part_of};
+ghost use Rattle.jfr_scrub.specs.Pieces.{AreMadeBytes, Grows, IsCopied, IsHeaded, IsHeader, IsMadeBytes, IsOfChunk, joined, Keeps, laid_in, LieIn, Lies, made_parts, part_bytes, part_of};
 
 use crate::piece::{MadePart, Part, Piece};
 use crate::ranges::{Ranges, bytes_of};
@@ -19,9 +19,9 @@ pub(crate) struct Pieces<'a> {
 }
 
 impl<'a> Model for Pieces<'a> {
-    ghost use Rattle.jfr_scrub.specs.Pieces.{Laid, LieIn};
+    ghost use Rattle.jfr_scrub.specs.Pieces.{PieceList, LieIn};
 
-    ghost Value = { Laid };
+    ghost Value = { PieceList };
 
     ghost view = { λ p. record { chunk = p.chunk.now; made = p.made.items; pieces = p.parts.items } };
 
@@ -48,7 +48,7 @@ impl<'a> Pieces<'a> {
         ensures ok { OnOk result (joined self.new ≡ joined self.old ++ slice_range self.old.chunk from to) }
         ensures copied { OnOk result (from < to → IsCopied self.new.pieces from to) }
         ensures grows { Grows self.old.pieces self.new.pieces [] }
-        ensures numbers { AreNumbers self.old → AreNumbers self.new }
+        ensures numbers { AreMadeBytes self.old → AreMadeBytes self.new }
     {
         if from == to {
             return Ok(());
@@ -59,11 +59,11 @@ impl<'a> Pieces<'a> {
 
     /// Adds made bytes.
     pub(crate) fn put(&mut self, part: MadePart, bytes: &[u8]) -> Result<(), NoMemory>
-        requires { IsNumber part bytes.now }
+        requires { IsMadeBytes part bytes.now }
         ensures chunk { self.new.chunk ≡ self.old.chunk }
         ensures ok { OnOk result (joined self.new ≡ joined self.old ++ bytes.now) }
         ensures grows { OnOk result (Grows self.old.pieces self.new.pieces (part ∷ [])) }
-        ensures numbers { AreNumbers self.old → AreNumbers self.new }
+        ensures numbers { AreMadeBytes self.old → AreMadeBytes self.new }
     {
         let from = self.made.len();
         self.made.extend_from_slice(bytes)?;
@@ -82,7 +82,7 @@ impl<'a> Pieces<'a> {
         ensures ok { OnOk result (joined self.new ≡ bytes.now ++ joined self.old) }
         ensures keeps { OnOk result (Keeps self.old.pieces self.new.pieces) }
         ensures made { OnOk result (made_parts self.new.pieces ≡ ChunkHeader ∷ made_parts self.old.pieces) }
-        ensures headed { OnOk result (AreNumbers self.old → IsHeaded self.new) }
+        ensures headed { OnOk result (AreMadeBytes self.old → IsHeaded self.new) }
     {
         let from = self.made.len();
         self.made.extend_from_slice(bytes)?;

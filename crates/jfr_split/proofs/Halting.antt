@@ -2,7 +2,7 @@
 use Rattle.std.proofs.Common.{IsTrue, Result, Ok, Err, subst, ◌≡◌, ℕ, ◌+◌, ◌-◌, ◌≤◌, refl, sym, ◌∙◌, ap, Bool, true, false, List, [], ◌∷◌, ◌++◌, length, take, drop, Option, None, Some, take-append-drop, length-take-le, nat_le, if◌then◌else◌, arith}
 use Rattle.std.specs.List.{list_any}
 use Rattle.std.specs.Prelude.{MatchResult, IsErrAnd, IsErrOf}
-use Rattle.jfr_outside.specs.World.{World, Files, IfKnown, Leaves, unchanged}
+use Rattle.jfr_outside.specs.World.{World, Files, IfKnown, IsAfterCall, unchanged}
 use Rattle.jfr_outside.specs.declared.fault.Fault.{Fault}
 use Rattle.jfr_outside.specs.declared.fault.Fault.TheVariants as faults
 use Rattle.jfr_header.specs.declared.ending.Ending.{Ending}
@@ -68,7 +68,7 @@ file_outcome steady earlier x left NotWritten s t h = h
 file_outcome steady earlier x left RanOut s t h = h
 
 -- The folder could not be listed, and nothing is done.
-pub not_listed : (T : Type 0) (steady : Bool) (plan : Files → Plan) (fault : Fault) (y : Ending) (o : Option (List ℕ)) (b a : Option World) → y ≡ after_read fault → Leaves {T = T} (Err fault) b a (λ _. unchanged) unchanged → (IsTrue steady → IsErrOf {T = T} (Err fault) faults.Failed → ⊥) → IfKnown b a (λ w v. FilesOutcome steady (plan w.files) (command_end y) (snapshot w o) (snapshot v o))
+pub not_listed : (T : Type 0) (steady : Bool) (plan : Files → Plan) (fault : Fault) (y : Ending) (o : Option (List ℕ)) (b a : Option World) → y ≡ after_read fault → IsAfterCall {T = T} (Err fault) b a (λ _. unchanged) unchanged → (IsTrue steady → IsErrOf {T = T} (Err fault) faults.Failed → ⊥) → IfKnown b a (λ w v. FilesOutcome steady (plan w.files) (command_end y) (snapshot w o) (snapshot v o))
 not_listed T steady plan fault y o None a is t never = tt
 not_listed T steady plan faults.Failed y o (Some w) a is t never = rw is (rw t (record { first = []; rest = effects (plan w.files).steps; parts = refl; unfinished = refl; holds = refl; cause = λ k. never k refl }))
 not_listed T steady plan faults.Memory y o (Some w) a is t never = rw is (rw t (record { first = []; rest = effects (plan w.files).steps; parts = refl; holds = refl }))

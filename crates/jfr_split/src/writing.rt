@@ -3,7 +3,7 @@ ghost use Rattle.std.specs.Prelude.{◌≡◌, ◌<◌, ◌+◌, ◌≤◌, ◌�
 ghost use Rattle.jfr_outside.specs.World.{SinkState};
 ghost use Rattle.jfr_plan.specs.Effects.{outside, Create};
 ghost use Rattle.jfr_plan.specs.Rules.{Parts};
-ghost use Rattle.jfr_plan.specs.Parts.{PartLeaves, PartTallied, PlaceLeaves, PlaceCounts};
+ghost use Rattle.jfr_plan.specs.Parts.{IsAfterPart, PartTallied, IsPlaceAfter, PlaceCounts};
 ghost use Rattle.jfr_split.specs.Parts.{IsUsable, folder_of, begins};
 ghost use Rattle.jfr_split.specs.Names.{part_name};
 ghost use Rattle.jfr_split.specs.Splits.{closing, asks_new, asks_part};
@@ -26,7 +26,7 @@ pub struct Split<'a> {
 
 /// Finishes the last part, if there is one.
 pub fn close_part<P: Place>(place: &mut P, part: &Part) -> Result<(), Ending>
-    ensures contents { PlaceLeaves (closing part.now) result (P.state place.old) (P.state place.new) }
+    ensures contents { IsPlaceAfter (closing part.now) result (P.state place.old) (P.state place.new) }
     ensures counts { PlaceCounts result (P.state place.old) (P.state place.new) }
 {
     if part.number == 0 {
@@ -38,7 +38,7 @@ pub fn close_part<P: Place>(place: &mut P, part: &Part) -> Result<(), Ending>
 // Finishes the last part and creates the next one.
 fn open_part<P: Place>(split: Split<'_>, place: &mut P, part: &Part) -> Result<(), Ending>
     requires { part.now.number + 1 ≤ 999999 }
-    ensures contents { PlaceLeaves
+    ensures contents { IsPlaceAfter
         (closing part.now ++ Create (part_name (folder_of split.entry.rule.now) split.entry.file.now (part.now.number + 1)) ∷ [])
         result (P.state place.old) (P.state place.new) }
     ensures counts { PlaceCounts result (P.state place.old) (P.state place.new) }
@@ -58,7 +58,7 @@ fn begin_part<P: Place>(
 ) -> Result<(), Ending>
     requires { IsUsable split.rule.now }
     ensures room { OnOk result (part.now.number < split.entry.rule.now.max_parts) }
-    ensures contents { (sink : SinkState) → PartLeaves
+    ensures contents { (sink : SinkState) → IsAfterPart
         (asks_new split.entry.rule.now (part_name (folder_of split.entry.rule.now) split.entry.file.now) part.now chunk.now) result
         (outside (P.state place.old) sink) (outside (P.state place.new) sink) }
     ensures counts { (sink : SinkState) → PartTallied Parts result
@@ -80,7 +80,7 @@ pub fn write_chunk<P: Place>(
 ) -> Result<(), Ending>
     requires { IsUsable split.rule.now }
     ensures room { OnOk result (begins split.entry.rule.now part.now chunk.now ≡ true → part.now.number < split.entry.rule.now.max_parts) }
-    ensures contents { (sink : SinkState) → PartLeaves
+    ensures contents { (sink : SinkState) → IsAfterPart
         (asks_part split.entry.rule.now (part_name (folder_of split.entry.rule.now) split.entry.file.now) (begins split.entry.rule.now part.now chunk.now) part.now chunk.now) result
         (outside (P.state place.old) sink) (outside (P.state place.new) sink) }
     ensures counts { (sink : SinkState) → PartTallied Parts result

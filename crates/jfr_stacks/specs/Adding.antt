@@ -24,13 +24,13 @@ pub record AddsTexts (old : Counts) (ts : List (List ℕ)) (new : Counts) : Type
 
 -- The number of events with the text q among those counted by entries, given the texts of the entries. The
 -- first count is that of entry `number`.
-abbrev pub owed : (ℕ → Option (List ℕ)) → List ℕ → ℕ → List ℕ → ℕ
-owed text q number [] = 0
-owed text q number (n ∷ ns) = (if is_text q (text number) then n else 0) + owed text q (number + 1) ns
+abbrev pub pending : (ℕ → Option (List ℕ)) → List ℕ → ℕ → List ℕ → ℕ
+pending text q number [] = 0
+pending text q number (n ∷ ns) = (if is_text q (text number) then n else 0) + pending text q (number + 1) ns
 
 -- The counts `now`, with the events that are still counted by entries, are `old` with one event for each text.
-pub record Owes (text : ℕ → Option (List ℕ)) (old : Counts) (ts : List (List ℕ)) (now : Counts) (number : ℕ) (ns : List ℕ) : Type 0 where
-  pub each : (q : List ℕ) → plus (fin.get now q) (owed text q number ns) ≡ plus (fin.get old q) (count_of q ts)
+pub record HasPending (text : ℕ → Option (List ℕ)) (old : Counts) (ts : List (List ℕ)) (now : Counts) (number : ℕ) (ns : List ℕ) : Type 0 where
+  pub each : (q : List ℕ) → plus (fin.get now q) (pending text q number ns) ≡ plus (fin.get old q) (count_of q ts)
 
 -- No count is above `most`.
 pub record AreBelow (most : ℕ) (m : Counts) : Type 0 where

@@ -4,7 +4,7 @@ ghost use Rattle.std.specs.List.{filter_map};
 ghost use Rattle.jfr_chunk.specs.Parts.{events_of};
 ghost use Rattle.jfr_chunk.specs.Reach.{kept_by};
 ghost use Rattle.jfr_value.specs.Nodes.{IsValue, node_of};
-ghost use Rattle.jfr_stacks.specs.Adding.{AddsText, AddsTexts, AreAtMost, AreBelow, Fits, Owes, kept_at};
+ghost use Rattle.jfr_stacks.specs.Adding.{AddsText, AddsTexts, AreAtMost, AreBelow, Fits, HasPending, kept_at};
 ghost use Rattle.jfr_stacks.specs.Folded.{Counts, texts_of};
 ghost use Rattle.jfr_stacks.specs.Frames.{after_references, field_numbers, trace_of};
 ghost use Rattle.jfr_stacks.specs.Held.{counts_in};
@@ -56,7 +56,7 @@ fn count_events(
     requires each { length kept.now ≡ length (events_of chunk.now) }
     requires few { length (events_of chunk.now) ≤ 1073741823 }
     requires below { AreBelow (1073741823 * (2 ^ 34 - 1)) (counts_in counts.old) }
-    ensures ok { IfOk result (λ by_entry. Owes (entry_text chunk.now) (counts_in counts.old) (filter_map (stack_of chunk.now) (kept_by chunk.now kept.now)) (counts_in counts.new) 0 by_entry.items) }
+    ensures ok { IfOk result (λ by_entry. HasPending (entry_text chunk.now) (counts_in counts.old) (filter_map (stack_of chunk.now) (kept_by chunk.now kept.now)) (counts_in counts.new) 0 by_entry.items) }
     ensures each { IfOk result (λ by_entry. length by_entry.items ≡ length chunk.now.entries) }
     ensures small { IfOk result (λ by_entry. AreAtMost 1073741823 by_entry.items) }
     ensures below { (most : ℕ) → AreBelow most (counts_in counts.old) → AreBelow (most + 1073741823) (counts_in counts.new) }
@@ -105,8 +105,8 @@ fn count_trace<'a>(
     requires each { length by_entry.old ≡ length chunk.now.entries }
     requires small { AreAtMost 1073741823 by_entry.old }
     requires fits { Fits 1 (counts_in counts.old) }
-    ensures ok { OnOk result ((old : Counts) (done : List (List ℕ)) → Owes (entry_text chunk.now) old done (counts_in counts.old) 0 by_entry.old
-        → Owes (entry_text chunk.now) old (done ++ option_to_list (trace_text chunk.now (after_references 16 chunk.now (node_of trace.now)))) (counts_in counts.new) 0 by_entry.new) }
+    ensures ok { OnOk result ((old : Counts) (done : List (List ℕ)) → HasPending (entry_text chunk.now) old done (counts_in counts.old) 0 by_entry.old
+        → HasPending (entry_text chunk.now) old (done ++ option_to_list (trace_text chunk.now (after_references 16 chunk.now (node_of trace.now)))) (counts_in counts.new) 0 by_entry.new) }
     ensures small { (most : ℕ) → AreAtMost most by_entry.old → AreAtMost (most + 1) by_entry.new }
     ensures unchanged { OnErr result (counts_in counts.new ≡ counts_in counts.old) }
     ensures ready { OnOk result (WritesFor chunk.now writer.new.frames) }

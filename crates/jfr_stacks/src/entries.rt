@@ -1,6 +1,6 @@
 //! Adding the events that were counted by the entry that is their stack trace.
 ghost use Rattle.std.specs.Prelude.{◌≡◌, ◌*◌, ℕ, ◌+◌, ◌-◌, ◌^◌, ◌≤◌, List, length, OnErr, OnOk};
-ghost use Rattle.jfr_stacks.specs.Adding.{AddsText, AddsTexts, AreAtMost, AreBelow, Fits, Owes};
+ghost use Rattle.jfr_stacks.specs.Adding.{AddsText, AddsTexts, AreAtMost, AreBelow, Fits, HasPending};
 ghost use Rattle.jfr_stacks.specs.Folded.{Counts};
 ghost use Rattle.jfr_stacks.specs.Held.{counts_in};
 ghost use Rattle.jfr_stacks.specs.Methods.{WritesFor};
@@ -25,9 +25,9 @@ pub(crate) fn add_entries(
 ) -> Result<(), NoMemory>
     requires ready { WritesFor chunk.now writer.old.frames }
     requires small { AreAtMost 1073741823 by_entry.now }
-    requires owes { (old : Counts) × (ts : List (List ℕ)) × AreBelow (1073741823 * (2 ^ 34 - 1)) old × (length ts ≤ 1073741823) × Owes (entry_text chunk.now) old ts (counts_in counts.old) 0 by_entry.now }
-    ensures ok { OnOk result ((old : Counts) (ts : List (List ℕ)) → Owes (entry_text chunk.now) old ts (counts_in counts.old) 0 by_entry.now → AddsTexts old ts (counts_in counts.new)) }
-    ensures below { (old : Counts) (ts : List (List ℕ)) (most : ℕ) → Owes (entry_text chunk.now) old ts (counts_in counts.old) 0 by_entry.now → AreBelow most old → AreBelow (most + length ts) (counts_in counts.new) }
+    requires owes { (old : Counts) × (ts : List (List ℕ)) × AreBelow (1073741823 * (2 ^ 34 - 1)) old × (length ts ≤ 1073741823) × HasPending (entry_text chunk.now) old ts (counts_in counts.old) 0 by_entry.now }
+    ensures ok { OnOk result ((old : Counts) (ts : List (List ℕ)) → HasPending (entry_text chunk.now) old ts (counts_in counts.old) 0 by_entry.now → AddsTexts old ts (counts_in counts.new)) }
+    ensures below { (old : Counts) (ts : List (List ℕ)) (most : ℕ) → HasPending (entry_text chunk.now) old ts (counts_in counts.old) 0 by_entry.now → AreBelow most old → AreBelow (most + length ts) (counts_in counts.new) }
 {
     for number in 0..by_entry.len() {
         add_entry(writer, chunk, number, by_entry[number], counts)?;

@@ -8,7 +8,7 @@ use Rattle.jfr_base.specs.Integer.{Spells}
 use Rattle.jfr_base.specs.Formats.{Format, Done, Stop, Int, Byte, Run, Here, Refuse, ◌>>=◌, with_bytes, times, for_each, unchecked, Exactly}
 use Rattle.jfr_base.specs.declared.reason.Reason.{Reason}
 use Rattle.jfr_base.specs.declared.reason.Reason.TheVariants.{InlineDeep, UnknownType}
-use Rattle.jfr_layout.specs.Classes.{ClassFlaw, flaw_if, Class, Classes, Field, find_class, kind_of, item_of, is_composite, inline_fields, step_class, goes_inline, class_faults, repeats, unknown, empty_inline, deep, Sound}
+use Rattle.jfr_layout.specs.Classes.{ClassFlaw, flaw_if, Class, Classes, Field, find_class, kind_of, item_of, is_composite, inline_fields, step_class, begins_chain, class_faults, repeats, unknown, empty_inline, deep, Sound}
 use Rattle.jfr_layout.specs.declared.kind.Kind.{Kind}
 use Rattle.jfr_layout.specs.declared.kind.Kind.TheVariants as kinds
 use Rattle.jfr_layout.specs.declared.shape.Shape.{Shape}
@@ -58,10 +58,10 @@ no_unknown : (k : Classes) → Sound k → unknown k ≡ []
 unfolding class_faults
 no_unknown k s = no_left (unknown k) (empty_inline k ++ deep k) (no_right (repeats k) (unknown k ++ (empty_inline k ++ deep k)) s.none)
 
-pub sound_inline : (k : Classes) (id : ℕ) (c : Class) → Sound k → find_class k id ≡ Some c → goes_inline 33 k c ≡ false
+pub sound_inline : (k : Classes) (id : ℕ) (c : Class) → Sound k → find_class k id ≡ Some c → begins_chain 33 k c ≡ false
 sound_inline k id c s e =
-    let r = found_holds (λ c. (i : ℕ) × (flaw_if (goes_inline 33 k c) i None InlineDeep ≡ [])) (λ c. c.id == id) k c e (none_at (λ i c. flaw_if (goes_inline 33 k c) i None InlineDeep) 0 k (no_deep k s)) in
-    no_flaw (goes_inline 33 k c) r.0 None InlineDeep r.1
+    let r = found_holds (λ c. (i : ℕ) × (flaw_if (begins_chain 33 k c) i None InlineDeep ≡ [])) (λ c. c.id == id) k c e (none_at (λ i c. flaw_if (begins_chain 33 k c) i None InlineDeep) 0 k (no_deep k s)) in
+    no_flaw (begins_chain 33 k c) r.0 None InlineDeep r.1
 
 -- A field's class is known.
 abbrev pub IsKnown : Classes → Shape → Type 0
@@ -103,14 +103,14 @@ module _ (k : Classes) where
   abbrev AllDepthBounds : ℕ → Values → Type 0
   AllDepthBounds n vs = AllByRecursion (λ w. DepthBound k n (shape_of w)) (list_of vs)
 
-  depth_of_fields : (n : ℕ) (fs : List Field) (vs : Values) → shapes_of vs ≡ map (λ f. f.shape) fs → AllByRecursion (λ f. option_map_or (λ d. goes_inline n k d) (step_class k f) false ≡ false) fs → AllDepthBounds n vs
+  depth_of_fields : (n : ℕ) (fs : List Field) (vs : Values) → shapes_of vs ≡ map (λ f. f.shape) fs → AllByRecursion (λ f. option_map_or (λ d. begins_chain n k d) (step_class k f) false ≡ false) fs → AllDepthBounds n vs
   depth_of_fields n [] Nil e a = tt
   depth_of_fields n [] (Cons v vs) e a = cc
   depth_of_fields n (f ∷ fs) Nil e a = cc
   depth_of_fields n (f ∷ fs) (Cons v vs) e a =
       let q : f.shape ≡ shape_of v = (let x : shape_of v ∷ shapes_of vs ≡ f.shape ∷ map (λ g. g.shape) fs = e in cc) in
       let r : shapes_of vs ≡ map (λ g. g.shape) fs = (let x : shape_of v ∷ shapes_of vs ≡ f.shape ∷ map (λ g. g.shape) fs = e in cc) in
-      (subst (DepthBound k n) q (λ o d g c. ap (λ z. option_map_or (λ d. goes_inline n k d) z false) (sym (steps_to k f d o g c)) ∙ a.0), depth_of_fields n fs vs r a.1)
+      (subst (DepthBound k n) q (λ o d g c. ap (λ z. option_map_or (λ d. begins_chain n k d) z false) (sym (steps_to k f d o g c)) ∙ a.0), depth_of_fields n fs vs r a.1)
 
   depth_of_items : (n m : ℕ) (s : Shape) (vs : Values) → shapes_of vs ≡ replicate m s → DepthBound k n s → AllDepthBounds n vs
   depth_of_items n zero s Nil e a = tt
@@ -131,12 +131,12 @@ module _ (k : Classes) (P : ℕ → Value → Type 0) (of_single : (n : ℕ) (s 
     by_depth (Single s kind b key) n r f = of_single n s kind b key f
     by_depth (Group s h vs) n r f = by_head s h f.0 r (λ m g. all_by_depth vs m g f.1)
       where
-        by_room : (n : ℕ) (s : Shape) (h : List ℕ) (c : Class) → s.array ≡ false → s.constant ≡ false → find_class k s.class ≡ Some c → kind_of c.name ≡ kinds.Composite → h ≡ [] → shapes_of vs ≡ map (λ f. f.shape) c.fields → goes_inline n k c ≡ false
+        by_room : (n : ℕ) (s : Shape) (h : List ℕ) (c : Class) → s.array ≡ false → s.constant ≡ false → find_class k s.class ≡ Some c → kind_of c.name ≡ kinds.Composite → h ≡ [] → shapes_of vs ≡ map (λ f. f.shape) c.fields → begins_chain n k c ≡ false
             → ((m : ℕ) → AllDepthBounds k m vs → AllByRecursion (P m) (list_of vs)) → P n (Group s h vs)
         by_room zero s h c a o q e z p g x = cc
         by_room (suc m) s h c a o q e z p g x =
             let i : inline_fields c ≡ c.fields = ap (λ t. if is_composite t then c.fields else []) e in
-            of_fields m s h vs c a o q e z p (x m (depth_of_fields k m c.fields vs p (subst (AllByRecursion (λ f. option_map_or (λ d. goes_inline m k d) (step_class k f) false ≡ false)) i (any_none (λ f. option_map_or (λ d. goes_inline m k d) (step_class k f) false) (inline_fields c) g))))
+            of_fields m s h vs c a o q e z p (x m (depth_of_fields k m c.fields vs p (subst (AllByRecursion (λ f. option_map_or (λ d. begins_chain m k d) (step_class k f) false ≡ false)) i (any_none (λ f. option_map_or (λ d. begins_chain m k d) (step_class k f) false) (inline_fields c) g))))
 
         by_head : (s : Shape) (h : List ℕ) → IsHead k s h (shapes_of vs) → DepthBound k n s → ((m : ℕ) → AllDepthBounds k m vs → AllByRecursion (P m) (list_of vs)) → P n (Group s h vs)
         by_head s h (inl p) r x = of_array n s h vs p.0 p.1 p.2 p.3 (x n (depth_of_items k n p.1 (item_of s) vs p.3 r))

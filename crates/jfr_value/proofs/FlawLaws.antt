@@ -6,7 +6,7 @@ use Rattle.std.proofs.Common.{ap, refl, sym, ◌∙◌, subst, inl, inr}
 use Rattle.jfr_base.specs.declared.reason.Reason.{Reason}
 use Rattle.jfr_base.specs.declared.reason.Reason.TheVariants.{Short, StringKind, Trailing}
 use Rattle.jfr_base.specs.Formats.{Format, Done, Stop, Int, Byte, Run, Here, Refuse, ◌>>=◌, with_bytes, times, for_each, unchecked, integer, Fails}
-use Rattle.jfr_layout.specs.Classes.{Classes, Field, kind_of, item_of, is_composite, inline_fields, step_class, goes_inline, Sound}
+use Rattle.jfr_layout.specs.Classes.{Classes, Field, kind_of, item_of, is_composite, inline_fields, step_class, begins_chain, Sound}
 use Rattle.jfr_layout.specs.declared.kind.Kind.{Kind}
 use Rattle.jfr_layout.specs.declared.kind.Kind.TheVariants as kinds
 use Rattle.jfr_layout.specs.declared.shape.Shape.{Shape}
@@ -144,11 +144,11 @@ shape_plain f s r q = if_only IsValueReason s.array (array_format (item_format f
         by_mark false r = r refl
 
 module _ (k : Classes) (sound : Sound k) where
-  fields_plain : (m : ℕ) (fs : List Field) → AllByRecursion (λ f. IsKnown k f.shape) fs → AllByRecursion (λ f. option_map_or (λ d. goes_inline m k d) (step_class k f) false ≡ false) fs
+  fields_plain : (m : ℕ) (fs : List Field) → AllByRecursion (λ f. IsKnown k f.shape) fs → AllByRecursion (λ f. option_map_or (λ d. begins_chain m k d) (step_class k f) false ≡ false) fs
       → ((s : Shape) → s.constant ≡ false → DepthBound k m s → IsKnown k s → Plain (class_format (suc m) k s)) → AllByRecursion (λ f. Plain (shape_format (class_format (suc m) k) f.shape)) fs
   fields_plain m [] known a g = tt
   fields_plain m (f ∷ fs) known a g =
-      let depth : DepthBound k m f.shape = λ o d q c. ap (λ z. option_map_or (λ d. goes_inline m k d) z false) (sym (steps_to k f d o q c)) ∙ a.0 in
+      let depth : DepthBound k m f.shape = λ o d q c. ap (λ z. option_map_or (λ d. begins_chain m k d) z false) (sym (steps_to k f d o q c)) ∙ a.0 in
       (shape_plain (class_format (suc m) k) f.shape (λ o. g (item_of f.shape) o depth known.0) (λ o. g f.shape o depth known.0), fields_plain m fs known.1 a.1 g)
 
   class_plain : (n : ℕ) (s : Shape) → s.constant ≡ false → DepthBound k n s → IsKnown k s → Plain (class_format (suc n) k s)
@@ -162,7 +162,7 @@ module _ (k : Classes) (sound : Sound k) where
       (λ q. (let i : inline_fields c.0 ≡ c.0.fields = ap (λ t. if t then c.0.fields else []) q in
       each_only IsValueReason c.0.fields (λ f. shape_format (class_format (suc m) k) f.shape)
       (fields_plain m c.0.fields (sound_known k s.class c.0 sound c.1)
-      (subst (AllByRecursion (λ f. option_map_or (λ d. goes_inline m k d) (step_class k f) false ≡ false)) i (any_none (λ f. option_map_or (λ d. goes_inline m k d) (step_class k f) false) (inline_fields c.0) (r o c.0 c.1 q)))
+      (subst (AllByRecursion (λ f. option_map_or (λ d. begins_chain m k d) (step_class k f) false ≡ false)) i (any_none (λ f. option_map_or (λ d. begins_chain m k d) (step_class k f) false) (inline_fields c.0) (r o c.0 c.1 q)))
       (class_plain m)))))
 
 -- So no other flaw comes.

@@ -20,7 +20,7 @@ use Rattle.jfr_layout.specs.declared.shape.Shape.{Shape}
 use Rattle.jfr_layout.specs.declared.field_layout.FieldLayout.{FieldLayout}
 use Rattle.jfr_text.specs.Strings.{string_format}
 use Rattle.jfr_value.specs.declared.leaf.LeafKind.TheVariants as leaf_kinds
-use Rattle.jfr_value.specs.Values.{IsPlaced, Value, Single, key_of, targets_of}
+use Rattle.jfr_value.specs.Values.{IsLayoutOrKey, Value, Single, key_of, targets_of}
 use Rattle.jfr_value.specs.Reading.{base_format, class_format, item_format, values_format, shape_format}
 use Rattle.jfr_value.specs.Visits.{TakesAll, TakesRead, TakesReadAll}
 use Rattle.jfr_value.proofs.AppendLaws.{both_seen, both_taken, then_same}
@@ -88,7 +88,7 @@ module _ (k : Classes) (levels : ℕ) (x : List ℕ) (end : ℕ) where
   abbrev row : List FieldLayout → ℕ → Answer (List Value)
   row ss at = run (values_format (levels + 1) k ss) x end at
 
-  placed : (s : FieldLayout) → IsFieldLayout k s → IsPlaced k s
+  placed : (s : FieldLayout) → IsFieldLayout k s → IsLayoutOrKey k s
   placed s i = record { form = i.form; of_class = λ o. i }
 
   -- One field.

@@ -11,7 +11,7 @@ use Rattle.jfr_layout.specs.declared.shape.Shape.{Shape}
 use Rattle.jfr_layout.specs.declared.field_layout.FieldLayout.{FieldLayout}
 use Rattle.jfr_text.specs.Strings.{string_format}
 use Rattle.jfr_value.specs.declared.leaf.LeafKind.TheVariants as leaf_kinds
-use Rattle.jfr_value.specs.Values.{IsPlaced, Value, Single, key_of}
+use Rattle.jfr_value.specs.Values.{IsLayoutOrKey, Value, Single, key_of}
 use Rattle.jfr_value.specs.Reading.{base_format, class_format, shape_format}
 use Rattle.jfr_value.specs.Visits.{TakesAll, TakesRead, TakesReadAll}
 use Rattle.jfr_value.specs.Walks.{DepthBound}
@@ -28,7 +28,7 @@ item inline s t = if t then Int unchecked (λ key b. Done (Single (item_of s) (l
 inline_ends : (inline : Shape → Format Value) (s : Shape) (x : List ℕ) (end at : ℕ) → s.array ≡ false → s.constant ≡ false → end_or_flaw (run (inline (item_of s)) x end at) ≡ end_or_flaw (run (shape_format inline s) x end at)
 inline_ends inline s x end at a o = ap (λ t. end_or_flaw (run (item inline s t) x end at)) (sym o) ∙ sym (shape_item inline s x end at a)
 
-module _ (k : Classes) (s : FieldLayout) (levels : ℕ) (x : List ℕ) (end at : ℕ) (p : IsPlaced k s) where
+module _ (k : Classes) (s : FieldLayout) (levels : ℕ) (x : List ℕ) (end at : ℕ) (p : IsLayoutOrKey k s) where
   abbrev reading : Answer Value
   reading = run (shape_format (class_format (levels + 1) k) s.shape) x end at
 
@@ -100,7 +100,7 @@ depth_of_each k levels (f ∷ fs) (s ∷ ss) e a =
     let r : map (λ s. s.shape) ss ≡ map (λ f. f.shape) fs = (let z : s.shape ∷ map (λ s. s.shape) ss ≡ f.shape ∷ map (λ f. f.shape) fs = e in cc) in
     (subst (DepthBound k levels) q a.0, depth_of_each k levels fs ss r a.1)
 
-pub depth_within : (k : Classes) (s : FieldLayout) (levels : ℕ) (ss : List FieldLayout) → IsPlaced k s → s.form ≡ forms.Fields → DepthBound k levels s.shape → IfSome (slice_get k s.class_index) (λ c. AreFieldLayouts k c.fields ss)
+pub depth_within : (k : Classes) (s : FieldLayout) (levels : ℕ) (ss : List FieldLayout) → IsLayoutOrKey k s → s.form ≡ forms.Fields → DepthBound k levels s.shape → IfSome (slice_get k s.class_index) (λ c. AreFieldLayouts k c.fields ss)
     → AllByRecursion (λ z. DepthBound k (levels - 1) z.shape) ss
 depth_within k s levels ss p e r a =
     let i = inline_there s p.form forms.Fields e tt in

@@ -10,7 +10,7 @@ use Rattle.jfr_layout.specs.declared.kind.Kind.{Kind}
 use Rattle.jfr_layout.specs.declared.kind.Kind.TheVariants as kinds
 use Rattle.jfr_layout.specs.declared.shape.Shape.{Shape}
 use Rattle.jfr_layout.specs.declared.field_layout.FieldLayout.{FieldLayout}
-use Rattle.jfr_value.specs.Values.{IsPlaced}
+use Rattle.jfr_value.specs.Values.{IsLayoutOrKey}
 use Rattle.jfr_value.proofs.PlaceLaws.{get_within, kind_there, placed_class, placed_some, placed_within}
 
 -- The class of a layout's shape.
@@ -59,7 +59,7 @@ layouts_at k [] i a l = absurd (omega arith)
 layouts_at k (s ∷ ss) zero a l = a.0
 layouts_at k (s ∷ ss) (suc i) a l = layouts_at k ss i a.1 (omega arith)
 
-pub placed_at : (k : Classes) (ss : List FieldLayout) (i : ℕ) → AllByRecursion (IsFieldLayout k) ss → i < length ss → IsPlaced k (get_or ss i no_layout)
+pub placed_at : (k : Classes) (ss : List FieldLayout) (i : ℕ) → AllByRecursion (IsFieldLayout k) ss → i < length ss → IsLayoutOrKey k (get_or ss i no_layout)
 placed_at k ss i a l = let s : IsFieldLayout k (get_or ss i no_layout) = layouts_at k ss i a l in record { form = s.form; of_class = λ o. s }
 
 -- The layouts of the class at a place.

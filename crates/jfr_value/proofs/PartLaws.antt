@@ -5,7 +5,7 @@ use Rattle.jfr_base.specs.Formats.{run, end_or_flaw}
 use Rattle.jfr_layout.specs.Classes.{Classes, Sound}
 use Rattle.jfr_layout.specs.declared.shape.Shape.{Shape}
 use Rattle.jfr_layout.specs.declared.field_layout.FieldLayout.{FieldLayout}
-use Rattle.jfr_value.specs.Values.{Values, list_of, IsHollow, IsPlaced}
+use Rattle.jfr_value.specs.Values.{Values, list_of, IsHollow, IsLayoutOrKey}
 use Rattle.jfr_value.specs.Reading.{value_format}
 use Rattle.jfr_value.specs.Nodes.{node_at, IsNode, AreValues, EndsAt, laid}
 use Rattle.jfr_value.proofs.NodeLaws.{node_read}
@@ -37,7 +37,7 @@ part_there k c at end ss vs i s place r e p =
     }
 
 -- Items without bytes are all at one offset.
-pub hollow_part : (k : Classes) (c : List ℕ) (at end : ℕ) (s : FieldLayout) (count i : ℕ) (vs : Values) (b : Bool) → IsPlaced k s → s.shape.array ≡ false → s.shape.constant ≡ false → IfSome (slice_get k s.class_index) (λ c. IsTrue b ↔ IsHollow c) → b ≡ true
+pub hollow_part : (k : Classes) (c : List ℕ) (at end : ℕ) (s : FieldLayout) (count i : ℕ) (vs : Values) (b : Bool) → IsLayoutOrKey k s → s.shape.array ≡ false → s.shape.constant ≡ false → IfSome (slice_get k s.class_index) (λ c. IsTrue b ↔ IsHollow c) → b ≡ true
     → AreValues k c at end (replicate count s.shape) vs → i < count → slice_get (laid at (list_of vs)) i ≡ Some (node_at s.shape at at)
 hollow_part k c at end s count i vs b p a o h t r l =
     let d = layout_class k s (p.of_class o) in

@@ -4,7 +4,7 @@ use Rattle.std.specs.Option.{option_map_or, option_and_then}
 use Rattle.std.specs.List.{AllByRecursion}
 use Rattle.std.proofs.Common.{ap, arith, refl, sym, ◌∙◌, subst}
 use Rattle.std.proofs.lemmas.List.{append_assoc, append-nil, length-append}
-use Rattle.jfr_layout.specs.Classes.{Class, Classes, Field, field_at, find_class, kind_of, is_composite, inline_fields, step_class, goes_inline}
+use Rattle.jfr_layout.specs.Classes.{Class, Classes, Field, field_at, find_class, kind_of, is_composite, inline_fields, step_class, begins_chain}
 use Rattle.jfr_layout.specs.declared.kind.Kind.TheVariants as kinds
 use Rattle.jfr_layout.specs.declared.shape.Shape.{Shape}
 use Rattle.jfr_value.specs.declared.stack.Frame.{Frame}
@@ -74,9 +74,9 @@ pub field_depth : (k : Classes) (height place number levels : ℕ) (f : Field) �
 field_depth k height place number levels f i e = let t = field_there k place number f e in all_get (λ f. DepthBound k levels f.shape) t.0.fields number f (i.2 t.0 t.1) t.2
 
 -- Into a composite class there is an inline step less.
-rooms : (k : Classes) (n : ℕ) (fs : List Field) → AllByRecursion (λ f. option_map_or (λ d. goes_inline n k d) (step_class k f) false ≡ false) fs → AllByRecursion (λ f. DepthBound k n f.shape) fs
+rooms : (k : Classes) (n : ℕ) (fs : List Field) → AllByRecursion (λ f. option_map_or (λ d. begins_chain n k d) (step_class k f) false ≡ false) fs → AllByRecursion (λ f. DepthBound k n f.shape) fs
 rooms k n [] a = tt
-rooms k n (f ∷ fs) a = (λ o d q c. ap (λ z. option_map_or (λ d. goes_inline n k d) z false) (sym (steps_to k f d o q c)) ∙ a.0, rooms k n fs a.1)
+rooms k n (f ∷ fs) a = (λ o d q c. ap (λ z. option_map_or (λ d. begins_chain n k d) z false) (sym (steps_to k f d o q c)) ∙ a.0, rooms k n fs a.1)
 
 pub inner_depth : (k : Classes) (levels : ℕ) (s : Shape) (d : Class) → DepthBound k levels s → s.constant ≡ false → find_class k s.class ≡ Some d → kind_of d.name ≡ kinds.Composite → (1 ≤ levels) × AllByRecursion (λ f. DepthBound k (levels - 1) f.shape) d.fields
 inner_depth k zero s d r o q m = let z : true ≡ false = r o d q (ap is_composite m) in cc
@@ -86,7 +86,7 @@ inner_depth k (suc n) s d r o q m =
     let e : suc n - 1 ≡ n = omega arith in (
       omega arith,
       subst (λ z. AllByRecursion (λ f. DepthBound k z f.shape) d.fields) (sym e)
-          (rooms k n d.fields (subst (AllByRecursion (λ f. option_map_or (λ d. goes_inline n k d) (step_class k f) false ≡ false)) i (any_none (λ f. option_map_or (λ d. goes_inline n k d) (step_class k f) false) (inline_fields d) g))),
+          (rooms k n d.fields (subst (AllByRecursion (λ f. option_map_or (λ d. begins_chain n k d) (step_class k f) false ≡ false)) i (any_none (λ f. option_map_or (λ d. begins_chain n k d) (step_class k f) false) (inline_fields d) g))),
     )
 
 -- The frame of the fields of a composite value.

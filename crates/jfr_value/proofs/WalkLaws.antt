@@ -31,7 +31,7 @@ use Rattle.jfr_value.specs.Leaves.{leaves}
 use Rattle.jfr_value.proofs.DepthLaws.{sound_inline}
 use Rattle.jfr_value.proofs.NodeLaws.{value_is}
 use Rattle.jfr_value.proofs.StackLaws.{either_height}
-use Rattle.jfr_value.specs.Walks.{AreFrames, IsWalk, remaining_leaves, AreRemaining, got_values, remaining_shapes, remaining_values, size_of_all, IsPlacedIfKnown}
+use Rattle.jfr_value.specs.Walks.{AreFrames, IsWalk, remaining_leaves, AreRemaining, got_values, remaining_shapes, remaining_values, size_of_all, IsClassIndexIfKnown}
 use Rattle.jfr_base.proofs.Ranges.{range_split}
 use Rattle.jfr_value.proofs.ChildLaws.{inline_known}
 use Rattle.jfr_value.proofs.LeafLaws.{all_within}
@@ -353,7 +353,7 @@ module _ (k : Classes) (c : List ℕ) (at end : ℕ) (s : Shape) (ss : List Shap
       let b : bytes_of v ≡ [] = hollow_bytes k v d (ap (λ (z : Shape). z.array) p) (ap (λ (z : Shape). z.constant) p ∙ o) (ap (λ (z : Shape). find_class k z.class) p ∙ q) h f.0 in
       ap (λ z. z ++ bytes_of_all ps) b ∙ hollow_all d o q h n ps r f.1
 
-  no_bytes : (place n : ℕ) (ps : Values) → IsPlacedIfKnown k s place → s.constant ≡ false → place < length k → IfSome (slice_get k place) IsHollow → shapes_of ps ≡ replicate n (item_of s) → AllFit k ps → bytes_of_all ps ≡ []
+  no_bytes : (place n : ℕ) (ps : Values) → IsClassIndexIfKnown k s place → s.constant ≡ false → place < length k → IfSome (slice_get k place) IsHollow → shapes_of ps ≡ replicate n (item_of s) → AllFit k ps → bytes_of_all ps ≡ []
   no_bytes place n Nil p o l h e f = refl
   no_bytes place zero (Cons v ps) p o l h e f = cc
   no_bytes place (suc n) (Cons v ps) p o l h e f =
@@ -362,7 +362,7 @@ module _ (k : Classes) (c : List ℕ) (at end : ℕ) (s : Shape) (ss : List Shap
       let d = get_within k place l in
       hollow_all d.0 o (placed_class k s.class place (p o known) ∙ d.1) (subst (λ z. IfSome z IsHollow) d.1 h) (suc n) (Cons v ps) e f
 
-  pub hollow_taken : (vs : Values) (w : Var) (place : ℕ) → AreValues k c at end (s ∷ ss) vs → s.array ≡ true → int_at c at end ≡ Some w → IsPlacedIfKnown k s place → s.constant ≡ false → place < length k → IfSome (slice_get k place) IsHollow
+  pub hollow_taken : (vs : Values) (w : Var) (place : ℕ) → AreValues k c at end (s ∷ ss) vs → s.array ≡ true → int_at c at end ≡ Some w → IsClassIndexIfKnown k s place → s.constant ≡ false → place < length k → IfSome (slice_get k place) IsHollow
       → Taken k c at end w.end (leaf_kinds.Count w.value) s.class ss vs
   hollow_taken vs w place r a e p o l h =
       let x = counted vs w r a e in
@@ -386,7 +386,7 @@ pub record Placed (k : Classes) (s : Shape) (place : ℕ) : Type 0 where
   pub there : slice_get k place ≡ Some class
   pub within : place < length k
 
-pub inline_placed : (k : Classes) (c : List ℕ) (at end : ℕ) (s : Shape) (ss : List Shape) (vs : Values) (place : ℕ) → AreValues k c at end (s ∷ ss) vs → s.array ≡ false → s.constant ≡ false → IsPlacedIfKnown k s place → Placed k s place
+pub inline_placed : (k : Classes) (c : List ℕ) (at end : ℕ) (s : Shape) (ss : List Shape) (vs : Values) (place : ℕ) → AreValues k c at end (s ∷ ss) vs → s.array ≡ false → s.constant ≡ false → IsClassIndexIfKnown k s place → Placed k s place
 inline_placed k c at end s ss vs place r a o p =
     let f = first_of k c at end s ss vs r in
     let known : IsSome (find_class k s.class) = subst (λ (z : Shape). IsSome (find_class k z.class)) f.shape (inline_known k f.value (array_is (shape_of f.value) s false f.shape a) (constant_is (shape_of f.value) s false f.shape o) f.fits) in
@@ -400,7 +400,7 @@ base_found k c at end s ss vs d kind r a o q e m =
     subst (λ z. (to : ℕ) × (end_or_flaw (run (base_format z) c end at) ≡ Ok to) × Taken k c at end to (leaf_kinds.Base z) s.class ss vs) (sym e) (base_ends k c at end s ss vs d r a o q (λ z. m (e ∙ z)))
 
 -- An array whose items are walked over, or have no bytes.
-pub array_found : (k : Classes) (c : List ℕ) (at end : ℕ) (s : Shape) (ss : List Shape) (vs : Values) (w : Var) (place remaining : ℕ) → AreValues k c at end (s ∷ ss) vs → s.array ≡ true → int_at c at end ≡ Some w → IsPlacedIfKnown k s place
+pub array_found : (k : Classes) (c : List ℕ) (at end : ℕ) (s : Shape) (ss : List Shape) (vs : Values) (w : Var) (place remaining : ℕ) → AreValues k c at end (s ∷ ss) vs → s.array ≡ true → int_at c at end ≡ Some w → IsClassIndexIfKnown k s place
     → (remaining ≡ w.value) ⊎ ((remaining ≡ 0) × (s.constant ≡ false) × (place < length k) × IfSome (slice_get k place) IsHollow) → Taken k c at end w.end (leaf_kinds.Count w.value) s.class (replicate remaining (item_of s) ++ ss) vs
 array_found k c at end s ss vs w place remaining r a e p (inl q) = subst (λ z. Taken k c at end w.end (leaf_kinds.Count w.value) s.class (replicate z (item_of s) ++ ss) vs) (sym q) (array_taken k c at end s ss vs w r a e)
 array_found k c at end s ss vs w place remaining r a e p (inr q) = subst (λ z. Taken k c at end w.end (leaf_kinds.Count w.value) s.class (replicate z (item_of s) ++ ss) vs) (sym q.0) (hollow_taken k c at end s ss vs w place r a e p q.1 q.2 q.3)
@@ -435,7 +435,7 @@ pub leaves_are_remaining : (k : Classes) (c : List ℕ) (end : ℕ) (cursor : Cu
 leaves_are_remaining k c end cursor ws s l = ap (leaves_from cursor.at) (remaining_is k c end cursor ws s l)
 
 -- A walk that begins at a node.
-pub walk_begins : (k : Classes) (c : List ℕ) (n : NodeAt) (v : Value) (place : ℕ) (cursor : Cursor) → Sound k → IsNode k c n v → IsPlacedIfKnown k n.shape place → cursor.at ≡ n.at → cursor.stack ≡ Items n.shape place 1 33 ∷ []
+pub walk_begins : (k : Classes) (c : List ℕ) (n : NodeAt) (v : Value) (place : ℕ) (cursor : Cursor) → Sound k → IsNode k c n v → IsClassIndexIfKnown k n.shape place → cursor.at ≡ n.at → cursor.stack ≡ Items n.shape place 1 33 ∷ []
     → AreFrames k 0 cursor.stack × AreRemaining k c n.end cursor (Cons v Nil)
 walk_begins k c n v place cursor s i p a e =
     let r : AreValues k c n.at n.end (n.shape ∷ []) (Cons v Nil) = record { order = i.order; within = i.within; bytes = i.bytes ∙ sym (append-nil (bytes_of v)); fit = (i.fits, tt); of_shapes = ap (λ z. z ∷ []) (sym i.shape) } in (

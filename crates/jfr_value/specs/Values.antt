@@ -134,6 +134,6 @@ IsHollowArray s c = (s.array ≡ true) × (s.constant ≡ false) × IsHollow c
 
 -- The layout has the form of its shape and kind, and is that of its class; the class of a constant doesn't
 -- matter.
-pub record IsPlaced (k : Classes) (s : FieldLayout) : Type 0 where
+pub record IsLayoutOrKey (k : Classes) (s : FieldLayout) : Type 0 where
   pub form : s.form ≡ form_of s.shape s.kind
   pub of_class : s.shape.constant ≡ false → IsFieldLayout k s

@@ -3,7 +3,7 @@ use Rattle.std.specs.Prelude.{◌≡◌, ℕ, suc, ◌+◌, ◌*◌, ◌<◌, �
 use Rattle.std.specs.Option.{option_map_or}
 use Rattle.std.specs.List.{AllByRecursion}
 use Rattle.jfr_base.specs.Formats.{Answer, for_each, run}
-use Rattle.jfr_layout.specs.Classes.{Class, Classes, IsFieldLayout, Sound, find_class, class_index, form_of, goes_inline, is_composite, kind_of}
+use Rattle.jfr_layout.specs.Classes.{Class, Classes, IsFieldLayout, Sound, find_class, class_index, form_of, begins_chain, is_composite, kind_of}
 use Rattle.jfr_layout.specs.declared.shape.Shape.{Shape}
 use Rattle.jfr_layout.specs.declared.field_layout.FieldLayout.{FieldLayout}
 use Rattle.jfr_value.specs.declared.stack.Frame.{Frame}
@@ -18,7 +18,7 @@ use Rattle.jfr_value.specs.Leaves.{LeafAt, leaf_of, leaves_from}
 
 -- No chain of n inline steps begins with an inline value of the shape.
 abbrev pub DepthBound : Classes → ℕ → Shape → Type 0
-DepthBound k n s = s.constant ≡ false → (c : Class) → find_class k s.class ≡ Some c → is_composite (kind_of c.name) ≡ true → goes_inline n k c ≡ false
+DepthBound k n s = s.constant ≡ false → (c : Class) → find_class k s.class ≡ Some c → is_composite (kind_of c.name) ≡ true → begins_chain n k c ≡ false
 
 -- The shapes of the values that a frame still has.
 abbrev pub frame_shapes : Classes → Frame → List Shape
@@ -31,8 +31,8 @@ remaining_shapes k [] = []
 remaining_shapes k (f ∷ fs) = remaining_shapes k fs ++ frame_shapes k f
 
 -- This is the index of the class of the shape, if the class is known.
-abbrev pub IsPlacedIfKnown : Classes → Shape → ℕ → Type 0
-IsPlacedIfKnown k s place = s.constant ≡ false → IsSome (find_class k s.class) → class_index k s.class ≡ Some place
+abbrev pub IsClassIndexIfKnown : Classes → Shape → ℕ → Type 0
+IsClassIndexIfKnown k s place = s.constant ≡ false → IsSome (find_class k s.class) → class_index k s.class ≡ Some place
 
 -- The layout has the form of its shape and kind, and is that of its class, if the class is known.
 pub record IsLayoutIfKnown (k : Classes) (s : FieldLayout) : Type 0 where
@@ -42,7 +42,7 @@ pub record IsLayoutIfKnown (k : Classes) (s : FieldLayout) : Type 0 where
 -- A frame at a height of the stack: at most `levels` inline steps can follow, each with at most two frames.
 abbrev pub IsFrame : Classes → ℕ → Frame → Type 0
 IsFrame k height (Fields place number levels) = (height + 2 * levels ≤ 67) × (place < length k) × ((c : Class) → slice_get k place ≡ Some c → AllByRecursion (λ f. DepthBound k levels f.shape) c.fields)
-IsFrame k height (Items shape place remaining levels) = (height + 2 * levels ≤ (if shape.array then 67 else 68)) × IsPlacedIfKnown k shape place × DepthBound k levels shape
+IsFrame k height (Items shape place remaining levels) = (height + 2 * levels ≤ (if shape.array then 67 else 68)) × IsClassIndexIfKnown k shape place × DepthBound k levels shape
 
 -- Each frame of a stack is a frame at its height, counted from the bottom.
 abbrev pub AreFrames : Classes → ℕ → List Frame → Type 0

@@ -8,7 +8,7 @@ ghost use Rattle.jfr_value.specs.Leaves.{leaf_of, leaves_from};
 ghost use Rattle.jfr_value.specs.Nodes.{AreValues};
 ghost use Rattle.jfr_value.specs.Values.{IsHollow, Values};
 ghost use Rattle.jfr_value.specs.declared.stack.Frame.TheVariants.{Fields, Items};
-ghost use Rattle.jfr_value.specs.Walks.{AreFrames, GoesOn, IsFrame, AreRemaining, IsPlacedIfKnown, DepthBound, frame_shapes, remaining_shapes, size_of_all};
+ghost use Rattle.jfr_value.specs.Walks.{AreFrames, GoesOn, IsFrame, AreRemaining, IsClassIndexIfKnown, DepthBound, frame_shapes, remaining_shapes, size_of_all};
 
 use crate::extent::{base_end, is_hollow};
 use crate::part::item_of;
@@ -164,7 +164,7 @@ fn enter<'a>(
     requires sound { Sound walk.now.classes.now }
     requires frames { AreFrames walk.now.classes.now 0 cursor.old.stack }
     requires height { length cursor.old.stack + 2 * levels ≤ (if shape.array then 67 else 68) }
-    requires placed { IsPlacedIfKnown walk.now.classes.now shape place }
+    requires placed { IsClassIndexIfKnown walk.now.classes.now shape place }
     requires depth { DepthBound walk.now.classes.now levels shape }
     requires remaining { (vs : Values) × AreValues walk.now.classes.now walk.now.bytes.now cursor.old.at walk.now.end (shape ∷ remaining_shapes walk.now.classes.now cursor.old.stack) vs }
     ensures frames { AreFrames walk.now.classes.now 0 cursor.new.stack }
@@ -200,7 +200,7 @@ fn enter_array<'a>(
     requires array { shape.array ≡ true }
     requires frames { AreFrames walk.now.classes.now 0 cursor.old.stack }
     requires height { length cursor.old.stack + 2 * levels ≤ 67 }
-    requires placed { IsPlacedIfKnown walk.now.classes.now shape place }
+    requires placed { IsClassIndexIfKnown walk.now.classes.now shape place }
     requires depth { DepthBound walk.now.classes.now levels shape }
     requires remaining { (vs : Values) × AreValues walk.now.classes.now walk.now.bytes.now cursor.old.at walk.now.end (shape ∷ remaining_shapes walk.now.classes.now cursor.old.stack) vs }
     ensures frames { AreFrames walk.now.classes.now 0 cursor.new.stack }

@@ -9,7 +9,7 @@ ghost use Rattle.jfr_layout.specs.Fused.{AreFused};
 ghost use Rattle.jfr_layout.specs.declared.form.Form.TheVariants as forms;
 ghost use Rattle.jfr_layout.specs.declared.kind.Kind.TheVariants as kinds;
 ghost use Rattle.jfr_value.specs.Nodes.{EndsAt, IsRefused, IsValueReason, node_at, targets};
-ghost use Rattle.jfr_value.specs.Values.{IsHollow, IsHollowArray, IsPlaced};
+ghost use Rattle.jfr_value.specs.Values.{IsHollow, IsHollowArray, IsLayoutOrKey};
 ghost use Rattle.jfr_value.specs.Reading.{base_format, class_format, values_format, shape_format, value_format};
 ghost use Rattle.jfr_value.specs.Visits.{TakesAll, TakesRead, TakesReadAll};
 ghost use Rattle.jfr_value.specs.Walks.{DepthBound};
@@ -251,7 +251,7 @@ pub(crate) fn layout_end<C, V: Visit<C>>(
     levels: u32,
     visitor: &mut V,
 ) -> Result<usize, Flaw>
-    requires placed { IsPlaced walk.now.classes.now layout.now }
+    requires placed { IsLayoutOrKey walk.now.classes.now layout.now }
     requires depth { DepthBound walk.now.classes.now levels layout.now.shape }
     requires order { at ≤ walk.now.end }
     requires ready { V.ready visitor.old walk.now.with.now }
@@ -283,7 +283,7 @@ fn compound_end<C, V: Visit<C>>(
     visitor: &mut V,
 ) -> Result<usize, Flaw>
     requires compound { (layout.now.form ≡ forms.Fields) ⊎ (layout.now.form ≡ forms.Array) }
-    requires placed { IsPlaced walk.now.classes.now layout.now }
+    requires placed { IsLayoutOrKey walk.now.classes.now layout.now }
     requires depth { DepthBound walk.now.classes.now levels layout.now.shape }
     requires order { at ≤ walk.now.end }
     requires ready { V.ready visitor.old walk.now.with.now }
@@ -371,7 +371,7 @@ fn array_end<C, V: Visit<C>>(
     visitor: &mut V,
 ) -> Result<usize, Flaw>
     requires array { layout.now.shape.array ≡ true }
-    requires placed { IsPlaced walk.now.classes.now layout.now }
+    requires placed { IsLayoutOrKey walk.now.classes.now layout.now }
     requires depth { DepthBound walk.now.classes.now levels layout.now.shape }
     requires order { at ≤ walk.now.end }
     requires ready { V.ready visitor.old walk.now.with.now }

@@ -3,7 +3,7 @@ ghost use Rattle.std.specs.Prelude.{◌≡◌, ℕ, ◌≤◌, ◌<◌, length, 
 ghost use Rattle.std.specs.List.{AllByRecursion};
 ghost use Rattle.jfr_layout.specs.Classes.{IsFieldLayout, Sound, item_of};
 ghost use Rattle.jfr_value.specs.Nodes.{EndsAt, AreValues, IsValue, child, laid, node_of};
-ghost use Rattle.jfr_value.specs.Values.{IsPlaced, Values, list_of};
+ghost use Rattle.jfr_value.specs.Values.{IsLayoutOrKey, Values, list_of};
 
 use crate::extent::{NoVisit, is_hollow, layout_end, layout_of};
 use crate::walk::{LEVELS, Walk};
@@ -82,7 +82,7 @@ pub(crate) fn item_of(array: Shape) -> Shape
 /// The offset after the value at the offset `at`, which is known to be there.
 fn part_end(classes: &Classes, layout: &FieldLayout, bytes: &[u8], at: usize, end: usize) -> usize
     requires sound { Sound classes.now }
-    requires placed { IsPlaced classes.now layout.now }
+    requires placed { IsLayoutOrKey classes.now layout.now }
     requires order { at ≤ end }
     requires within { end ≤ length bytes.now }
     requires holds { (to : ℕ) × EndsAt classes.now bytes.now layout.now.shape at to × (to ≤ end) }
@@ -137,7 +137,7 @@ fn nth_item<'a>(
 ) -> Node<'a>
     requires sound { Sound classes.now }
     requires item { layout.now.shape.array ≡ false }
-    requires placed { IsPlaced classes.now layout.now }
+    requires placed { IsLayoutOrKey classes.now layout.now }
     requires order { count.end ≤ node.now.end }
     requires within { node.now.end ≤ length node.now.bytes.now }
     requires row { (vs : Values) × AreValues classes.now node.now.bytes.now count.end node.now.end (replicate count.value layout.now.shape) vs }

@@ -13,9 +13,9 @@ use Rattle.jfr_file.specs.declared.file.FileFault.TheVariants as files
 use Rattle.jfr_chunk.specs.Parts.{Parts}
 use Rattle.jfr_verify.specs.Comparing.{InputRead}
 use Rattle.jfr_verify.specs.Faults.{Counted, Counts, after_receipts}
-use Rattle.jfr_verify.specs.Outputs.{AreOutputs, IsOutRefused, OutputRead}
+use Rattle.jfr_verify.specs.Outputs.{AreOutputs, IsOutputFault, OutputRead}
 use Rattle.jfr_verify.specs.Recordings.{recording_of}
-use Rattle.jfr_verify.specs.Verdicts.{AllVerified, AreScrubs, ComparedWith, IfDecided, IfVerified, IsFine, VerdictIn, long, refused, compared, three}
+use Rattle.jfr_verify.specs.Verdicts.{AllVerified, AreScrubs, ComparedWith, IfDecided, IfVerified, IsVerifiedOrMemory, VerdictIn, long, refused, compared, three}
 use Rattle.jfr_verify.specs.declared.doubt.Doubt.TheVariants.{ReceiptLong, OutRefused, ChunksDiffer, ClassesDiffer, EventsDiffer, EntriesDiffer, EntryMissing, ReceiptBad}
 use Rattle.jfr_verify.specs.declared.verdict.Verdict.{Verdict}
 use Rattle.jfr_verify.specs.declared.verdict.Verdict.TheVariants.{Verified, Doubted, Refused, ReadFault, Memory}
@@ -47,7 +47,7 @@ module _ (g : Given) (input output receipt : List ℕ) where
   no_receipts fault x (Some w) (Some v) e t = receipts_failed fault x w v e t
 
   -- The output could not be read to its end.
-  output_failed : (r : Vec ℕ Global) (x : Verdict) (w v u : World) → length r.items < 2 ^ 40 → FileRead receipt (2 ^ 40) (Ok r) w v → IsKept v u → IsOutRefused x (file v output) → VerdictIn g input output receipt x w u
+  output_failed : (r : Vec ℕ Global) (x : Verdict) (w v u : World) → length r.items < 2 ^ 40 → FileRead receipt (2 ^ 40) (Ok r) w v → IsKept v u → IsOutputFault x (file v output) → VerdictIn g input output receipt x w u
   output_failed r (Verified n) w v u s h k o = absurd o
   output_failed r (Doubted chunk OutRefused) w v u s h k o =
       let y = from_some (file v output) (λ z. IsSomeAnd (recording_of z).refusal (λ f. f.chunk ≡ chunk)) o in
@@ -113,17 +113,17 @@ module _ (g : Given) (input output receipt : List ℕ) where
   told_verified Memory b a t = tt
 
   -- A scrub is verified.
-  fine_of : (x : Verdict) (m n : ℕ) (w v : World) → Counted x m n → VerdictIn g input output receipt x w v → AreScrubs g (three input output receipt w) → (Rose m n → ⊥) → IsFine x
+  fine_of : (x : Verdict) (m n : ℕ) (w v : World) → Counted x m n → VerdictIn g input output receipt x w v → AreScrubs g (three input output receipt w) → (Rose m n → ⊥) → IsVerifiedOrMemory x
   fine_of (Verified k) m n w v c t s r = tt
   fine_of (Doubted chunk doubt) m n w v c t s r = let e = one_verdict g (three input output receipt w) (Doubted chunk doubt) (Verified _) t.1 (scrubs_verified g (three input output receipt w) s) in cc
   fine_of (Refused f) m n w v c t s r = let e = one_verdict g (three input output receipt w) (Refused f) (Verified _) t.1 (scrubs_verified g (three input output receipt w) s) in cc
   fine_of ReadFault m n w v c t s r = absurd (r c.1)
   fine_of Memory m n w v c t s r = tt
 
-  pub told_fine : (x : Verdict) (a b : State) → Counts x a b → IfKnown a.contents b.contents (VerdictIn g input output receipt x) → IfSome a.contents (λ w. AreScrubs g (three input output receipt w) → (Rose a.read_faults b.read_faults → ⊥) → IsFine x)
+  pub told_fine : (x : Verdict) (a b : State) → Counts x a b → IfKnown a.contents b.contents (VerdictIn g input output receipt x) → IfSome a.contents (λ w. AreScrubs g (three input output receipt w) → (Rose a.read_faults b.read_faults → ⊥) → IsVerifiedOrMemory x)
   told_fine x a b c t = by_told a.contents b.contents t
     where
-      by_told : (s z : Option World) → IfKnown s z (VerdictIn g input output receipt x) → IfSome s (λ w. AreScrubs g (three input output receipt w) → (Rose a.read_faults b.read_faults → ⊥) → IsFine x)
+      by_told : (s z : Option World) → IfKnown s z (VerdictIn g input output receipt x) → IfSome s (λ w. AreScrubs g (three input output receipt w) → (Rose a.read_faults b.read_faults → ⊥) → IsVerifiedOrMemory x)
       by_told None z t = tt
       by_told (Some w) None t = absurd t
       by_told (Some w) (Some v) t = fine_of x a.read_faults b.read_faults w v c.reads t

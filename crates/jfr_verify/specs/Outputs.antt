@@ -40,13 +40,13 @@ OpenedIn name (Err Memory) w v = IsKept w v
 OpenedIn name (Err e) w v = ⊥
 
 -- Why the output wasn't read to its end: a chunk is refused, a read failed, or memory ran out.
-abbrev pub IsOutRefused : Verdict → Option (List ℕ) → Type 0
-IsOutRefused (Doubted chunk OutRefused) file = IsSomeAnd file (λ x. IsSomeAnd (recording_of x).refusal (λ r. r.chunk ≡ chunk))
-IsOutRefused ReadFault file = ⊤
-IsOutRefused Memory file = ⊤
-IsOutRefused _ file = ⊥
+abbrev pub IsOutputFault : Verdict → Option (List ℕ) → Type 0
+IsOutputFault (Doubted chunk OutRefused) file = IsSomeAnd file (λ x. IsSomeAnd (recording_of x).refusal (λ r. r.chunk ≡ chunk))
+IsOutputFault ReadFault file = ⊤
+IsOutputFault Memory file = ⊤
+IsOutputFault _ file = ⊥
 
 -- The chunks of the output, if it was read to its end; otherwise why it wasn't.
 abbrev pub OutputRead : List ℕ → Result (Vec (Vec ℕ Global) Global) Verdict → World → World → Type 0
 OutputRead name (Ok bs) w v = IsKept w v × IsSomeAnd (file w name) (λ x. ((recording_of x).refusal ≡ None) × AreOutputs bs.items (recording_of x).parts)
-OutputRead name (Err e) w v = IsKept w v × IsOutRefused e (file w name)
+OutputRead name (Err e) w v = IsKept w v × IsOutputFault e (file w name)

@@ -118,10 +118,10 @@ IfVerified (Verified n) Claim = Claim n
 IfVerified _ Claim = ⊤
 
 -- Everything is verified, or memory ran out.
-abbrev pub IsFine : Verdict → Type 0
-IsFine (Verified n) = ⊤
-IsFine Memory = ⊤
-IsFine _ = ⊥
+abbrev pub IsVerifiedOrMemory : Verdict → Type 0
+IsVerifiedOrMemory (Verified n) = ⊤
+IsVerifiedOrMemory Memory = ⊤
+IsVerifiedOrMemory _ = ⊥
 
 -- The verdict on the files with these names. Of the place, only the open input has changed.
 abbrev pub VerdictIn : Given → List ℕ → List ℕ → List ℕ → Verdict → World → World → Type 0

@@ -60,7 +60,7 @@ impl<'r> Comparer<'r> {
         ensures steps { (n : ℕ) (qs : List Parts) → number ≡ n + 1 → HasOutputs self.old qs → Steps result n (read_parts chunk.now) qs self.old self.new }
         ensures filter { self.new.filter.now ≡ self.old.filter.now }
         ensures whole { AllWhole (iter_rest self.new.outputs) }
-        ensures quiet { IsErrOf result Verdict.ReadFault → ⊥ }
+        ensures no_read_fault { IsErrOf result Verdict.ReadFault → ⊥ }
     {
         let buffers = mem::replace(&mut self.input_buffers, Buffers::new(self.alloc));
         let input = match Chunk::read_in(self.alloc, buffers, chunk) {
@@ -78,7 +78,7 @@ impl<'r> Comparer<'r> {
         ensures steps { (n : ℕ) (qs : List Parts) → number ≡ n + 1 → HasOutputs self.old qs → Steps result n (Ok input.now) qs self.old self.new }
         ensures filter { self.new.filter.now ≡ self.old.filter.now }
         ensures whole { AllWhole (iter_rest self.new.outputs) }
-        ensures quiet { IsErrOf result Verdict.ReadFault → ⊥ }
+        ensures no_read_fault { IsErrOf result Verdict.ReadFault → ⊥ }
     {
         let Some(output) = self.outputs.next() else {
             return Err(Verdict::Doubted {
@@ -107,7 +107,7 @@ impl<'r> Comparer<'r> {
     pub(crate) fn end(&mut self, count: u64) -> Verdict
         requires { count < 2 ^ 63 }
         ensures ends { (qs : List Parts) → HasOutputs self.old qs → ComparedWith self.old.filter.now (record { parts = []; refusal = None }) qs self.old.receipts.now count result }
-        ensures quiet { result ≡ Verdict.ReadFault → ⊥ }
+        ensures no_read_fault { result ≡ Verdict.ReadFault → ⊥ }
     {
         if self.outputs.next().is_some() {
             return Verdict::Doubted {

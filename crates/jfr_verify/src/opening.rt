@@ -1,7 +1,7 @@
 //! Opening a file of chunks.
 ghost use Rattle.std.specs.Prelude.{◌≡◌, true, None, IfOk, IfSome, IsErrOf, IsTrue};
 ghost use Rattle.jfr_outside.specs.World.{file};
-ghost use Rattle.jfr_header.specs.Taking.{Tells};
+ghost use Rattle.jfr_header.specs.Taking.{IfContentsKnown};
 ghost use Rattle.jfr_verify.specs.Faults.{CountsOf};
 ghost use Rattle.jfr_verify.specs.Outputs.{OpenedIn};
 
@@ -16,7 +16,7 @@ pub(crate) fn open<P: Place>(
     place: &mut P,
     name: &str,
 ) -> Result<ChunkCutter, Verdict>
-    ensures contents { Tells (P.state place.old) (P.state place.new) (OpenedIn name.now result) }
+    ensures contents { IfContentsKnown (P.state place.old) (P.state place.new) (OpenedIn name.now result) }
     ensures number { IfOk result (λ cutter. cutter.number ≡ 1) }
     ensures live { IfOk result (λ cutter. cutter.live ≡ true) }
     ensures counts { CountsOf result (P.state place.old) (P.state place.new) }

@@ -2,7 +2,7 @@
 ghost use Rattle.std.specs.Prelude.{◌≡◌, [], None, OnOk, IfErr, IfOk, IfSome, IsErrOf, IsTrue};
 ghost use Rattle.jfr_outside.specs.World.{file};
 ghost use Rattle.jfr_header.specs.Fronts.{Whole};
-ghost use Rattle.jfr_header.specs.Taking.{Tells};
+ghost use Rattle.jfr_header.specs.Taking.{IfContentsKnown};
 ghost use Rattle.jfr_pool.specs.Faults.{TellsFlaw};
 ghost use Rattle.jfr_chunk.specs.Refusal.{read_parts};
 ghost use Rattle.jfr_verify.specs.Faults.{CountsOf};
@@ -59,7 +59,7 @@ pub(crate) fn read_outputs<P: Place>(
     name: &str,
     buffers: &mut Buffers,
 ) -> Result<Vec<Vec<u8>>, Verdict>
-    ensures contents { Tells (P.state place.old) (P.state place.new) (OutputRead name.now result) }
+    ensures contents { IfContentsKnown (P.state place.old) (P.state place.new) (OutputRead name.now result) }
     ensures whole { IfOk result (λ chunks. AllWhole chunks.items) }
     ensures counts { CountsOf result (P.state place.old) (P.state place.new) }
     ensures steady { IsTrue (P.state place.old).steady → IsErrOf result Verdict.ReadFault → IfSome (P.state place.old).contents (λ w. file w name.now ≡ None) }

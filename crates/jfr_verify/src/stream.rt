@@ -3,12 +3,12 @@ ghost use Rattle.std.specs.Prelude.{◌≡◌, None, List, IfSome, IsTrue};
 ghost use Rattle.std.specs.Slice.Iter.{iter_rest};
 ghost use Rattle.jfr_outside.specs.World.{file};
 ghost use Rattle.jfr_outside.specs.Counts.{Rose};
-ghost use Rattle.jfr_header.specs.Taking.{IsKept, Tells};
+ghost use Rattle.jfr_header.specs.Taking.{IsKept, IfContentsKnown};
 ghost use Rattle.jfr_chunk.specs.Parts.{Parts};
 ghost use Rattle.jfr_verify.specs.Comparing.{HasOutputs, InputRead};
 ghost use Rattle.jfr_verify.specs.Faults.{Counts};
 ghost use Rattle.jfr_verify.specs.Outputs.{AllWhole};
-ghost use Rattle.jfr_verify.specs.Verdicts.{AllVerified, AreScrubs, IfDecided, IfVerified, IsFine, LacksOne, VerdictIn, VerdictOf, three};
+ghost use Rattle.jfr_verify.specs.Verdicts.{AllVerified, AreScrubs, IfDecided, IfVerified, IsVerifiedOrMemory, LacksOne, VerdictIn, VerdictOf, three};
 
 use crate::Verdict;
 use crate::comparer::Comparer;
@@ -40,9 +40,9 @@ fn compare_input<P: Place>(
     comparer: &mut Comparer<'_>,
 ) -> Verdict
     requires { AllWhole (iter_rest comparer.old.outputs) }
-    ensures contents { (qs : List Parts) → HasOutputs comparer.old qs → Tells (P.state place.old) (P.state place.new)
+    ensures contents { (qs : List Parts) → HasOutputs comparer.old qs → IfContentsKnown (P.state place.old) (P.state place.new)
         (InputRead comparer.old.filter.now name.now qs comparer.old.receipts.now result) }
-    ensures unchanged { Tells (P.state place.old) (P.state place.new) IsKept }
+    ensures unchanged { IfContentsKnown (P.state place.old) (P.state place.new) IsKept }
     ensures counts { Counts result (P.state place.old) (P.state place.new) }
     ensures steady { IsTrue (P.state place.old).steady → result ≡ Verdict.ReadFault → IfSome (P.state place.old).contents (λ w. file w name.now ≡ None) }
 {
@@ -72,7 +72,7 @@ fn verify_files<P: Place>(
     names: Names<'_>,
     filter: &Filter,
 ) -> Verdict
-    ensures contents { Tells (P.state place.old) (P.state place.new) (VerdictIn filter.now names.entry.input.now names.entry.output.now names.entry.receipt.now result) }
+    ensures contents { IfContentsKnown (P.state place.old) (P.state place.new) (VerdictIn filter.now names.entry.input.now names.entry.output.now names.entry.receipt.now result) }
     ensures counts { Counts result (P.state place.old) (P.state place.new) }
     ensures steady { IsTrue (P.state place.old).steady → result ≡ Verdict.ReadFault → IfSome (P.state place.old).contents (λ w. LacksOne (three names.entry.input.now names.entry.output.now names.entry.receipt.now w)) }
 {
@@ -108,10 +108,10 @@ pub fn verify_stream<P: Place>(
 
     // The output of a scrub is verified with its own receipts.
     ensures complete { IfSome (P.state place.old).contents (λ w. AreScrubs filter.now (three input.now output.now receipt.now w)
-        → (Rose (P.state place.old).read_faults (P.state place.new).read_faults → ⊥) → IsFine result) }
+        → (Rose (P.state place.old).read_faults (P.state place.new).read_faults → ⊥) → IsVerifiedOrMemory result) }
 
     // Only the input of the place changes, and after a read fault the count of failed reads.
-    ensures unchanged { Tells (P.state place.old) (P.state place.new) IsKept }
+    ensures unchanged { IfContentsKnown (P.state place.old) (P.state place.new) IsKept }
     ensures counts { Counts result (P.state place.old) (P.state place.new) }
 
     // On a steady place no read fails if the three files exist.

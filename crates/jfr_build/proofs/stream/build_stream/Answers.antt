@@ -1,7 +1,7 @@
 use Rattle.std.specs.Prelude.{ℕ, List}
 use Rattle.std.proofs.Common.{sym, ◌∙◌, subst}
 use Rattle.jfr_plan.specs.Effects.{writes}
-use Rattle.jfr_plan.specs.Parts.{PlaceLeaves}
+use Rattle.jfr_plan.specs.Parts.{IsPlaceAfter}
 use Rattle.jfr_build.proofs.AcceptedLaws.{built_accepted}
 use Rattle.jfr_build.proofs.Streaming.{chunk_built, chunk_decided, chunk_ran, chunk_reads, chunk_writes, text_decided}
 use Rattle.jfr_build.proofs.stream.build_stream.Goals as goal
@@ -13,7 +13,7 @@ returns-in-Ok-clause-built g c =
     let d = g.P.Place.state c.write_file.new.place in
     let out = c.args.out.now in
     let r = c.write_file.result in
-    let wrote = subst (λ (x : List ℕ). PlaceLeaves (writes out x) r b d) c.deref.ensures.value c.write_file.ensures.contents in
+    let wrote = subst (λ (x : List ℕ). IsPlaceAfter (writes out x) r b d) c.deref.ensures.value c.write_file.ensures.contents in
     λ e. chunk_built c.args.text.now out a c.in-Ok.chunk r b d c.in-Ok.ensures.contents c.in-Ok.ensures.counts wrote c.write_file.ensures.counts built_accepted (sym c.of_write.ensures ∙ e)
 
 pub returns-in-Ok-clause-each : goal.returns-in-Ok-clause-each
@@ -26,7 +26,7 @@ returns-in-Ok-clause-ran g c =
     let d = g.P.Place.state c.write_file.new.place in
     let out = c.args.out.now in
     let r = c.write_file.result in
-    let wrote = subst (λ (x : List ℕ). PlaceLeaves (writes out x) r b d) c.deref.ensures.value c.write_file.ensures.contents in
+    let wrote = subst (λ (x : List ℕ). IsPlaceAfter (writes out x) r b d) c.deref.ensures.value c.write_file.ensures.contents in
     rw c.of_write.ensures (chunk_ran c.args.text.now out a c.in-Ok.chunk r b d c.in-Ok.ensures.contents c.in-Ok.ensures.counts wrote c.write_file.ensures.counts)
 
 pub returns-in-Ok-clause-complete : goal.returns-in-Ok-clause-complete
@@ -36,7 +36,7 @@ returns-in-Ok-clause-complete g c =
     let d = g.P.Place.state c.write_file.new.place in
     let out = c.args.out.now in
     let r = c.write_file.result in
-    let wrote = subst (λ (x : List ℕ). PlaceLeaves (writes out x) r b d) c.deref.ensures.value c.write_file.ensures.contents in
+    let wrote = subst (λ (x : List ℕ). IsPlaceAfter (writes out x) r b d) c.deref.ensures.value c.write_file.ensures.contents in
     λ no_read no_write. rw c.of_write.ensures (chunk_decided c.args.text.now out a c.in-Ok.chunk r b d c.in-Ok.ensures.contents c.in-Ok.ensures.counts wrote c.write_file.ensures.counts no_write)
 
 pub returns-in-Ok-clause-can_read : goal.returns-in-Ok-clause-can_read
@@ -46,7 +46,7 @@ returns-in-Ok-clause-can_read g c =
     let d = g.P.Place.state c.write_file.new.place in
     let out = c.args.out.now in
     let r = c.write_file.result in
-    let wrote = subst (λ (x : List ℕ). PlaceLeaves (writes out x) r b d) c.deref.ensures.value c.write_file.ensures.contents in
+    let wrote = subst (λ (x : List ℕ). IsPlaceAfter (writes out x) r b d) c.deref.ensures.value c.write_file.ensures.contents in
     λ can. rw c.of_write.ensures (chunk_reads c.args.text.now out a c.in-Ok.chunk r b d c.in-Ok.ensures.contents c.in-Ok.ensures.counts wrote c.write_file.ensures.counts)
 
 pub returns-in-Ok-clause-can_create : goal.returns-in-Ok-clause-can_create
@@ -56,7 +56,7 @@ returns-in-Ok-clause-can_create g c =
     let d = g.P.Place.state c.write_file.new.place in
     let out = c.args.out.now in
     let r = c.write_file.result in
-    let wrote = subst (λ (x : List ℕ). PlaceLeaves (writes out x) r b d) c.deref.ensures.value c.write_file.ensures.contents in
+    let wrote = subst (λ (x : List ℕ). IsPlaceAfter (writes out x) r b d) c.deref.ensures.value c.write_file.ensures.contents in
     λ can. rw c.of_write.ensures (chunk_writes c.args.text.now out a c.in-Ok.chunk r b d c.in-Ok.ensures.contents c.in-Ok.ensures.counts wrote c.write_file.ensures.counts can)
 
 pub returns-in-Err-clause-each : goal.returns-in-Err-clause-each

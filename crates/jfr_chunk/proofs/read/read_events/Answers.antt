@@ -1,6 +1,6 @@
 use Rattle.std.proofs.Common.{length, ◌+◌, ap, sym, ◌∙◌, subst, arith}
 use Rattle.std.proofs.lemmas.Result.{err_from_is_err_and}
-use Rattle.jfr_chunk.specs.Seen.{AreRefs, due, used_in}
+use Rattle.jfr_chunk.specs.Indexed.{AreRefs, indexed_refs, used_in}
 use Rattle.jfr_chunk.proofs.CountLaws.{counted_none, counted_next, counted_event, number_fits, whole_small}
 use Rattle.jfr_chunk.proofs.EndLaws.{EndIs, end_early, end_full}
 use Rattle.jfr_chunk.proofs.EventReading.{ReadTo, record_of, read_none, read_other, read_event, read_stops, read_all}
@@ -16,7 +16,7 @@ pub loop-number-init : goal.loop-number-init
 loop-number-init c = record {
   read = read_none c.args.chunk.now c.args.classes.now c.args.frames.now c.clear.new.self c.in_ok-fields.fields.items c.clear.ensures.empty c.in_ok-fields.ensures;
   counted = counted_none c.args.chunk.now c.args.frames.now _ c.requires.records (ap length c.new-refs.ensures.numbers);
-  refs_end = λ h. subst (λ z. AreRefs (due c.args.pools.now c.args.classes.now c.args.chunk.now c.args.frames.now c.clear.new.self) 0 z c.new-refs.result.numbers.items) (sym c.in_ok-fields.ensures) c.new-refs.ensures.numbers;
+  refs_end = λ h. subst (λ z. AreRefs (indexed_refs c.args.pools.now c.args.classes.now c.args.chunk.now c.args.frames.now c.clear.new.self) 0 z c.new-refs.result.numbers.items) (sym c.in_ok-fields.ensures) c.new-refs.ensures.numbers;
   used = λ id. c.clear-2.ensures id ∙ ap (λ z. used_in c.args.frames.now z id) (sym c.in_ok-fields.ensures);
 }
 
@@ -71,7 +71,7 @@ loop-number-preserved c =
           (read_event c.args.chunk.now c.args.classes.now c.args.frames.now c.loop-number.number c.loop-number.early c.if-end.early c.loop-number.fields.items c.at-frame.result c.in_ok-end.end c.len-in-loop-number.result c.at-frame.ensures c.in-Some.ensures.event (sym c.in_ok-end.was ∙ c.fields_end.ensures.exact) i c.loop-number.invariant.read);
       counted = e.counted;
       refs_end = λ h.
-          subst (λ z. AreRefs (due c.args.pools.now c.args.classes.now c.args.chunk.now c.args.frames.now c.if-end.early) 0 z c.fields_end.new.refs.numbers.items) (sym c.in_ok-push.ensures.items)
+          subst (λ z. AreRefs (indexed_refs c.args.pools.now c.args.classes.now c.args.chunk.now c.args.frames.now c.if-end.early) 0 z c.fields_end.new.refs.numbers.items) (sym c.in_ok-push.ensures.items)
           (event_refs c.args.pools.now c.args.classes.now c.args.chunk.now c.args.frames.now c.loop-number.early c.if-end.early c.loop-number.number c.in_ok-end.end c.len-in-loop-number.result c.at-frame.result c.loop-number.fields.items c.loop-number.refs.numbers.items c.fields_end.new.refs.numbers.items
           c.at-frame.ensures i b.each (c.in_ok-end.ensures.refs_end.appended h) (omega (arith, c.len-in-loop-number.ensures)) (c.loop-number.invariant.refs_end (c.in_ok-end.ensures.refs_end.lacked_none h)));
       used = λ id.

@@ -1,6 +1,6 @@
 use Rattle.std.proofs.Common.{◌≡◌, ℕ, false, length}
 use Rattle.jfr_meta.specs.Stays.{is_in}
-use Rattle.jfr_chunk.specs.Seen.{AreRefs, due, used_in}
+use Rattle.jfr_chunk.specs.Indexed.{AreRefs, indexed_refs, used_in}
 use Rattle.jfr_chunk.proofs.CountLaws.{Counted}
 use Rattle.jfr_chunk.proofs.EventReading.{ReadTo}
 use Rattle.jfr_chunk.proofs.read.read_events.Given as goal
@@ -9,6 +9,6 @@ abbrev pub invariant-loop-number : goal.invariant-loop-number
 invariant-loop-number l = record {
   read : ReadTo l.chunk l.classes l.frames l.number l.early l.fields.items;
   counted : Counted l.chunk l.frames l.number (length l.refs.numbers.items);
-  refs_end : l.refs.lacks ≡ false → AreRefs (due l.pools l.classes l.chunk l.frames l.early) 0 l.fields.items l.refs.numbers.items;
+  refs_end : l.refs.lacks ≡ false → AreRefs (indexed_refs l.pools l.classes l.chunk l.frames l.early) 0 l.fields.items l.refs.numbers.items;
   used : (id : ℕ) → is_in l.used.ids id ≡ used_in l.frames l.fields.items id;
 }

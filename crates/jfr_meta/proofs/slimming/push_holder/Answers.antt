@@ -2,7 +2,7 @@ use Rattle.std.proofs.Common.{ap, sym, ◌∙◌, length, map, subst}
 use Rattle.std.specs.Prelude.{filter}
 use Rattle.std.proofs.lemmas.List.{length-map}
 use Rattle.jfr_meta.specs.Rewritten.{WroteTrees}
-use Rattle.jfr_meta.specs.Slimmed.{element_stays}
+use Rattle.jfr_meta.specs.Slimmed.{element_is_needed}
 use Rattle.jfr_meta.specs.Stays.{is_in}
 use Rattle.jfr_meta.specs.Trees.{children_of}
 use Rattle.jfr_meta.proofs.RewriteLaws.{on_ok_so, tree_done}
@@ -13,7 +13,7 @@ returns c =
     let texts = c.args.strings.now in
     let t = c.args.element.now in
     let refs = c.in_ok-children.children.items in
-    let kept = filter (element_stays texts (is_in c.args.stay.now)) (children_of t) in
+    let kept = filter (element_is_needed texts (is_in c.args.stay.now)) (children_of t) in
     record {
       ok = on_ok_so c.push_chosen.result
           (λ w. tree_done texts t kept c.len.result c.args.tree.now c.push_head.new.tree c.push_chosen.new.tree

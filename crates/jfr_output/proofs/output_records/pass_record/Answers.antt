@@ -3,7 +3,7 @@ use Rattle.std.specs.Prelude.{IfSome, if◌then◌else◌, is_some, option_map}
 use Rattle.std.proofs.lemmas.List.{reverse-reverse}
 use Rattle.jfr_header.specs.declared.header.Header.{Header}
 use Rattle.jfr_chunk.specs.Reach.{kept_by}
-use Rattle.jfr_chunk.specs.Scrub.{output_record_by, output_record_of, output_records_whole}
+use Rattle.jfr_chunk.specs.Scrub.{output_record_by, output_record_of, is_kept_or_metadata}
 use Rattle.jfr_chunk.specs.Parts.{events_of}
 use Rattle.jfr_output.specs.declared.output_records.Cursor.{Cursor}
 use Rattle.jfr_output.specs.OutputRecords.{IsChosen, IsCursor, is_kept_at, link_after, link_there, linked_at, new_metadata, output_record_in}
@@ -33,7 +33,7 @@ returns-clause-exact c =
     let new = new_written parts c.requires.cursor.parts (kept_by parts flags) p.frame (record_there parts c.requires.cursor.parts c.args.cursor.now.frame p.frame p.there) in
     subst (λ o. IfSome o (λ r. option_map (output_record_in parts flags) c.chosen.result ≡ output_record_of parts (kept_by parts flags) r)) (sym p.there)
     (chosen ∙ ((λ i. output_record_by (l i) (k i || (sym p.place i == m i)) (if sym p.place i == m i then anew else None) p.frame)
-    ∙ ap (λ w. output_record_by (link_there parts p.frame) (output_records_whole parts (kept_by parts flags) p.frame) w p.frame) new))
+    ∙ ap (λ w. output_record_by (link_there parts p.frame) (is_kept_or_metadata parts (kept_by parts flags) p.frame) w p.frame) new))
 
 pub returns-clause-metadata : goal.returns-clause-metadata
 returns-clause-metadata c =

@@ -4,7 +4,7 @@ use Rattle.std.specs.Prelude.{IfOk, Some, option_map, slice_get, take}
 use Rattle.std.proofs.lemmas.List.{length-set}
 use Rattle.std.proofs.lemmas.Option.{slice_get-map}
 use Rattle.jfr_chunk.specs.Parts.{events_of}
-use Rattle.jfr_chunk.specs.Seen.{event_at}
+use Rattle.jfr_chunk.specs.Indexed.{event_at}
 use Rattle.jfr_chunk.specs.Chosen.{chosen, is_chosen}
 use Rattle.jfr_path.specs.Threads.{Asked}
 use Rattle.jfr_path.specs.Verdicts.{is_kept}

@@ -1,6 +1,6 @@
 use Rattle.std.proofs.Common.{sym}
 use Rattle.std.proofs.lemmas.Result.{on_ok_weaker}
-use Rattle.jfr_chunk.specs.Seen.{event_at}
+use Rattle.jfr_chunk.specs.Indexed.{event_at}
 use Rattle.jfr_renumber.proofs.EventWriting.{event_facts, event_written}
 use Rattle.jfr_renumber.proofs.records.put_chunk_event.Goals as goal
 

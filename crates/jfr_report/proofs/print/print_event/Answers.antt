@@ -2,7 +2,7 @@ use Rattle.std.proofs.Common.{◌≡◌, ◌++◌, ◌∙◌, ap, sym, subst, So
 use Rattle.std.specs.Prelude.{encode_utf8_all, slice_get}
 use Rattle.jfr_value.specs.Nodes.{node_of}
 use Rattle.jfr_chunk.specs.Parts.{Parts, events_of}
-use Rattle.jfr_chunk.specs.Seen.{event_at}
+use Rattle.jfr_chunk.specs.Indexed.{event_at}
 use Rattle.jfr_report.specs.declared.print.Writer.{Writer}
 use Rattle.jfr_report.specs.Reports.{chunk_of, event_bytes, text_by}
 use Rattle.jfr_report.proofs.PageLaws.{gathered_more, writer_bytes, writer_chunk, written_more}

@@ -1,7 +1,7 @@
 use Rattle.std.proofs.Common.{◌+◌, drop, sym, ap, subst, ◌∙◌, false}
 use Rattle.std.specs.Prelude.{encode_utf8_all, unwrap_or}
 use Rattle.jfr_chunk.specs.Parts.{events_of}
-use Rattle.jfr_chunk.specs.Seen.{event_at}
+use Rattle.jfr_chunk.specs.Indexed.{event_at}
 use Rattle.jfr_chunk.specs.Reach.{marked}
 use Rattle.jfr_report.specs.Reports.{events_bytes}
 use Rattle.jfr_report.specs.Gathered.{IsGathered}

@@ -3,7 +3,7 @@ use Rattle.std.proofs.lemmas.Result.{err_from_is_err_and}
 use Rattle.jfr_split.specs.Parts.{folder_of}
 use Rattle.jfr_plan.specs.Effects.{outside, Create, Append}
 use Rattle.jfr_plan.specs.Rules.{Asked}
-use Rattle.jfr_plan.specs.Parts.{PartLeaves}
+use Rattle.jfr_plan.specs.Parts.{IsAfterPart}
 use Rattle.jfr_plan.proofs.Leaving.{leaves_more, leaves_then, counts_then, tallied}
 use Rattle.jfr_split.specs.Names.{part_name}
 use Rattle.jfr_split.specs.Splits.{closing}
@@ -17,7 +17,7 @@ returns-in_err-open_part-clause-contents g c = λ sink.
     let x = g.P.Place.state c.args.place.now in
     let y = g.P.Place.state c.open_part.new.place in
     let less : c.args.part.now.number < c.args.split.rule.now.max_parts = omega (arith, c.if-split-part.false) in
-    rw (p.1, p.2) (subst (λ (a : Asked). PartLeaves a (Err c.in_err-open_part.field-0.0) (outside x sink) (outside y sink)) (sym (asks_some c.args.split.rule.now name c.args.part.now c.args.chunk.now less))
+    rw (p.1, p.2) (subst (λ (a : Asked). IsAfterPart a (Err c.in_err-open_part.field-0.0) (outside x sink) (outside y sink)) (sym (asks_some c.args.split.rule.now name c.args.part.now c.args.chunk.now less))
     (leaves_more (closing c.args.part.now ++ Create (name (c.args.part.now.number + 1)) ∷ []) (Append c.args.chunk.now ∷ []) c.in_err-open_part.field-0.0 x y c.in_err-open_part.ensures.contents sink))
 
 pub returns-in_err-open_part-clause-counts : goal.returns-in_err-open_part-clause-counts
@@ -32,7 +32,7 @@ returns-clause-contents g c = λ sink.
     let y = g.P.Place.state c.open_part.new.place in
     let z = g.P.Place.state c.append_output.new.place in
     let less : c.args.part.now.number < c.args.split.rule.now.max_parts = omega (arith, c.if-split-part.false) in
-    subst (λ (a : Asked). PartLeaves a c.append_output.result (outside x sink) (outside z sink)) (sym (asks_some c.args.split.rule.now name c.args.part.now c.args.chunk.now less))
+    subst (λ (a : Asked). IsAfterPart a c.append_output.result (outside x sink) (outside z sink)) (sym (asks_some c.args.split.rule.now name c.args.part.now c.args.chunk.now less))
     (leaves_then (closing c.args.part.now ++ Create (name (c.args.part.now.number + 1)) ∷ []) (Append c.args.chunk.now ∷ []) c.in_ok-open_part.field-0 c.append_output.result x y z c.in_ok-open_part.ensures.counts c.in_ok-open_part.ensures.contents c.append_output.ensures.contents sink)
 
 pub returns-clause-counts : goal.returns-clause-counts

@@ -2,7 +2,7 @@ use Rattle.std.proofs.Common.{ℕ, ◌+◌, ◌∙◌, ap, subst, Option, List, 
 use Rattle.std.proofs.lemmas.Result.{err_from_is_err_and}
 use Rattle.jfr_split.specs.Parts.{folder_of}
 use Rattle.jfr_plan.specs.Effects.{Create}
-use Rattle.jfr_plan.specs.Parts.{PlaceLeaves}
+use Rattle.jfr_plan.specs.Parts.{IsPlaceAfter}
 use Rattle.jfr_plan.proofs.Leaving.{leaves_more, leaves_none, leaves_then, counts_then}
 use Rattle.jfr_split.specs.Names.{part_name}
 use Rattle.jfr_split.specs.Splits.{closing}
@@ -36,6 +36,6 @@ returns g c =
     let closed = c.in_ok-close_part.ensures in
     record {
       contents = leaves_then (closing c.args.part.now) (Create (part_name (folder_of c.args.split.rule.now) c.args.split.file.now (c.args.part.now.number + 1)) ∷ []) o r x y z closed.counts closed.contents
-          (subst (λ (n : List ℕ). PlaceLeaves (Create n ∷ []) r y z) (c.as_str.ensures.value ∙ c.in_ok-name.ensures ∙ ap (λ (o : Option (List ℕ)). part_name o c.args.split.file.now (c.args.part.now.number + 1)) c.folder_name-folder.ensures) c.create_output.ensures.contents);
+          (subst (λ (n : List ℕ). IsPlaceAfter (Create n ∷ []) r y z) (c.as_str.ensures.value ∙ c.in_ok-name.ensures ∙ ap (λ (o : Option (List ℕ)). part_name o c.args.split.file.now (c.args.part.now.number + 1)) c.folder_name-folder.ensures) c.create_output.ensures.contents);
       counts = counts_then o r x y z closed.counts c.create_output.ensures.counts;
     }

@@ -6,7 +6,7 @@ use Rattle.std.proofs.Math.Seq.{take-append_seam}
 use Rattle.std.proofs.lemmas.List.{length-replicate}
 use Rattle.jfr_chunk.specs.Parts.{events_of}
 use Rattle.jfr_value.specs.Nodes.{node_of}
-use Rattle.jfr_stacks.specs.Adding.{AreAtMost, AreBelow, Owes, kept_at}
+use Rattle.jfr_stacks.specs.Adding.{AreAtMost, AreBelow, HasPending, kept_at}
 use Rattle.jfr_stacks.specs.Frames.{after_references, field_numbers}
 use Rattle.jfr_stacks.specs.Held.{counts_in}
 use Rattle.jfr_stacks.specs.Methods.{WritesFor}
@@ -29,7 +29,7 @@ loop-number-init c =
       done = [];
       rest = refl;
       few = omega arith;
-      owes = subst (λ ns. Owes (entry_text p) old [] old 0 ns) (sym q) (owes_none (entry_text p) old n);
+      owes = subst (λ ns. HasPending (entry_text p) old [] old 0 ns) (sym q) (owes_none (entry_text p) old n);
       each = ap length q ∙ (length-replicate n 0 ∙ (c.len.ensures ∙ ap length c.pools.ensures));
       small = subst (AreAtMost 0) (sym q) (zeros_small 0 n);
       ready = c.requires.ready;
@@ -77,12 +77,12 @@ loop-number-preserved c =
           let new = w.count_trace.new.by_entry in
           let d = i.done ++ option_to_list o in
           let q : c.match-kept_trace.by_entry.items ≡ new = ap (λ (v : Vec ℕ Global). v.items) w.by_entry-is ∙ front _ new _ (w.count_trace.auto.by_entry ∙ w.deref_mut.ensures.len) in
-          let h : Owes (entry_text p) old d (counts_in w.count_trace.new.counts) 0 new = w.in_ok-count_trace.ensures.ok old i.done (subst (λ ns. Owes (entry_text p) old i.done (counts_in c.loop-number.counts) 0 ns) (sym w.deref_mut.ensures.value) i.owes) in
+          let h : HasPending (entry_text p) old d (counts_in w.count_trace.new.counts) 0 new = w.in_ok-count_trace.ensures.ok old i.done (subst (λ ns. HasPending (entry_text p) old i.done (counts_in c.loop-number.counts) 0 ns) (sym w.deref_mut.ensures.value) i.owes) in
           record {
             done = d;
             rest = ap (λ z. (i.done ++ option_to_list z) ++ left (stack_of p) p c.args.kept.now (number + 1)) (sym k) ∙ done_next (stack_of p) p c.args.kept.now number i.done (kept_at p c.args.kept.now number) t c.requires.each refl i.rest;
             few = let m = length_more i.done o in omega arith;
-            owes = subst (λ ns. Owes (entry_text p) old d (counts_in c.match-kept_trace.counts) 0 ns) (sym q) (subst (λ m. Owes (entry_text p) old d m 0 new) (sym (ap counts_in w.counts-is)) h);
+            owes = subst (λ ns. HasPending (entry_text p) old d (counts_in c.match-kept_trace.counts) 0 ns) (sym q) (subst (λ m. HasPending (entry_text p) old d m 0 new) (sym (ap counts_in w.counts-is)) h);
             each = ap length q ∙ (w.count_trace.auto.by_entry ∙ (ap length w.deref_mut.ensures.value ∙ i.each));
             small = subst (AreAtMost (number + 1)) (sym q) (w.in_ok-count_trace.ensures.small number (subst (AreAtMost number) (sym w.deref_mut.ensures.value) i.small));
             ready = subst (λ (z : StackWriter). WritesFor p z.frames) (sym w.writer-is) w.in_ok-count_trace.ensures.ready;
@@ -91,13 +91,13 @@ loop-number-preserved c =
           let q : c.match-kept_trace.by_entry.items ≡ c.loop-number.by_entry.items = ap (λ (v : Vec ℕ Global). v.items) w.by_entry-is in
           let k : option_and_then (stack_of p) (kept_at p c.args.kept.now number) ≡ None = traced_all p (kept_at p c.args.kept.now number) ∙ ap (option_and_then (λ t. trace_text p (after_references 16 p t))) (sym w.in_default.ensures.exact) in
           let d = i.done ++ [] in
-          let o : Owes (entry_text p) old d (counts_in c.loop-number.counts) 0 c.loop-number.by_entry.items = owes_same (entry_text p) old i.done (counts_in c.loop-number.counts) c.loop-number.by_entry.items None refl i.owes in
+          let o : HasPending (entry_text p) old d (counts_in c.loop-number.counts) 0 c.loop-number.by_entry.items = owes_same (entry_text p) old i.done (counts_in c.loop-number.counts) c.loop-number.by_entry.items None refl i.owes in
           let l : number ≤ number + 1 = omega arith in
           record {
             done = d;
             rest = ap (λ z. (i.done ++ option_to_list z) ++ left (stack_of p) p c.args.kept.now (number + 1)) (sym k) ∙ done_next (stack_of p) p c.args.kept.now number i.done (kept_at p c.args.kept.now number) t c.requires.each refl i.rest;
             few = let m = length_more i.done None in omega arith;
-            owes = subst (λ ns. Owes (entry_text p) old d (counts_in c.match-kept_trace.counts) 0 ns) (sym q) (subst (λ m. Owes (entry_text p) old d m 0 c.loop-number.by_entry.items) (sym (ap counts_in w.counts-is)) o);
+            owes = subst (λ ns. HasPending (entry_text p) old d (counts_in c.match-kept_trace.counts) 0 ns) (sym q) (subst (λ m. HasPending (entry_text p) old d m 0 c.loop-number.by_entry.items) (sym (ap counts_in w.counts-is)) o);
             each = ap length q ∙ i.each;
             small = subst (AreAtMost (number + 1)) (sym q) (small_more number (number + 1) c.loop-number.by_entry.items l i.small);
             ready = subst (λ (z : StackWriter). WritesFor p z.frames) (sym w.writer-is) i.ready;

@@ -1,7 +1,7 @@
 use Rattle.std.proofs.Common.{◌+◌, ◌*◌, ◌-◌, ◌^◌, ◌<◌, ◌≤◌, arith, drop, get_or, length, subst, sym}
 use Rattle.std.proofs.lemmas.Option.{slice_get-get_or}
 use Rattle.jfr_filter.proofs.AnyLaws.{drop_at_get}
-use Rattle.jfr_stacks.specs.Adding.{AreBelow, Owes}
+use Rattle.jfr_stacks.specs.Adding.{AreBelow, HasPending}
 use Rattle.jfr_stacks.specs.Held.{counts_in}
 use Rattle.jfr_stacks.specs.Texts.{entry_text}
 use Rattle.jfr_stacks.proofs.CountLaws.{below_fits}
@@ -36,5 +36,5 @@ loop-number-preserved c = record {
       let now = counts_in c.loop-number.counts in
       let n = get_or ns number 0 in
       let w : number < length ns = c.loop-number-test.true in
-      owes_next text old ts now number n (drop (number + 1) ns) (counts_in c.add_entry.new.counts) c.in_ok-add_entry.ensures.ok (subst (λ z. Owes text old ts now number z) (drop_at_get ns number n (slice_get-get_or ns number 0 w)) (c.loop-number.invariant.owes old ts h)));
+      owes_next text old ts now number n (drop (number + 1) ns) (counts_in c.add_entry.new.counts) c.in_ok-add_entry.ensures.ok (subst (λ z. HasPending text old ts now number z) (drop_at_get ns number n (slice_get-get_or ns number 0 w)) (c.loop-number.invariant.owes old ts h)));
 }

@@ -1,5 +1,5 @@
 use Rattle.std.specs.Prelude.{ℕ, List, drop}
-use Rattle.jfr_stacks.specs.Adding.{Owes}
+use Rattle.jfr_stacks.specs.Adding.{HasPending}
 use Rattle.jfr_stacks.specs.Folded.{Counts}
 use Rattle.jfr_stacks.specs.Held.{counts_in}
 use Rattle.jfr_stacks.specs.Methods.{WritesFor}
@@ -10,5 +10,5 @@ use Rattle.jfr_stacks.proofs.entries.add_entries.Given as goal
 abbrev pub invariant-loop-number : goal.invariant-loop-number
 invariant-loop-number l = record {
   ready : WritesFor l.chunk l.writer.frames;
-  owes : (old : Counts) (ts : List (List ℕ)) → Owes (entry_text l.chunk) old ts (counts_in l.initial.counts) 0 l.by_entry → Owes (entry_text l.chunk) old ts (counts_in l.counts) l.number (drop l.number l.by_entry);
+  owes : (old : Counts) (ts : List (List ℕ)) → HasPending (entry_text l.chunk) old ts (counts_in l.initial.counts) 0 l.by_entry → HasPending (entry_text l.chunk) old ts (counts_in l.counts) l.number (drop l.number l.by_entry);
 }

@@ -22,11 +22,11 @@ returns-in-End-clause-contents g c = λ qs h.
 
 pub returns-in-End-clause-counts : goal.returns-in-End-clause-counts
 returns-in-End-clause-counts g c =
-    counts_same c.end.result (g.P.Place.state c.args.place.now) (g.P.Place.state c.next.new.place) c.end.ensures.quiet
+    counts_same c.end.result (g.P.Place.state c.args.place.now) (g.P.Place.state c.next.new.place) c.end.ensures.no_read_fault
     (same_on (g.P.Place.state c.args.place.now) (g.P.Place.state c.chunks.place) (g.P.Place.state c.next.new.place) c.chunks.invariant.counts (record { reads = c.in-End.ensures.counts; writes = c.in-End.ensures.writes; same = c.in-End.ensures.steady }))
 
 pub returns-in-End-clause-steady : goal.returns-in-End-clause-steady
-returns-in-End-clause-steady g c = λ s e. absurd (c.end.ensures.quiet e)
+returns-in-End-clause-steady g c = λ s e. absurd (c.end.ensures.no_read_fault e)
 
 pub returns-in-Refused-clause-contents : goal.returns-in-Refused-clause-contents
 returns-in-Refused-clause-contents g c = λ qs h.
@@ -56,8 +56,8 @@ returns-in-Err-compare-clause-contents g c = λ qs h.
 
 pub returns-in-Err-compare-clause-counts : goal.returns-in-Err-compare-clause-counts
 returns-in-Err-compare-clause-counts g c =
-    counts_same c.in-Err-compare.verdict (g.P.Place.state c.args.place.now) (g.P.Place.state c.next.new.place) (λ e. c.in-Err-compare.ensures.quiet (ap Err e))
+    counts_same c.in-Err-compare.verdict (g.P.Place.state c.args.place.now) (g.P.Place.state c.next.new.place) (λ e. c.in-Err-compare.ensures.no_read_fault (ap Err e))
     (same_on (g.P.Place.state c.args.place.now) (g.P.Place.state c.chunks.place) (g.P.Place.state c.next.new.place) c.chunks.invariant.counts (record { reads = c.in-Chunk.ensures.counts; writes = c.in-Chunk.ensures.writes; same = c.in-Chunk.ensures.steady }))
 
 pub returns-in-Err-compare-clause-steady : goal.returns-in-Err-compare-clause-steady
-returns-in-Err-compare-clause-steady g c = λ s e. absurd (c.in-Err-compare.ensures.quiet (ap Err e))
+returns-in-Err-compare-clause-steady g c = λ s e. absurd (c.in-Err-compare.ensures.no_read_fault (ap Err e))

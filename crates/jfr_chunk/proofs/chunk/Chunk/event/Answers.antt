@@ -2,7 +2,7 @@ use Rattle.std.proofs.Common.{rules, arith, ◌≡◌, ap, refl, sym, ◌∙◌,
 use Rattle.std.specs.Prelude.{Some, None, slice_get, option_map}
 use Rattle.jfr_value.specs.Nodes.{node_at}
 use Rattle.jfr_chunk.specs.Parts.{AreParts, Parts, events_of}
-use Rattle.jfr_chunk.specs.Seen.{event_kept, event_at, event_with}
+use Rattle.jfr_chunk.specs.Indexed.{indexed_event, event_at, event_with}
 use Rattle.jfr_chunk.proofs.CountLaws.{whole_small}
 use Rattle.jfr_chunk.proofs.EventReading.{record_of}
 use Rattle.jfr_chunk.proofs.SeenLaws.{event_found, event_missed}
@@ -11,7 +11,7 @@ use Rattle.jfr_chunk.proofs.chunk.Chunk.event.Goals as goal
 
 pub returns-in_err-frame-clause-exact : goal.returns-in_err-frame-clause-exact
 returns-in_err-frame-clause-exact c =
-    let e : map (event_kept c.args.self.now.records c.self.inside.events.early) c.self.inside.events.fields.items ≡ map Some (events_of c.args.self.now) = search rules in
+    let e : map (indexed_event c.args.self.now.records c.self.inside.events.early) c.self.inside.events.fields.items ≡ map Some (events_of c.args.self.now) = search rules in
     let g : slice_get c.self.inside.events.fields.items c.args.number ≡ Some c.in_ok-fields.fields = search rules in
     let h : slice_get c.args.self.now.records c.in_ok-fields.fields.record ≡ None = search rules in
     ap (option_map event_at) c.from_residual-in_err-frame.ensures ∙ event_missed c.args.self.now c.self.inside.events.early c.self.inside.events.fields.items c.args.number c.in_ok-fields.fields e g h
@@ -24,7 +24,7 @@ end_of_fields-requires c =
 
 pub returns-clause-exact : goal.returns-clause-exact
 returns-clause-exact c =
-    let e : map (event_kept c.args.self.now.records c.self.inside.events.early) c.self.inside.events.fields.items ≡ map Some (events_of c.args.self.now) = search rules in
+    let e : map (indexed_event c.args.self.now.records c.self.inside.events.early) c.self.inside.events.fields.items ≡ map Some (events_of c.args.self.now) = search rules in
     let g : slice_get c.self.inside.events.fields.items c.args.number ≡ Some c.in_ok-fields.fields = search rules in
     let h : slice_get c.args.self.now.records c.in_ok-fields.fields.record ≡ Some c.in_ok-frame.frame = search rules in
     rw c.inline.ensures (ap (λ end. Some (event_with end c.in_ok-frame.frame)) c.end_of_fields.ensures ∙ event_found c.args.self.now c.self.inside.events.early c.self.inside.events.fields.items c.args.number c.in_ok-fields.fields c.in_ok-frame.frame e g h)

@@ -1,6 +1,6 @@
 use Rattle.std.proofs.Common.{ap, subst, ◌∙◌, ◌++◌, ◌∷◌}
 use Rattle.jfr_scrub.specs.declared.piece.MadePart.TheVariants.{ChunkHeader}
-use Rattle.jfr_scrub.specs.Pieces.{Keeps, Laid, joined}
+use Rattle.jfr_scrub.specs.Pieces.{Keeps, PieceList, joined}
 use Rattle.jfr_scrub.proofs.CopiedLaws.{keeps_settled, keeps_then, settled_parts}
 use Rattle.jfr_scrub.proofs.PieceLaws.{finished}
 use Rattle.jfr_scrub.proofs.output.Output.finish.Goals as goal
@@ -12,10 +12,10 @@ returns-clause-ok c =
 
 pub returns-clause-keeps : goal.returns-clause-keeps
 returns-clause-keeps c =
-    subst (λ (z : Laid). Keeps z.pieces c.put_header.new.self.pieces) c.self.view_is
+    subst (λ (z : PieceList). Keeps z.pieces c.put_header.new.self.pieces) c.self.view_is
     (keeps_then _ _ _ (keeps_settled c.self.inside.pieces.pieces c.copy.new.self.pieces c.self.inside.from c.self.inside.to c.in_ok-copy.ensures.grows.keeps c.in_ok-copy.ensures.copied) c.in_ok-put_header.ensures.keeps)
 
 pub returns-clause-made : goal.returns-clause-made
 returns-clause-made c =
     c.in_ok-put_header.ensures.made
-    ∙ ap (λ z. ChunkHeader ∷ z) (settled_parts c.self.inside.pieces.pieces c.copy.new.self.pieces c.args.self.pieces c.self.inside.from c.self.inside.to c.in_ok-copy.ensures.grows (ap (λ (z : Laid). z.pieces) c.self.view_is))
+    ∙ ap (λ z. ChunkHeader ∷ z) (settled_parts c.self.inside.pieces.pieces c.copy.new.self.pieces c.args.self.pieces c.self.inside.from c.self.inside.to c.in_ok-copy.ensures.grows (ap (λ (z : PieceList). z.pieces) c.self.view_is))

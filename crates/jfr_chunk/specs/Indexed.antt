@@ -34,18 +34,18 @@ abbrev pub event_with : ℕ → Framed → EventAt
 event_with end r = record { record_of = r; node = node_at (inline r.type_id) r.body end }
 
 -- The event of an index entry.
-abbrev pub event_kept : List Framed → BTreeMap ℕ ℕ → EventIndexEntry → Option EventAt
-event_kept rs early f = option_map (λ r. event_with (end_in early f.record r) r) (slice_get rs f.record)
+abbrev pub indexed_event : List Framed → BTreeMap ℕ ℕ → EventIndexEntry → Option EventAt
+indexed_event rs early f = option_map (λ r. event_with (end_in early f.record r) r) (slice_get rs f.record)
 
 -- The numbers of the entries in force to which the event of an index entry refers.
-abbrev pub due : List EntryAt → Classes → List ℕ → List Framed → BTreeMap ℕ ℕ → EventIndexEntry → List ℕ
-due es k c rs early f = option_map_or (λ e. node_entries es k c e.node) (event_kept rs early f) []
+abbrev pub indexed_refs : List EntryAt → Classes → List ℕ → List Framed → BTreeMap ℕ ℕ → EventIndexEntry → List ℕ
+indexed_refs es k c rs early f = option_map_or (λ e. node_entries es k c e.node) (indexed_event rs early f) []
 
 -- The list holds the entry numbers of all events, event after event. Each event's `refs_end` is where its range
 -- in the list ends, and the first range starts at `from`.
 abbrev pub AreRefs : (EventIndexEntry → List ℕ) → ℕ → List EventIndexEntry → List ℕ → Type 0
-AreRefs due from [] numbers = numbers ≡ []
-AreRefs due from (f ∷ fs) numbers = (rest : List ℕ) × (numbers ≡ due f ++ rest) × (f.refs_end ≡ from + length (due f)) × AreRefs due f.refs_end fs rest
+AreRefs indexed_refs from [] numbers = numbers ≡ []
+AreRefs indexed_refs from (f ∷ fs) numbers = (rest : List ℕ) × (numbers ≡ indexed_refs f ++ rest) × (f.refs_end ≡ from + length (indexed_refs f)) × AreRefs indexed_refs f.refs_end fs rest
 
 -- The event of one of these index entries is of the class with this id.
 abbrev pub used_in : List Framed → List EventIndexEntry → ℕ → Bool
@@ -58,8 +58,8 @@ pub record IsIndexed (p : Parts) (header : Header) (metadata : Framed) (index : 
   pub parts : AreParts p
   pub header_is : header ≡ header_of (take 68 p.bytes)
   pub metadata_there : StartsAt p.records (metadata_at p.bytes) 0 metadata
-  pub events : map (event_kept p.records index.early) index.fields.items ≡ map Some (events_of p)
-  pub refs_end : AreRefs (due p.entries p.classes p.bytes p.records index.early) 0 index.fields.items index.numbers.items
+  pub events : map (indexed_event p.records index.early) index.fields.items ≡ map Some (events_of p)
+  pub refs_end : AreRefs (indexed_refs p.entries p.classes p.bytes p.records index.early) 0 index.fields.items index.numbers.items
   pub used : (id : ℕ) → is_in index.used.ids id ≡ used_in p.records index.fields.items id
 
 -- The parts, with the chained checkpoints in the order of the file.

@@ -2,7 +2,7 @@ use Rattle.std.proofs.Common.{◌≡◌, sym, ap, ◌∙◌, arith}
 use Rattle.std.proofs.lemmas.List.{get_or_read}
 use Rattle.jfr_pool.specs.Index.{number_in, number_at, slot_at}
 use Rattle.jfr_pool.proofs.Seats.{seat_none, seat_past}
-use Rattle.jfr_pool.proofs.index.Index.number_past.Goals as goal
+use Rattle.jfr_pool.proofs.index.Index.number_beyond_home.Goals as goal
 
 pub returns-then-class-ge-CLASSES : goal.returns-then-class-ge-CLASSES
 returns-then-class-ge-CLASSES c =

@@ -6,13 +6,13 @@ use Rattle.jfr_chunk.specs.Reach.{remain}
 use Rattle.jfr_chunk.specs.Metas.{metadata_size, rebuilt}
 use Rattle.jfr_chunk.specs.Scrub.{scrub_of}
 use Rattle.jfr_scrub.specs.Bodies.{all_made}
-use Rattle.jfr_scrub.specs.Pieces.{EntryIsCopied, EventIsCopied, IsHeaded, Laid, MetadataIsCopied, joined, made_parts}
+use Rattle.jfr_scrub.specs.Pieces.{EntryIsCopied, EventIsCopied, IsHeaded, PieceList, MetadataIsCopied, joined, made_parts}
 
 -- The pieces, joined, are the chunk's output if these events are kept. Only the header, single integers and a
 -- metadata record that is built anew are made, in the order of `kinds`. Each kept event, each entry that
 -- remains, and a metadata record that isn't built anew is in one copied piece. The counts are those of the
 -- kept events and of the entries that remain.
-pub record LaysOut (p : Parts) (kept : List EventAt) (laid : Laid) (event_count entry_count : ℕ) : Type 0 where
+pub record IsLaidOut (p : Parts) (kept : List EventAt) (laid : PieceList) (event_count entry_count : ℕ) : Type 0 where
   pub becomes : joined laid ≡ scrub_of p kept
   pub of_chunk : laid.chunk ≡ p.bytes
   pub made : IsHeaded laid

@@ -1,6 +1,6 @@
 use Rattle.std.proofs.Common.{sym, ◌∙◌}
 use Rattle.jfr_pool.proofs.Seats.{seat_none, seat_start}
-use Rattle.jfr_pool.proofs.index.Index.seat.Goals as goal
+use Rattle.jfr_pool.proofs.index.Index.open_slot.Goals as goal
 
 pub returns-then-class-ge-CLASSES-clause-exact : goal.returns-then-class-ge-CLASSES-clause-exact
 returns-then-class-ge-CLASSES-clause-exact c = sym (seat_none c.args.self.now.slots.items (c.args.class, c.args.key) c.if-class-ge-CLASSES.true)
