@@ -65,7 +65,7 @@ fn flaw_place(
 
 /// The flaw at the element that describes the faulty class or field; `Memory` if memory ran out.
 fn placed(alloc: Global, strings: &Words, elements: &[&Element], fault: ClassFault) -> ReadFault
-    requires { classes.TellsFirst (classes.class_faults (classes_of strings.now (map (λ e. e.now) elements.now))) fault }
+    requires { classes.IsFirstFlaw (classes.class_faults (classes_of strings.now (map (λ e. e.now) elements.now))) fault }
     ensures { IsFirstFlaw (list_flaws strings.now (map (λ e. e.now) elements.now)) result }
 {
     match fault {
