@@ -13,8 +13,8 @@ use Rattle.jfr_chunk.specs.Reach.{remain}
 use Rattle.jfr_chunk.specs.Metas.{rebuilt}
 use Rattle.jfr_chunk.specs.Written.{Group, by_pool, distance, checkpoint_bytes}
 
--- What is written for a record: all its bytes; for a chained checkpoint, those of its pools that have
--- remaining entries; or, for the metadata record, a rebuilt one. Checkpoints are numbered in file order.
+-- What is written for a record: all its bytes; for a chained checkpoint, a new one with its remaining
+-- entries; or, for the metadata record, a rebuilt one. Checkpoints are numbered in file order.
 pub data OutputRecord : Type 0 where
   Whole : (frame : Framed) → OutputRecord
   Chained : (number : ℕ) (link : Link) → OutputRecord
@@ -66,7 +66,7 @@ bytes_of c remaining (Chained number l) at older = checkpoint_bytes c l (distanc
 abbrev pub written_bytes : List ℕ → List EntryAt → Written → List ℕ
 written_bytes c remaining w = bytes_of c remaining w.output_record w.at w.older
 
--- The offset of the last checkpoint in the output, after this output record.
+-- The offset of the last checkpoint in the output once this output record is written.
 abbrev pub older_after : OutputRecord → ℕ → Option ℕ → Option ℕ
 older_after (Whole r) at older = older
 older_after (Rebuilt r x) at older = older

@@ -120,7 +120,8 @@ fn emptied(list: Vec<EventIndexEntry>, count: usize) -> Result<Vec<EventIndexEnt
     Ok(emptied)
 }
 
-/// Keeps where the fields of an event end, by the number of its record. This is rare, so it isn't inlined.
+/// Adds where an event's fields end, under the number of its record. It is called only if they end before the
+/// record does. This is rare, so it isn't inlined.
 #[cold]
 #[inline(never)]
 fn add_early(early: &mut BTreeMap<u32, u32>, number: u32, end: u32) -> Result<(), NoMemory>

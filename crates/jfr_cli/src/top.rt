@@ -1,4 +1,4 @@
-//! The top call.
+//! The top call: the whole program, over a place and two sinks.
 ghost use Rattle.std.specs.Prelude.{◌≡◌, ◌≢◌, ◌<◌, ◌≤◌, ◌⊎◌, ℕ, List, None, Some, Ok, IfSome, true, false};
 ghost use Rattle.jfr_outside.specs.Counts.{Rose};
 ghost use Rattle.jfr_outside.specs.World.{IfKnown};
@@ -61,9 +61,9 @@ pub fn run<P: Place, O: Sink, E: Sink>(
     ensures usage_only { order_of words.now ≡ None → (result ≡ 1) ⊎ (result ≡ 5) }
     ensures untouched { order_of words.now ≡ None → (P.state place.new ≡ P.state place.old) × (O.state out.new ≡ O.state out.old) }
 
-    // With 0 or 2 the output of a scrub holds the scrub of each chunk before the first refused one: a chunk
-    // that is accepted again, with exactly the events that the filter keeps and exactly the constants that
-    // they reach, and of the same meaning. `each` says this of the scrub of every accepted chunk, whatever
+    // With status 0 or 2 the output of a scrub holds the scrub of each chunk before the first refused one.
+    // Each scrub is accepted again, has exactly the events that the filter keeps and exactly the constants
+    // that they reach, and means the same. `each` says this of the scrub of every accepted chunk, whatever
     // the status is.
     ensures headline { (result ≡ 0) ⊎ (result ≡ 2) → (g : Given) (input output : List ℕ) → order_of words.now ≡ Some (orders.Scrub g false input output)
         → IfKnown (P.state place.old).contents (P.state place.new).contents (Scrubs g (file_name input) (file_name output)) }
@@ -78,9 +78,9 @@ pub fn run<P: Place, O: Sink, E: Sink>(
     // With the receipt of an accepted chunk, the chunk and its scrub pass the checks.
     ensures each_receipt { (g : Given) (c : List ℕ) → Whole c → refusal_of c ≡ None → IsReceipted g c (scrub_receipt g c) }
 
-    // With 0 a check found that each chunk of the output, whoever made it, means the same as the chunk of the
-    // input with this number, reduced to the events that the filter keeps. If no call fails and memory doesn't
-    // run out, a check finds this of every scrub with its own receipts.
+    // With 0, `verify` found that each chunk of the output, whoever made it, means the same as the chunk of
+    // the input with the same number, reduced to the events that the filter keeps. If no call fails and
+    // memory doesn't run out, `verify` finds this of every scrub with its own receipts.
     ensures verified { result ≡ 0 → (g : Given) (input output receipt : List ℕ) → order_of words.now ≡ Some (orders.Verify g input output receipt)
         → IfSome (P.state place.old).contents (λ w. (count : ℕ) × AllVerified g (three (file_name input) (file_name output) (file_name receipt) w) count) }
     ensures scrubs_verified { (g : Given) (input output receipt : List ℕ) → order_of words.now ≡ Some (orders.Verify g input output receipt)

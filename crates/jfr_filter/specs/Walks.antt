@@ -5,9 +5,9 @@ use Rattle.jfr_filter.specs.declared.pattern.Walk.{Walk}
 use Rattle.jfr_filter.specs.declared.pattern.Walk.TheVariants.{Whole, Fails, Star}
 use Rattle.jfr_filter.specs.Patterns.{glob, some_suffix}
 
--- The pattern matches the whole text, or it doesn't. Or a star was reached: then the pattern matches the text
--- exactly if the pattern after the star matches some suffix of the rest of the text; and the pattern matches
--- some suffix of the text exactly if that holds.
+-- The pattern matches the whole text, or it doesn't. Or a star was reached: then these are equal: whether the
+-- pattern matches the text, whether it matches some suffix of the text, and whether the pattern after the
+-- star matches some suffix of the rest of the text.
 abbrev pub Goes : List ℕ → List ℕ → Walk → Type 0
 Goes pattern text Whole = glob pattern text ≡ true
 Goes pattern text Fails = glob pattern text ≡ false

@@ -89,8 +89,8 @@ fn framed_at(chunk: &[u8], at: usize) -> Option<Framed>
     }
 }
 
-/// A record whose size and type are spelled in any number of bytes. The result of the call out of line is
-/// unpacked in a function of its own, so that the fast path's result stays in registers.
+/// The record at the offset `at`, if there is one; its size and type may have any number of bytes. This only
+/// unpacks the result of a call that isn't inlined, so that the fast path's result stays in registers.
 #[inline(always)]
 fn unusual_at(chunk: &[u8], at: usize) -> Option<Framed>
     requires { at < length chunk.now }

@@ -90,8 +90,8 @@ impl ChunkCutter {
         self.live
     }
 
-    /// The bytes of the last chunk while the cutter is open; empty before the first chunk. After any other
-    /// answer they are unspecified.
+    /// The bytes of the last chunk while the cutter is open; empty before the first chunk. After any answer
+    /// but a chunk they are unspecified.
     pub fn bytes(&self) -> &[u8]
         ensures { result.now ≡ self.now.bytes }
     {
@@ -151,7 +151,7 @@ impl ChunkCutter {
     pub fn next<P: Place>(&mut self, place: &mut P) -> Cut
         requires { self.old.live ≡ true }
 
-        // What each answer says about the cutter, and about a place whose content contracts see.
+        // What each answer says about the cutter, and about a place with known contents.
         ensures cut { CutOf result self.old self.new }
         ensures contents { IfContentsKnown (P.state place.old) (P.state place.new) (NextOf result self.old self.new) }
 

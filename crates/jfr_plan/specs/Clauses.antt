@@ -1,4 +1,4 @@
--- What a call promises of each of its answers.
+-- What a call promises for each of its answers.
 use Rattle.std.specs.Prelude.{◌≡◌, ◌≢◌, ◌<◌, ℕ, Bool, List, [], Option, None, Some, IsTrue, IsSome, IfSome}
 use Rattle.jfr_base.specs.declared.flaw.Refusal.{Refusal}
 use Rattle.jfr_outside.specs.World.{World, State, IfKnown, file}
@@ -10,7 +10,7 @@ use Rattle.jfr_plan.specs.Effects.{Outside, Plan, Snapshot, snapshot, effects}
 use Rattle.jfr_plan.specs.Rules.{Rule, Target, File, Parts, Text, plan_in}
 use Rattle.jfr_plan.specs.Outcomes.{Outcome, AllDone, SomeDone, Breaks, HaltedIn, Tallied}
 
--- What a call has to do: its plan, given the files of the place; what is there after a read fault, on a steady
+-- What a call has to do: its plan, given the files of the place; the state after a read fault, on a steady
 -- place or on another; when all of its input can be read; and what it writes to.
 pub record Task : Type 1 where
   pub plan : World → Plan
@@ -46,15 +46,15 @@ IsAfterTask k ended a b = IfFilesKnown a b (λ w v. Outcome a.place.steady (k.pl
 abbrev pub Ended : Task → End → Outside → Outside → Type 0
 Ended k e a b = IfFilesKnown a b (λ w v. AllDone (k.plan w) e)
 
--- A read failed: over one input exactly the effects are done whose need is met.
+-- A read failed: over one input exactly the effects whose need is met are done.
 abbrev pub Halted : Task → Outside → Outside → Type 0
 Halted k a b = IfFilesKnown a b (k.Halts a.place.steady)
 
--- The first effects are done, and of the next one, which failed, a prefix of its bytes.
+-- A prefix of the effects is done, and a prefix of the bytes of the next one, which failed.
 abbrev pub Broken : Task → Outside → Outside → Type 0
 Broken k a b = IfFilesKnown a b (λ w v. Breaks a.place.steady (effects (k.plan w).steps))
 
--- The first effects are done.
+-- A prefix of the effects is done.
 abbrev pub Partly : Task → Outside → Outside → Type 0
 Partly k a b = IfFilesKnown a b (λ w v. SomeDone (effects (k.plan w).steps))
 
@@ -79,10 +79,10 @@ IsComplete k ended a b =
 
 -- What a call that carries out a task promises, by its answer.
 pub record Ran (task : Task) (result : Ending) (before after : Outside) : Type 0 where
-  -- What is there after the call, and which counts rose, by the answer.
+  -- The state after the call, and which counts rose, by the answer.
   pub contents : IsAfterTask task (command_end result) before after
   pub counts : Tallied task.target (command_end result) before after
-  -- What is there after each answer, if the place's files are known.
+  -- The state after each answer, if the place's files are known.
   pub done : result ≡ ending.Done → Ended task Fine before after
   pub refused : (r : Refusal) → result ≡ ending.Refused r → Ended task (Refused r) before after
   pub halted : result ≡ ending.ReadFault → Halted task before after

@@ -1,4 +1,4 @@
--- What a command does outside, step by step.
+-- What a command does to files and to the output sink, step by step.
 use Rattle.std.specs.Prelude.{◌≡◌, ℕ, Bool, true, false, nat_le, List, [], ◌∷◌, take, map, Option, None, Some, option_map, IsSome, is_some, not, ◌&&◌}
 use Rattle.jfr_outside.specs.World.{World, State, SinkState, Files, added, grown}
 use Rattle.jfr_plan.specs.Ends.{End}
@@ -71,8 +71,8 @@ Cannot (Append bytes) s = s.output ≡ None
 Cannot Finish s = s.output ≡ None
 Cannot (Write bytes) s = Unit {0}
 
--- What must have happened before an effect: nothing, the opening of the input, the reading of its first n
--- chunks, or its end.
+-- What must have happened before an effect: nothing, the opening of the input, the reading of the first n
+-- chunks, those of earlier files included, or the reading of the input to its end.
 pub data Need : Type 0 where
   Nothing : Need
   Opened : Need

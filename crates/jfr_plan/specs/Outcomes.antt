@@ -15,14 +15,14 @@ pub record AllDone (plan : Plan) (e : End) (s t : Snapshot) : Type 0 where
   pub end : plan.end ≡ Some e
   pub holds : t ≡ done (effects plan.steps) s
 
--- The first of these effects are done.
+-- A prefix of these effects is done.
 pub record SomeDone (all : List Effect) (s t : Snapshot) : Type 0 where
   pub first : List Effect
   pub rest : List Effect
   pub parts : all ≡ first ++ rest
   pub holds : t ≡ done first s
 
--- The first of these effects are done, and the next one failed after a number of its bytes. On a steady place
+-- A prefix of these effects is done, and the next one failed after a number of its bytes. On a steady place
 -- there was a cause.
 pub record Breaks (steady : Bool) (all : List Effect) (s t : Snapshot) : Type 0 where
   pub first : List Effect
@@ -52,12 +52,13 @@ held earlier x taken = take (held_count earlier x taken) (cut_after earlier x).c
 abbrev pub met_effects : Rule → List (List ℕ) → List ℕ → List ℕ → List Effect
 met_effects r earlier x taken = effects (keep_met (Some (length earlier + held_count earlier x taken)) (plan_after r earlier (Some x)).steps)
 
--- If a chunk is refused for its header, n is less than the length of the chunks before it and a header.
+-- If a chunk is refused for its header, n is less than the length of the chunks before it plus that of a
+-- header.
 abbrev pub IsBelowHeader : Cuts → ℕ → Flaw → Type 0
 IsBelowHeader cuts n flaw = is_header flaw.reason ≡ true → n < length (joined cuts.chunks) + 68
 
 -- The state after a read fault with the input open. The bytes `taken` are those that were read. An effect is
--- done exactly if the whole chunks in these bytes meet its need, and the command did not end at any of these
+-- done exactly if the whole chunks in these bytes meet its need. The command did not end at any of these
 -- chunks. After them fewer bytes were taken than the next chunk has, and fewer than 68 bytes of a chunk that
 -- is refused for its header.
 pub record NeedsMet (r : Rule) (earlier : List (List ℕ)) (x left : List ℕ) (s t : Snapshot) : Type 0 where
@@ -95,7 +96,7 @@ After r earlier input ended a b = IfKnown a.place.contents b.place.contents (Out
 abbrev pub Unchanged : ℕ → ℕ → Type 0
 Unchanged before now = now ≡ before
 
--- The count rose, and isn't smaller.
+-- The count is larger, or is saturated and isn't smaller.
 abbrev pub Rises : ℕ → ℕ → Type 0
 Rises before now = (before ≤ now) × Rose before now
 

@@ -6,7 +6,8 @@ use Rattle.jfr_header.specs.Cuts.{Cuts, cut, joined}
 use Rattle.jfr_plan.specs.Ends.{End, Fine, refused}
 use Rattle.jfr_plan.specs.Effects.{Effect, Step, needing, Opened, Chunks, AtEnd, Plan}
 
--- What a part of a command has to do: end the command, or carry out these effects.
+-- What a part of a command (its opening, a chunk or its end) has to do: end the command, or carry out these
+-- effects.
 pub data Asked : Type 0 where
   Stops : End → Asked
   Goes : List Effect → Asked
@@ -17,8 +18,8 @@ pub data Target : Type 0 where
   Parts : Target
   Text : Target
 
--- The rule of a command over an input: what it does when the input is open, for a chunk after the chunks
--- before it, and at the input's end.
+-- The rule of a command over an input: what it does when the input is open, for a chunk, given the chunks
+-- before it, and at the input's end, given all chunks.
 pub record Rule : Type 0 where
   pub opens : List Effect
   pub asks : List (List ℕ) → List ℕ → Asked

@@ -31,7 +31,7 @@ pub(crate) struct PoolId {
     pub number: usize,
 }
 
-/// Adds the entries of the checkpoint with this number to others, and returns where its body ends.
+/// Adds the entries of the checkpoint with this number to `entries`, and returns where its body ends.
 pub(crate) fn read_checkpoint(
     chunk: &[u8],
     classes: &Classes,

@@ -1,4 +1,4 @@
-// Putting the entries to which values refer into a worklist.
+//! Putting the entries to which values refer into a worklist.
 use crate::Pools;
 use jfr_value::Visit;
 use jfr_worklist::Worklist;

@@ -17,7 +17,7 @@ use std::mem;
 ///
 /// The calls return `Err` only for a write fault or if memory runs out.
 pub(crate) trait Report: Drop {
-    // The texts of the chunk with a number, and the texts at the end, after these chunks.
+    // The texts of a chunk, given its number; and the texts at the end, given all chunks.
     ghost texts: { Self → ℕ → Parts → List (List ℕ) };
 
     ghost last: { Self → List Parts → List (List ℕ) };

@@ -1,4 +1,4 @@
-//! The stream that scrubs a recording.
+//! The command that scrubs a recording.
 ghost use Rattle.std.specs.Prelude.{◌≡◌, ◌≢◌, ℕ, List, None};
 ghost use Rattle.jfr_plan.specs.Effects.{without_sink};
 ghost use Rattle.jfr_plan.specs.Clauses.{over, Ran, CanCreate};
@@ -66,10 +66,10 @@ pub fn scrub_stream<P: Place>(
     output: &str,
     filter: &Filter,
 ) -> Ending
-    // The output holds the scrub of each chunk before the first refused one: a recording that is cut into
-    // exactly these chunks. Each is accepted again, has exactly the events that the filter keeps and exactly
-    // the constants that they reach, and means the same. `each` says this of the scrub of
-    // every accepted chunk, whatever the result is.
+    // After Done or Refused, the output is cut into exactly these chunks: the scrub of each chunk before the
+    // first refused one. Each scrub is accepted again, has exactly the events that the filter keeps and
+    // exactly the constants that they reach, and means the same. `each` says this of the scrub of every
+    // accepted chunk, whatever the result is.
     ensures headline { IsByPlan result → IfKnown (P.state place.old).contents (P.state place.new).contents (Scrubs filter.now input.now output.now) }
     ensures each { (c : List ℕ) → Whole c → refusal_of c ≡ None → IsScrubbed filter.now c (scrubbed filter.now c) }
 

@@ -66,7 +66,7 @@ no_tally = record { events = 0; bytes = 0 }
 abbrev pub both : Tally → Tally → Tally
 both s t = record { events = s.events + t.events; bytes = s.bytes + t.bytes }
 
--- The tally of a name after another is added. An empty tally adds nothing.
+-- The tally of a name after this tally is added to it. An empty tally adds nothing.
 abbrev pub added : Option Tally → Tally → Option Tally
 added kept t = if t.events == 0 then kept else Some (both (unwrap_or kept no_tally) t)
 

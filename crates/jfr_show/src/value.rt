@@ -210,7 +210,7 @@ fn show_reference(
     Ok(())
 }
 
-/// Adds the text of the reference to a class and a key, without a look into the cache for this reference.
+/// Adds the text of the reference to a class and a key. Doesn't look up this reference in the cache.
 #[cycle(show)]
 fn show_constant(
     view: &View<'_, '_>,

@@ -1,4 +1,4 @@
-// What holds of cutting and joining.
+//! What holds of cutting and joining.
 ghost use Rattle.std.specs.Prelude.{◌≡◌, ◌↔◌, Some};
 ghost use Rattle.std.specs.FinMap.{empty, values};
 ghost use Rattle.jfr_outside.specs.World.{Files};

@@ -1,4 +1,4 @@
-// The command that cuts a recording into parts.
+//! The command that cuts a recording into parts.
 ghost use Rattle.std.specs.Prelude.{◌≡◌, ◌≢◌};
 ghost use Rattle.jfr_plan.specs.Ends.{TooMany};
 ghost use Rattle.jfr_plan.specs.Effects.{without_sink};
@@ -54,8 +54,8 @@ impl Stage for Splitting<'_> {
 }
 
 /// Cuts a recording into parts: opens the file, and writes each chunk that was read whole to its part,
-/// which the part's first chunk creates. The part before is finished then, and the last one at the
-/// recording's end. A chunk that would begin one part more than there may be ends the command.
+/// which the part's first chunk creates. The previous part is finished then, and the last one at the
+/// recording's end. A chunk that would begin one part more than the rule allows ends the command.
 pub fn disassemble<P: Place>(alloc: Global, place: &mut P, file: &str, rule: &SplitRule) -> Ending
     requires { IsUsable rule.now }
 

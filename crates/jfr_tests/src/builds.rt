@@ -1,4 +1,4 @@
-// Recordings that are built of texts.
+//! Recordings that are built of texts.
 use crate::runs::says;
 use jfr_outside::MemoryPlace;
 use std::alloc::Global;

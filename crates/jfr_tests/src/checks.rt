@@ -1,4 +1,4 @@
-// Receipts and their checks, and scrubs with new keys.
+//! Receipts and their checks, and scrubs with new keys.
 use crate::runs::{says, words};
 use jfr_cli::run;
 use jfr_fixtures::{CLASSES_OF_B, PLAIN, RINGS, with_classes, with_metadata};

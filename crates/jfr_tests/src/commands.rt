@@ -1,4 +1,4 @@
-// The commands that write text, and the sample.
+//! The commands that write text, and the sample.
 ghost use Rattle.std.specs.Prelude.{◌≤◌};
 
 use crate::runs::{says, words};

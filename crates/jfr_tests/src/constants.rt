@@ -1,4 +1,4 @@
-// Scrubs of chunks with constants.
+//! Scrubs of chunks with constants.
 use crate::runs::{run_over_places, scrub};
 use jfr_fixtures::{
     BYTES_LEFT, CLASSES, CLASSES_OF_A, NO_NODES, RINGS, STRINGS, STRINGS_SCRUBBED, THREE,

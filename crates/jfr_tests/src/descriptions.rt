@@ -1,4 +1,4 @@
-// Which descriptions of classes stay.
+//! Which descriptions of classes stay.
 use crate::runs::words;
 use jfr_cli::run;
 use jfr_fixtures::{JDK_LIKE, NO_POOLS, chunk_of};

@@ -1,4 +1,4 @@
-// Scrubs with filters.
+//! Scrubs with filters.
 use crate::runs::run_over_places;
 use jfr_fixtures::{
     BYTES_LEFT, CLASSES_OF_A, CLASSES_OF_B, ENTER_AND_LOAD_CLASSES, ENTER_CLASSES, JDK_LIKE,

@@ -1,4 +1,4 @@
-// The commands that split and join.
+//! The commands that split and join.
 use crate::runs::says;
 use jfr_fixtures::PLAIN;
 use jfr_outside::{Call, MemoryPlace, Place};

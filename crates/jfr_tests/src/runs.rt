@@ -1,4 +1,4 @@
-// Runs of the top call.
+//! Runs of the top call.
 ghost use Rattle.std.specs.Prelude.{◌≤◌};
 
 use jfr_cli::run;

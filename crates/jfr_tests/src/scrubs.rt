@@ -1,4 +1,4 @@
-// Scrubs of the plain chunk.
+//! Scrubs of the plain chunk.
 use crate::runs::{run_over_places, scrub, words};
 use jfr_cli::run;
 use jfr_fixtures::{NO_CLASSES, NO_POOLS, PLAIN, inert, plain_with};

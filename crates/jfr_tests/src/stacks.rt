@@ -1,4 +1,4 @@
-// The folded stacks that `stacks` writes.
+//! The folded stacks that `stacks` writes.
 use crate::runs::says;
 use jfr_fixtures::{JDK_LIKE, PLAIN, RINGS, with_classes};
 use jfr_outside::MemoryPlace;

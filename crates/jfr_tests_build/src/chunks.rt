@@ -1,4 +1,4 @@
-// Texts that are built, with the length of the chunk and the bytes at its end: the events and the checkpoint.
+//! Texts that are built, with the length of the chunk and the bytes at its end: the events and the checkpoint.
 use jfr_build::build;
 use std::alloc::Global;
 use std::process::Abort;

@@ -1,4 +1,4 @@
-// Texts that are refused, with the line and the reason.
+//! Texts that are refused, with the line and the reason.
 use jfr_base::Reason;
 use jfr_build::{BuildFault, BuildReason, build};
 

@@ -1,4 +1,4 @@
-// Which events the options of a filter keep.
+//! Which events the options of a filter keep.
 use crate::reading::read;
 use jfr_chunk::{Chunk, Kept};
 use jfr_filter::{Filter, Side};

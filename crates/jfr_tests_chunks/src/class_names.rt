@@ -1,4 +1,4 @@
-// Which strings of the metadata's table name the classes.
+//! Which strings of the metadata's table name the classes.
 use crate::reading::read;
 use jfr_chunk::Chunk;
 use jfr_fixtures::JDK_LIKE;

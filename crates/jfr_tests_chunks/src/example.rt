@@ -1,4 +1,4 @@
-// Fields of constants, from events.
+//! Fields of constants, from events.
 use crate::reading::read;
 use jfr_chunk::Chunk;
 use jfr_example::constant_field;

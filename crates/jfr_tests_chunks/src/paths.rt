@@ -1,4 +1,4 @@
-// Where paths and names lead.
+//! Where paths and names lead.
 use crate::reading::read;
 use jfr_chunk::Chunk;
 use jfr_fixtures::{KEYS, RINGS, STRINGS, with_classes};

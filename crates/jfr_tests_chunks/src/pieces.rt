@@ -1,4 +1,4 @@
-// What a chunk becomes, piece by piece.
+//! What a chunk becomes, piece by piece.
 use crate::reading::{chained, read};
 use jfr_chunk::Chunk;
 use jfr_filter::{Filter, Side};

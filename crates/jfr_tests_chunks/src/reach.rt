@@ -1,4 +1,4 @@
-// What kept events reach.
+//! What kept events reach.
 ghost use Rattle.std.specs.Prelude.{◌≡◌, ◌<◌, length, IfOk};
 ghost use Rattle.jfr_chunk.specs.Parts.{events_of};
 

@@ -1,4 +1,4 @@
-// Small chunks, and edits of them. Places count from the chunk's first byte.
+//! Small chunks, and edits of them. Places count from the chunk's first byte.
 use jfr_base::{Flaw, ReadFault, Reason};
 use jfr_chunk::Chunk;
 use jfr_fixtures::{

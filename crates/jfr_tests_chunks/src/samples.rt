@@ -1,4 +1,4 @@
-// Samples, read as chunks.
+//! Samples, read as chunks.
 use jfr_chunk::Chunk;
 use jfr_sample::sample;
 use std::process::Abort;

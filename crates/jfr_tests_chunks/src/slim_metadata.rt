@@ -1,4 +1,4 @@
-// The metadata record without event classes that aren't used.
+//! The metadata record without event classes that aren't used.
 use crate::reading::read;
 use jfr_chunk::Chunk;
 use jfr_fixtures::{CLASSES_OF_A, CLASSES_OF_B, NO_EVENT_CLASSES, RINGS, with_classes};

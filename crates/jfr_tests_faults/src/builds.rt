@@ -1,4 +1,4 @@
-// Each call of a build fails in turn.
+//! Each call of a build fails in turn.
 use jfr_cli::run;
 use jfr_outside::{Call, MemoryPlace, MemorySink, Words};
 use std::alloc::Global;

@@ -1,4 +1,4 @@
-// Chunks with many checkpoints.
+//! Chunks with many checkpoints.
 use crate::scrub::see_scrub;
 use jfr_fixtures::{CLASSES, NO_EVENT_CLASSES, NO_POOLS, with_metadata};
 use std::alloc::{AllocError, Global};

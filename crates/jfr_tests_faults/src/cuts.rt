@@ -1,4 +1,4 @@
-// Recordings that end anywhere in their first chunk.
+//! Recordings that end anywhere in their first chunk.
 use crate::scrub::see_scrub;
 use jfr_fixtures::{JDK_LIKE, PLAIN};
 use std::alloc::Global;

@@ -1,4 +1,4 @@
-// Classes that hold one another.
+//! Classes that hold one another.
 use crate::scrub::see_scrub;
 use jfr_fixtures::{NO_POOLS, plain_with};
 use std::alloc::{AllocError, Global};

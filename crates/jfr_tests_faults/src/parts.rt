@@ -1,5 +1,5 @@
-// A recording with one chunk more than `disassemble` may make parts of, over a place of whose contents a contract
-// knows nothing.
+//! A recording with one chunk more than `disassemble` may make parts of, over a place of whose contents a contract
+//! knows nothing.
 use jfr_cli::run;
 use jfr_fixtures::PLAIN;
 use jfr_outside::{Fault, MemorySink, Place, Words};

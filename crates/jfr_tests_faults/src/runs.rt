@@ -1,4 +1,4 @@
-// Runs of a command over a place in memory, and what they leave there.
+//! Runs of a command over a place in memory, and what they leave there.
 use jfr_cli::run;
 use jfr_fixtures::{RINGS, STRINGS, with_classes};
 use jfr_outside::{Call, MemoryPlace, MemorySink, Place, Words};

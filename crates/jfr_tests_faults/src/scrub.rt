@@ -1,4 +1,4 @@
-// Scrubs over a place in memory.
+//! Scrubs over a place in memory.
 use jfr_cli::run;
 use jfr_outside::{MemoryPlace, MemorySink, Words};
 use std::alloc::Global;

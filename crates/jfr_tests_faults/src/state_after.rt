@@ -1,4 +1,4 @@
-// What is left after a call that failed.
+//! What is left after a call that failed.
 use crate::runs::{Fault, OUTPUTS, Run, run_once};
 use std::alloc::Global;
 use std::test::Fail;

@@ -1,4 +1,4 @@
-// Each call of each command fails in turn, keeping nothing or ten bytes.
+//! Each call of each command fails in turn, keeping nothing or ten bytes.
 use crate::runs::{BOTH, FIRST, Fault, Run, run_once};
 use crate::state_after::{Command, Left, is_left, leaves_same};
 use jfr_outside::Call;

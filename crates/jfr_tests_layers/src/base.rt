@@ -1,4 +1,4 @@
-// Integers, read and written.
+//! Integers, read and written.
 use jfr_base::{Short, Var, read_var, signed, var_len, write_in, write_var};
 use std::process::Abort;
 

@@ -1,4 +1,4 @@
-// Patterns, lists and filters from outside.
+//! Patterns, lists and filters from outside.
 use jfr_filter::{Filter, FilterFault, Side, glob};
 use jfr_outside::{NoMemory, Words};
 use std::alloc::Global;

@@ -1,5 +1,5 @@
-// Metadata records with a byte edited, and trees of many levels. Places count from the record's
-// first byte.
+//! Metadata records with a byte edited, and trees of many levels. Places count from the record's
+//! first byte.
 use jfr_base::{Flaw, ReadFault, Reason};
 use jfr_fixtures::{CLASSES, NO_CLASSES};
 use jfr_frame::next_record;

@@ -1,4 +1,4 @@
-// Strings from outside: their bytes, and their texts or flaws.
+//! Strings from outside: their bytes, and their texts or flaws.
 use jfr_base::{Flaw, Reason};
 use jfr_outside::Text;
 use jfr_text::{read_string, same_text, short_units_end, text_of};

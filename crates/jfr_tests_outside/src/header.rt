@@ -1,4 +1,4 @@
-// Headers and cuts of the plain chunk, a chunk of 103 bytes.
+//! Headers and cuts of the plain chunk, a chunk of 103 bytes.
 use jfr_base::{Flaw, Reason, Refusal};
 use jfr_fixtures::PLAIN;
 use jfr_header::{ChunkCutter, Cut, Header, is_cut, read_header, write_header};

@@ -1,4 +1,4 @@
-// Places and sinks in memory, through their traits, and texts.
+//! Places and sinks in memory, through their traits, and texts.
 use jfr_outside::{
     Call, Fault, MemoryPlace, MemorySink, NoMemory, Place, Sink, SteadyPlace, SteadySink, Text,
     Words,

@@ -1,4 +1,4 @@
-// Streams over places in memory, with a command that copies each chunk.
+//! Streams over places in memory, with a command that copies each chunk.
 use jfr_base::{Flaw, ReadFault, Reason, Refusal};
 use jfr_fixtures::PLAIN;
 use jfr_header::Ending;

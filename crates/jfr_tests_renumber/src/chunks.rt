@@ -1,4 +1,4 @@
-// Chunks with new keys.
+//! Chunks with new keys.
 use jfr_base::ReadFault;
 use jfr_chunk::Chunk;
 use jfr_filter::{Filter, Side};

@@ -1,4 +1,4 @@
-// Recordings with new keys, over places in memory.
+//! Recordings with new keys, over places in memory.
 use jfr_base::{Reason, Refusal};
 use jfr_filter::Filter;
 use jfr_fixtures::{PLAIN, with_classes};

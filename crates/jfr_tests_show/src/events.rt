@@ -1,4 +1,4 @@
-// The texts of events.
+//! The texts of events.
 ghost use Rattle.std.specs.Prelude.{◌≤◌};
 
 use crate::kinds::kinds;

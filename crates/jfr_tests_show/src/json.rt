@@ -1,4 +1,4 @@
-// The lines of JSON of events.
+//! The lines of JSON of events.
 ghost use Rattle.std.specs.Prelude.{◌≤◌};
 
 use crate::events::read;

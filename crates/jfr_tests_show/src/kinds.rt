@@ -1,4 +1,4 @@
-// Chunks with values of each kind, and with long names.
+//! Chunks with values of each kind, and with long names.
 use jfr_fixtures::chunk_of;
 use std::alloc::{AllocError, Global};
 

@@ -1,4 +1,4 @@
-// The text of the metadata.
+//! The text of the metadata.
 use crate::events::read;
 use crate::kinds::kinds;
 use jfr_base::ReadFault;

@@ -1,4 +1,4 @@
-// The text of the totals.
+//! The text of the totals.
 use crate::events::read;
 use jfr_base::ReadFault;
 use jfr_fixtures::{CLASSES, RINGS, Times, chunk_at, inert, inert_at, with_classes, with_metadata};

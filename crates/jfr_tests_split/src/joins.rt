@@ -1,4 +1,4 @@
-// Files of a folder joined, over places in memory.
+//! Files of a folder joined, over places in memory.
 use crate::recordings::{chunk, recording};
 use jfr_base::{Reason, Refusal};
 use jfr_header::Ending;

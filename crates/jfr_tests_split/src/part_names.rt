@@ -1,4 +1,4 @@
-// The names of parts.
+//! The names of parts.
 use jfr_split::part_name;
 use std::test::Fail;
 

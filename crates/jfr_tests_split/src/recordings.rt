@@ -1,4 +1,4 @@
-// Recordings of plain chunks.
+//! Recordings of plain chunks.
 use jfr_fixtures::PLAIN;
 use std::alloc::{AllocError, Global};
 

@@ -1,4 +1,4 @@
-// Recordings cut into parts, over places in memory.
+//! Recordings cut into parts, over places in memory.
 use crate::recordings::recording;
 use jfr_base::{Reason, Refusal};
 use jfr_fixtures::PLAIN;

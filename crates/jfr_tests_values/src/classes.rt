@@ -1,4 +1,4 @@
-// Classes, made from lines.
+//! Classes, made from lines.
 use jfr_layout::{ClassFault, ClassInfo, ClassList, FieldInfo, Fields, Shape};
 use jfr_outside::{Text, Words};
 use std::alloc::Global;

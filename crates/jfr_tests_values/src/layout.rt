@@ -1,4 +1,4 @@
-// Lists of classes, made from lines.
+//! Lists of classes, made from lines.
 use crate::classes::{add, inline, items, reference};
 use jfr_base::Reason;
 use jfr_layout::{ClassFault, ClassList, Classes, FusedFields, FusedKind, Kind, Shape};

@@ -1,4 +1,4 @@
-// Chains and entries of small chunks: a header, and the records.
+//! Chains and entries of small chunks: a header, and the records.
 use crate::classes::{add, inline, reference};
 use jfr_base::{Flaw, ReadFault, Reason, write_var};
 use jfr_fixtures::{STRINGS, THREE, TWICE, chunk_of};

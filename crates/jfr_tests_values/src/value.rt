@@ -1,4 +1,4 @@
-// Values of classes that are made from lines.
+//! Values of classes that are made from lines.
 
 ghost use Rattle.std.specs.Prelude.{◌≡◌, ◌<◌, IfSome};
 ghost use Rattle.jfr_value.specs.Nodes.{IsValue};

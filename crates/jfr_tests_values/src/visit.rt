@@ -1,4 +1,4 @@
-// What values hand out.
+//! What values hand out.
 
 ghost use Rattle.std.specs.Prelude.{◌≡◌, ◌<◌};
 ghost use Rattle.jfr_value.specs.Nodes.{IsValue};

@@ -1,4 +1,4 @@
-// Answers of the checker. The input is the chunk of rings, of which the filter keeps the first event.
+//! Answers of the checker. The input is the chunk of rings, of which the filter keeps the first event.
 use crate::outputs::{ANOTHER_TEXT, BOTH_RINGS, FIRST_RING, NO_NODE, ONE_NODE, SWAPPED, read};
 use jfr_chunk::Chunk;
 use jfr_filter::{Filter, Side};

@@ -1,4 +1,4 @@
-// Files of chunks, and places that hold them.
+//! Files of chunks, and places that hold them.
 use crate::outputs::FIRST_RING;
 use jfr_fixtures::{CLASSES_OF_A, PLAIN, RINGS, with_classes, with_metadata};
 use jfr_outside::{Fault, NoMemory, Place, SteadyPlace, Words};

@@ -1,4 +1,4 @@
-// Outputs of the chunk of rings if only its first event is kept, right ones and wrong ones.
+//! Outputs of the chunk of rings if only its first event is kept, right ones and wrong ones.
 use jfr_base::ReadFault;
 use jfr_chunk::Chunk;
 use jfr_header::is_cut;

@@ -1,4 +1,4 @@
-// Receipts that are written.
+//! Receipts that are written.
 use crate::outputs::{ANOTHER_TEXT, FIRST_RING, NO_NODE, ONE_NODE, SWAPPED, read};
 use jfr_chunk::{Chunk, Kept};
 use jfr_fixtures::{

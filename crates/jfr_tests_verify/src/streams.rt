@@ -1,4 +1,4 @@
-// Verdicts on files. The filter keeps the first event of the chunk of rings.
+//! Verdicts on files. The filter keeps the first event of the chunk of rings.
 use crate::answers::only_first;
 use crate::files::{Piece, file_of, starved_after};
 use jfr_base::{Reason, Refusal};

@@ -1,4 +1,4 @@
-// Lines, and the orders that they give.
+//! Lines, and the orders that they give.
 use jfr_filter::{Filter, Side};
 use jfr_outside::Words;
 use jfr_words::{Order, read_words};
