@@ -1,10 +1,112 @@
-//! Fields of constants, from events.
+//! A whole program over a recording, and the examples of `jfr_example`.
+ghost use Rattle.jfr_header.specs.Fronts.{Whole};
+
+use crate::paths::words_of;
 use crate::reading::read;
+use jfr_base::{NoMemory, ReadFault, Words};
 use jfr_chunk::Chunk;
-use jfr_example::constant_field;
-use jfr_fixtures::{RINGS, with_classes};
+use jfr_example::{constant_field, texts_of};
+use jfr_fixtures::{JDK_LIKE, KEYS, RINGS, with_classes};
+use jfr_header::{ChunkCutter, Cut, Ending};
+use jfr_outside::{MemoryPlace, Place};
+use jfr_path::named;
+use std::alloc::{AllocError, Global};
 use std::process::Abort;
 use std::test::Fail;
+
+// The program, from a recording to the names of its threads. It can be copied as a start: `thread_names` reads the
+// recording from any place, here from one in memory (`jfr/src/file_place.rt` is one over files), and each function
+// calls the ones after it.
+
+// The Java names of the threads of a recording's events, in order. The recording is the place's open input.
+fn thread_names<P: Place>(alloc: Global, place: &mut P) -> Result<Words, Ending> {
+    let names = field_names(alloc)?;
+    let mut texts = Words::new(alloc);
+    let mut cutter = ChunkCutter::new(alloc, 0, 1);
+    'chunks: loop {
+        match cutter.next(place) {
+            Cut::Chunk => {}
+            Cut::End => return Ok(texts),
+            Cut::Refused(refusal) => return Err(Ending::Refused(refusal)),
+            Cut::Failed => return Err(Ending::ReadFault),
+            Cut::Memory => return Err(Ending::Memory),
+        }
+        match read_chunk(alloc, cutter.bytes(), &names, &mut texts) {
+            Ok(()) => {}
+            Err(fault) => return Err(Ending::of_chunk(cutter.number(), fault)),
+        }
+    }
+}
+
+// The names of the fields that lead from an event to the Java name of its thread.
+fn field_names(alloc: Global) -> Result<Words, NoMemory> {
+    let mut names = Words::new(alloc);
+    names.push("eventThread")?;
+    names.push("javaName")?;
+    Ok(names)
+}
+
+// Reads a chunk, and adds the texts of its events.
+fn read_chunk(
+    alloc: Global,
+    bytes: &[u8],
+    names: &Words,
+    texts: &mut Words,
+) -> Result<(), ReadFault>
+    requires { Whole bytes.now }
+{
+    let chunk = Chunk::read(alloc, bytes)?;
+    add_texts(alloc, &chunk, names, texts)?;
+    Ok(())
+}
+
+// Adds the text to which the names lead from each event that has one.
+fn add_texts(
+    alloc: Global,
+    chunk: &Chunk<'_>,
+    names: &Words,
+    texts: &mut Words,
+) -> Result<(), NoMemory> {
+    for number in 0..chunk.event_count() {
+        if let Some(event) = chunk.event(number) {
+            if let Some(text) = named(alloc, chunk, &event, names)? {
+                texts.push_text(text)?;
+            }
+        }
+    }
+    Ok(())
+}
+
+// A recording of two chunks, the same chunk twice.
+fn two_chunks(alloc: Global) -> Result<Vec<u8>, AllocError> {
+    let mut bytes = Vec::from_slice(alloc, JDK_LIKE.as_slice())?;
+    bytes.extend_from_slice(&JDK_LIKE)?;
+    Ok(bytes)
+}
+
+// The last of a chunk's three events has no thread.
+#[test]
+fn a_program_reads_names_of_threads(rt: HostRuntime) -> Result<(), Fail> {
+    let mut place = MemoryPlace::new(rt.alloc());
+    place.put("a.jfr", &two_chunks(rt.alloc())?)?;
+    place.open_input("a.jfr")?;
+    let texts = thread_names(rt.alloc(), &mut place)?;
+    compare_words(&rt, &texts, THREADS);
+    Ok(())
+}
+
+// The names of the threads of the two chunks.
+const THREADS: &[&str] = &["main", "worker-renamed", "main", "worker-renamed"];
+
+// Compares words with these.
+fn compare_words(rt: &impl Abort, words: &Words, expected: &[&str]) {
+    assert_eq!(rt; words.len(), expected.len());
+    for (number, word) in expected.iter().enumerate() {
+        assert_eq!(rt; words.get(number), Some(*word));
+    }
+}
+
+// Fields of constants, from events.
 
 // An event, its field, a field of the constant to which that refers, and the bytes that are found.
 type Row = (usize, usize, usize, Option<&'static [u8]>);
@@ -36,4 +138,44 @@ fn fields_of_constants_are_found(rt: HostRuntime) -> Result<(), Fail> {
         compare(&rt, &chunk, row);
     }
     Ok(())
+}
+
+// Texts of all events.
+
+// Compares the texts to which names lead from the events of the chunk with these records.
+fn compare_texts(
+    rt: &impl Abort,
+    alloc: Global,
+    records: &[u8],
+    names: &[&str],
+    expected: &[&str],
+) -> Result<(), Fail> {
+    let bytes = with_classes(alloc, records, 333)?;
+    let chunk = read(alloc, &bytes)?;
+    compare_texts_in(rt, alloc, &chunk, names, expected)
+}
+
+// Compares the texts to which names lead from the events of a chunk.
+fn compare_texts_in(
+    rt: &impl Abort,
+    alloc: Global,
+    chunk: &Chunk<'_>,
+    names: &[&str],
+    expected: &[&str],
+) -> Result<(), Fail> {
+    let words = words_of(alloc, names)?;
+    let texts = texts_of(alloc, chunk, &words)?;
+    compare_words(rt, &texts, expected);
+    Ok(())
+}
+
+// Events from which names lead to no text have none: a field that isn't there, and a string that is no text in
+// the end.
+#[test]
+fn texts_of_all_events_are_found(rt: HostRuntime) -> Result<(), Fail> {
+    let alloc = rt.alloc();
+    compare_texts(&rt, alloc, RINGS, &["node", "text"], &["p", "r"])?;
+    compare_texts(&rt, alloc, RINGS, &["node", "next", "text"], &["q", "s"])?;
+    compare_texts(&rt, alloc, RINGS, &["n"], &[])?;
+    compare_texts(&rt, alloc, KEYS, &["node", "text"], &["x"])
 }

@@ -129,8 +129,8 @@ fn push_names(words: &mut Words, names: &[&str]) -> Result<(), NoMemory> {
     Ok(())
 }
 
-// The words of these names.
-fn words_of(alloc: Global, names: &[&str]) -> Result<Words, NoMemory> {
+/// The words of these names.
+pub(crate) fn words_of(alloc: Global, names: &[&str]) -> Result<Words, NoMemory> {
     let mut words = Words::new(alloc);
     push_names(&mut words, names)?;
     Ok(words)
