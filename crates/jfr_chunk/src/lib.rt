@@ -6,7 +6,8 @@
 //!
 //! `Chunk::read` reads a chunk, and `Chunk::event` returns an event with the node of its fields. From there
 //! `child` of `jfr_value` leads to fields and items. `target`, `Chunk::pools` and `Chunk::entry_node` lead to
-//! the value of an entry. `jfr_example` is such a walk.
+//! the value of an entry. `constant_field` of `jfr_example` is such a walk, and its `texts_of` returns the texts
+//! to which names of fields lead from all events. `jfr_tests_chunks/src/example.rt` has a whole program to copy.
 #![tactic(auto)]
 
 mod buffers;
