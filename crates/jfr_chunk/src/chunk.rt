@@ -190,8 +190,8 @@ impl<'a> Chunk<'a> {
         &self.metadata.strings
     }
 
-    /// For each class, in order, the indices in the metadata's table of the strings that are its name and its
-    /// categories.
+    /// For each class, in order: its name and its categories, each as the index of a string in the
+    /// metadata's table.
     pub fn class_names(&self, alloc: Global) -> Result<Vec<ClassNames>, NoMemory>
         ensures ok { IfOk result (λ names. AllZip (IsNamedBy self.now.body.strings) self.now.classes names.items) }
     {

@@ -69,8 +69,8 @@ pub fn run<P: Place, O: Sink, E: Sink>(
         → IfKnown (P.state place.old).contents (P.state place.new).contents (Scrubs g (file_name input) (file_name output)) }
     ensures each { (g : Given) (c : List ℕ) → Whole c → refusal_of c ≡ None → IsScrubbed g c (scrubbed g c) }
 
-    // With `--renumber yes` the output means the same except for the keys of constants, and isn't longer: constants
-    // of a class with equal values are merged.
+    // With `--renumber yes` the output means the same except for the keys of constants. Equal constants of a
+    // class are merged. Each chunk isn't longer than its input chunk, or than its scrub without new keys.
     ensures renumbered { (result ≡ 0) ⊎ (result ≡ 2) → (g : Given) (input output : List ℕ) → order_of words.now ≡ Some (orders.Scrub g true input output)
         → IfKnown (P.state place.old).contents (P.state place.new).contents (Renumbers g (file_name input) (file_name output)) }
     ensures each_renumbered { (g : Given) (c : List ℕ) → Whole c → refusal_of c ≡ None → IsRenumberedOutput g c (renumbered g c) }
@@ -120,7 +120,8 @@ pub fn run<P: Place, O: Sink, E: Sink>(
     ensures one_count { CountsOnce (outside (P.state place.old) (O.state out.old)) (outside (P.state place.new) (O.state out.new)) }
     ensures writes { (o : Order) → order_of words.now ≡ Some o → target_of (work_of o) ≡ Text → (P.state place.new).write_faults ≡ (P.state place.old).write_faults }
 
-    // Without a fault the status is the one with which the plan ends, or memory ran out.
+    // Without a fault, either memory ran out, or the status is that of the plan's end, or 7 for a doubt of
+    // `verify`, or 8 for a refused text for `build`.
     ensures complete { (o : Order) → order_of words.now ≡ Some o
         → (Rose (P.state place.old).read_faults (P.state place.new).read_faults → ⊥)
         → (Rose (write_count (target_of (work_of o)) (outside (P.state place.old) (O.state out.old))) (write_count (target_of (work_of o)) (outside (P.state place.new) (O.state out.new))) → ⊥)

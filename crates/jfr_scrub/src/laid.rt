@@ -24,7 +24,7 @@ use std::alloc::Global;
 use std::marker::{Brand, Model};
 use std::sync::ledger::{Blank, Ledger};
 
-/// The output of an accepted chunk, as pieces, and the numbers of events and entries that are kept.
+/// The output of an accepted chunk, as pieces, and how many events and entries are kept.
 #[derive(Drop)]
 pub(crate) struct LaidOut<'a> {
     pieces: Pieces<'a>,

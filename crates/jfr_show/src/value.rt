@@ -176,8 +176,8 @@ fn show_items(
     Ok(to)
 }
 
-/// Adds the text of the reference to a class and a key. Takes it from the cache if it is there; if not, makes it,
-/// and the cache may keep it.
+/// Adds the text of the reference with this class and key. Takes it from the cache if it is there; if not,
+/// makes it, and the cache may keep it.
 #[cycle(show)]
 fn show_reference(
     view: &View<'_, '_>,
@@ -210,7 +210,7 @@ fn show_reference(
     Ok(())
 }
 
-/// Adds the text of the reference to a class and a key. Doesn't look up this reference in the cache.
+/// Adds the text of the reference with this class and key. Doesn't look up this reference in the cache.
 #[cycle(show)]
 fn show_constant(
     view: &View<'_, '_>,
