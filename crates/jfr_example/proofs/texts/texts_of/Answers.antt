@@ -3,7 +3,7 @@ use Rattle.std.specs.Prelude.{Option, option_to_list, take}
 use Rattle.std.specs.List.{filter_map}
 use Rattle.jfr_chunk.specs.Parts.{EventAt, events_of}
 use Rattle.jfr_chunk.specs.Paths.{named_text}
-use Rattle.jfr_chunk.specs.Seen.{event_at}
+use Rattle.jfr_chunk.specs.Indexed.{event_at}
 use Rattle.jfr_example.proofs.ListLaws.{made_next}
 use Rattle.jfr_example.proofs.texts.texts_of.Goals.{in-Some-2+in_ok-push_text, in_default-2}
 use Rattle.jfr_example.proofs.texts.texts_of.Goals as goal
