@@ -106,9 +106,9 @@ fn run_chunks<P: Place, O: Sink, S: Stage>(
     }
 }
 
-/// Runs a stage over one input, which starts at this position of the recording: at its beginning, or after
-/// the earlier files. After `Done` the position is that of the next chunk; after any other ending nothing is
-/// promised about it.
+/// Runs a stage over one input. The position is that of the input's first chunk in the recording: the first
+/// position, or the one after the earlier files that `assemble` joins. After `Done` it is that of the next
+/// chunk; after any other ending nothing is promised about it.
 pub fn run_stage<P: Place, O: Sink, S: Stage>(
     place: &mut P,
     out: &mut O,

@@ -53,9 +53,10 @@ impl Stage for Splitting<'_> {
     }
 }
 
-/// Cuts a recording into parts: opens the file, and writes each chunk that was read whole to its part,
-/// which the part's first chunk creates. The previous part is finished then, and the last one at the
-/// recording's end. A chunk that would begin one part more than the rule allows ends the command.
+/// Cuts a recording into parts: opens the file, and writes each chunk that was read whole to its part.
+/// Before the first chunk of a part is written, the previous part is finished and the new one is created;
+/// at the recording's end the last part is finished. A chunk that would begin one part more than the rule
+/// allows ends the command.
 pub fn disassemble<P: Place>(alloc: Global, place: &mut P, file: &str, rule: &SplitRule) -> Ending
     requires { IsUsable rule.now }
 
