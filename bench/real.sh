@@ -1,13 +1,14 @@
 #!/bin/bash
-# Times the commands that the JDK has, too, beside the JDK's, and checks what comes out: bench/real.sh PROGRAM FILE..
+# Times the commands that read a recording, in turn with the JDK's if it has them, and checks what comes out:
+# bench/real.sh PROGRAM FILE..
 #
 # For each file: each command ends with status 0. A scrub of a scrub's output gives the same bytes. The JDK's own
 # `jfr summary` counts the same events in the file, in what a scrub without options made of it and in its parts
 # together; in a scrub that keeps only the most frequent type of event it counts those; and `summary` has the same
 # counts. So does the JDK's reader of events (Events.java) in a scrub's chunks one by one, and in the copy that
 # recipes/jdk makes; how many events it misses in the scrub as a whole is printed, and is no failure (docs/VENDORS.md has
-# the reason). The parts joined are the file again, byte for byte. On a file of less than a megabyte the values of
-# `print --json` are those that the JDK prints (values.py).
+# the reason). The scrub passes `verify` with its receipts. The parts joined are the file again, byte for byte. On a
+# file of less than a megabyte the values of `print --json` are those that the JDK prints (values.py).
 #
 # Prints a row for each command: seconds, MB of the file a second, bytes written to the output stream or to files,
 # peak memory, and the seconds of the JDK's command, with how many times as long that takes. Seconds are the least and
@@ -85,7 +86,7 @@ row() {
 speed() { awk "BEGIN { printf \"%.0f\", $size / 1000000 / ($1 > 0 ? $1 : 0.001) }"; }
 
 # How many bytes there are in `text` and in `made`.
-written() { find "$work/text" "$made" -type f -printf '%s\n' | awk '{ sum += $1 } END { print sum + 0 }'; }
+written() { find "$work/text" "$made" -type f -printf '%s\n' | awk '{ sum += $1 } END { printf "%.0f\n", sum }'; }
 
 # The events of recordings and their numbers together, as the JDK counts them, without the records of metadata and
 # checkpoints.
@@ -117,6 +118,7 @@ same_counts() { diff "$1" "$2" >"$work/diff" || { fail "other events: $3"; head 
 # All commands on a file.
 commands() {
     local parts=$work/parts type='' least middle
+    rm -f "$work/out.jfr"
     if [ -n "$has_jfr" ]; then
         counts "$file" >"$work/counts"
         type=$(sort -k2 -n -r "$work/counts" | head -1 | cut -d' ' -f1)
@@ -132,6 +134,12 @@ commands() {
     if [ -n "$type" ] && row "scrub of one type" scrub --include-events "$type" "$file" "$made/out.jfr" -- scrub --include-events "$type" "$file" "$made/jdk.jfr"; then
         same_counts "$work/one" <(counts "$made/out.jfr") "scrub of $type"
     fi
+    row "scrub --renumber yes" scrub --renumber yes "$file" "$made/out.jfr"
+    if row receipt receipt "$file" "$made/receipt" && [ -f "$work/out.jfr" ]; then
+        mv "$made/receipt" "$work/receipt"
+        row verify verify "$file" "$work/out.jfr" "$work/receipt"
+    fi
+    row stacks stacks "$file"
     for depth in 0 1 2; do row "print --depth $depth" print --depth $depth "$file" -- print "$file"; done
     row "print --json" print --json "$file" -- print --json "$file"
     row metadata metadata "$file" -- metadata "$file"

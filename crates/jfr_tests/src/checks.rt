@@ -1,6 +1,5 @@
 //! Receipts and their checks, and scrubs with new keys.
-use crate::runs::{says, words};
-use jfr_cli::run;
+use crate::runs::{says, status_of, words};
 use jfr_fixtures::{CLASSES_OF_B, PLAIN, RINGS, with_classes, with_metadata};
 use jfr_outside::{MemoryPlace, MemorySink};
 use std::alloc::Global;
@@ -97,7 +96,7 @@ fn a_verdict_is_lost(rt: HostRuntime) -> Result<(), Fail> {
     let mut out = MemorySink::new(alloc);
     let mut err = MemorySink::new(alloc);
     out.fail(1, 3)?;
-    assert_eq!(&rt; run(alloc, &check, &mut place, &mut out, &mut err), 4);
+    assert_eq!(&rt; status_of(alloc, &check, &mut place, &mut out, &mut err), 4);
     assert_eq!(&rt; out.bytes(), b"ver".as_slice());
     assert_eq!(&rt; err.bytes(), "write fault\n".as_bytes());
     Ok(())

@@ -1,8 +1,7 @@
 //! The commands that write text, and the sample.
 ghost use Rattle.std.specs.Prelude.{◌≤◌};
 
-use crate::runs::{says, words};
-use jfr_cli::run;
+use crate::runs::{says, status_of, words};
 use jfr_fixtures::{RINGS, STRINGS, inert, with_classes};
 use jfr_outside::{MemoryPlace, MemorySink};
 use jfr_sample::sample;
@@ -168,7 +167,7 @@ fn last_line(rt: &impl Abort, alloc: Global, seed: &str, events: &str) -> Result
     let mut out = MemorySink::new(alloc);
     let mut err = MemorySink::new(alloc);
     let line = words(alloc, &["sample", seed, events])?;
-    assert_eq!(rt; run(alloc, &line, &mut place, &mut out, &mut err), 0);
+    assert_eq!(rt; status_of(alloc, &line, &mut place, &mut out, &mut err), 0);
     let bytes = out.bytes();
     let start = bytes
         .iter()
@@ -207,7 +206,7 @@ fn faults_of_streams_are_reported(rt: HostRuntime) -> Result<(), Fail> {
     let mut err = MemorySink::new(alloc);
     out.fail(1, 3)?;
     let print = words(alloc, &["print", "rings.jfr"])?;
-    assert_eq!(&rt; run(alloc, &print, &mut place, &mut out, &mut err), 4);
+    assert_eq!(&rt; status_of(alloc, &print, &mut place, &mut out, &mut err), 4);
     assert_eq!(&rt; out.bytes(), b"t.A".as_slice());
     assert_eq!(&rt; err.bytes(), b"write fault\n".as_slice());
     Ok(())
@@ -223,7 +222,7 @@ fn lines_that_fail_change_no_status(rt: HostRuntime) -> Result<(), Fail> {
     let mut err = MemorySink::new(alloc);
     err.fail(1, 5)?;
     let scrub = words(alloc, &["scrub", "a.jfr", "b.jfr"])?;
-    assert_eq!(&rt; run(alloc, &scrub, &mut place, &mut out, &mut err), 2);
+    assert_eq!(&rt; status_of(alloc, &scrub, &mut place, &mut out, &mut err), 2);
     assert_eq!(&rt; err.bytes(), b"chunk".as_slice());
     Ok(())
 }

@@ -1,6 +1,5 @@
 //! Which descriptions of classes stay.
-use crate::runs::words;
-use jfr_cli::run;
+use crate::runs::{status_of, words};
 use jfr_fixtures::{JDK_LIKE, NO_POOLS, chunk_of};
 use jfr_outside::{MemoryPlace, MemorySink};
 use std::alloc::Global;
@@ -66,7 +65,7 @@ fn scrubbed(
     place.put("a.jfr", recording)?;
     let mut out = MemorySink::new(alloc);
     let mut err = MemorySink::new(alloc);
-    assert_eq!(rt; run(alloc, &words, &mut place, &mut out, &mut err), 0);
+    assert_eq!(rt; status_of(alloc, &words, &mut place, &mut out, &mut err), 0);
     Ok(place)
 }
 

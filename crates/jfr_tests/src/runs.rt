@@ -2,7 +2,7 @@
 ghost use Rattle.std.specs.Prelude.{◌≤◌};
 
 use jfr_cli::run;
-use jfr_outside::{MemoryPlace, MemorySink, SteadyPlace, SteadySink, Words};
+use jfr_outside::{MemoryPlace, MemorySink, Place, Sink, SteadyPlace, SteadySink, Words};
 use std::alloc::Global;
 use std::process::Abort;
 use std::test::Fail;
@@ -14,6 +14,18 @@ pub(crate) fn words(alloc: Global, line: &[&str]) -> Result<Words, Fail> {
         words.push(word)?;
     }
     Ok(words)
+}
+
+/// The status of a run of the top call. This function has no clauses, so a test that calls it is proved without those
+/// of `run`, which would take most of the time.
+pub(crate) fn status_of<P: Place, O: Sink, E: Sink>(
+    alloc: Global,
+    words: &Words,
+    place: &mut P,
+    out: &mut O,
+    err: &mut E,
+) -> u8 {
+    run(alloc, words, place, out, err)
 }
 
 /// Runs a command over a place in memory, and compares the status and both streams.
@@ -29,7 +41,7 @@ pub(crate) fn says(
     let words = words(alloc, line)?;
     let mut out = MemorySink::new(alloc);
     let mut err = MemorySink::new(alloc);
-    assert_eq!(rt; run(alloc, &words, place, &mut out, &mut err), status);
+    assert_eq!(rt; status_of(alloc, &words, place, &mut out, &mut err), status);
     assert_eq!(rt; out.bytes(), text.as_bytes());
     assert_eq!(rt; err.bytes(), fault.as_bytes());
     Ok(())
@@ -103,7 +115,7 @@ fn run_words(
     let mut out = MemorySink::new(alloc);
     let mut err = MemorySink::new(alloc);
     assert_eq!(rt;
-        run(alloc, &words, place, &mut out, &mut err),
+        status_of(alloc, &words, place, &mut out, &mut err),
         status,
         "{line}"
     );
@@ -127,7 +139,7 @@ fn run_steadily(
     let mut out = SteadySink::new(alloc);
     let mut err = SteadySink::new(alloc);
     assert_eq!(rt;
-        run(alloc, &words, place, &mut out, &mut err),
+        status_of(alloc, &words, place, &mut out, &mut err),
         status,
         "{line}"
     );

@@ -1,6 +1,5 @@
 //! Scrubs of the plain chunk.
-use crate::runs::{run_over_places, scrub, words};
-use jfr_cli::run;
+use crate::runs::{run_over_places, scrub, status_of, words};
 use jfr_fixtures::{NO_CLASSES, NO_POOLS, PLAIN, inert, plain_with};
 use jfr_outside::{Call, MemoryPlace, Place, SteadyPlace, SteadySink};
 use std::alloc::Global;
@@ -260,7 +259,7 @@ fn other_words_are_a_usage_fault(rt: HostRuntime) -> Result<(), Fail> {
         let mut out = SteadySink::new(rt.alloc());
         let mut err = SteadySink::new(rt.alloc());
         let words = words(rt.alloc(), line)?;
-        assert_eq!(&rt; run(rt.alloc(), &words, &mut place, &mut out, &mut err), 1);
+        assert_eq!(&rt; status_of(rt.alloc(), &words, &mut place, &mut out, &mut err), 1);
         assert_eq!(&rt; err.bytes(), usage.as_bytes());
         assert!(&rt; place.open_input("a.jfr").is_err());
         assert!(&rt; place.create_output("b.jfr").is_err());
@@ -305,7 +304,7 @@ fn options_come_before_the_names(rt: HostRuntime) -> Result<(), Fail> {
         let mut out = SteadySink::new(rt.alloc());
         let mut err = SteadySink::new(rt.alloc());
         let words = words(rt.alloc(), line)?;
-        assert_eq!(&rt; run(rt.alloc(), &words, &mut place, &mut out, &mut err), 3);
+        assert_eq!(&rt; status_of(rt.alloc(), &words, &mut place, &mut out, &mut err), 3);
         assert_eq!(&rt; err.bytes(), b"read fault\n".as_slice());
     }
     Ok(())
@@ -320,7 +319,7 @@ fn plain_chunks_stay_over_a_steady_place(rt: HostRuntime) -> Result<(), Fail> {
     place.put("a.jfr", &two)?;
     let mut out = SteadySink::new(rt.alloc());
     let mut err = SteadySink::new(rt.alloc());
-    assert_eq!(&rt; run(rt.alloc(), &line, &mut place, &mut out, &mut err), 0);
+    assert_eq!(&rt; status_of(rt.alloc(), &line, &mut place, &mut out, &mut err), 0);
     assert_eq!(&rt; place.file("b.jfr"), Some(two.as_slice()));
     assert!(&rt; out.bytes().is_empty() && err.bytes().is_empty());
     Ok(())

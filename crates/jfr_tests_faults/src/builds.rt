@@ -1,5 +1,5 @@
 //! Each call of a build fails in turn.
-use jfr_cli::run;
+use crate::runs::status_of;
 use jfr_outside::{Call, MemoryPlace, MemorySink, Words};
 use std::alloc::Global;
 use std::process::Abort;
@@ -52,7 +52,7 @@ fn see_fault(rt: &impl Abort, alloc: Global, row: Row) -> Result<(), Fail> {
     let mut out = MemorySink::new(alloc);
     let mut err = MemorySink::new(alloc);
     let words = words(alloc)?;
-    assert_eq!(rt; run(alloc, &words, &mut place, &mut out, &mut err), status);
+    assert_eq!(rt; status_of(alloc, &words, &mut place, &mut out, &mut err), status);
     assert_eq!(rt; err.bytes(), line.as_bytes());
     assert!(rt; out.bytes().is_empty());
     assert_eq!(rt; len_of(place.file("o")), left);

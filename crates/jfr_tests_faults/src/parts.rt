@@ -1,6 +1,6 @@
 //! A recording with one chunk more than `disassemble` may make parts of, over a place of whose contents a contract
 //! knows nothing.
-use jfr_cli::run;
+use crate::runs::status_of;
 use jfr_fixtures::PLAIN;
 use jfr_outside::{Fault, MemorySink, Place, Words};
 use std::alloc::Global;
@@ -88,7 +88,7 @@ fn too_many_parts_are_refused(rt: HostRuntime) -> Result<(), Fail> {
         words.push("a.jfr")?;
         let mut out = MemorySink::new(alloc);
         let mut err = MemorySink::new(alloc);
-        assert_eq!(rt; run(alloc, &words, &mut place, &mut out, &mut err), status);
+        assert_eq!(rt; status_of(alloc, &words, &mut place, &mut out, &mut err), status);
         assert_eq!(rt; err.bytes(), line.as_bytes());
         assert_eq!(rt; place.created, PARTS);
         assert_eq!(rt; place.finished, finished);

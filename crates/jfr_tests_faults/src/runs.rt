@@ -1,7 +1,7 @@
 //! Runs of a command over a place in memory, and what they leave there.
 use jfr_cli::run;
 use jfr_fixtures::{RINGS, STRINGS, with_classes};
-use jfr_outside::{Call, MemoryPlace, MemorySink, Place, Words};
+use jfr_outside::{Call, MemoryPlace, MemorySink, Place, Sink, Words};
 use std::alloc::Global;
 use std::test::Fail;
 
@@ -82,6 +82,18 @@ fn place_with(alloc: Global, chunks: usize) -> Result<MemoryPlace, Fail> {
     Ok(place)
 }
 
+/// The status of a run of the top call. This function has no clauses, so a test that calls it is proved without those
+/// of `run`, which would take most of the time.
+pub(crate) fn status_of<P: Place, O: Sink, E: Sink>(
+    alloc: Global,
+    words: &Words,
+    place: &mut P,
+    out: &mut O,
+    err: &mut E,
+) -> u8 {
+    run(alloc, words, place, out, err)
+}
+
 /// Runs a command over the first chunks, with reads of at most 50 bytes, and a call that fails and keeps at
 /// most this many bytes.
 pub(crate) fn run_once(
@@ -104,7 +116,7 @@ pub(crate) fn run_once(
         Fault::Of(call, nth) => place.fail(call, nth, keep)?,
         Fault::Write(nth) => out.fail(nth, keep)?,
     }
-    let status = run(alloc, &words, &mut place, &mut out, &mut err);
+    let status = status_of(alloc, &words, &mut place, &mut out, &mut err);
     Ok(Run {
         status,
         place,

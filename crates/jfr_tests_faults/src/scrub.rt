@@ -1,5 +1,5 @@
 //! Scrubs over a place in memory.
-use jfr_cli::run;
+use crate::runs::status_of;
 use jfr_outside::{MemoryPlace, MemorySink, Words};
 use std::alloc::Global;
 use std::process::Abort;
@@ -23,7 +23,7 @@ pub(crate) fn see_scrub(
     let mut out = MemorySink::new(alloc);
     let mut err = MemorySink::new(alloc);
     assert_eq!(rt;
-        run(alloc, &words, &mut place, &mut out, &mut err),
+        status_of(alloc, &words, &mut place, &mut out, &mut err),
         status,
         "{line}"
     );
