@@ -1,36 +1,23 @@
 -- Fields of base names with new keys: numbers are unchanged, and a string that is a key becomes the new one.
-use Rattle.std.specs.Prelude.{◌≡◌, ◌≢◌, ◌⊎◌, ℕ, ◌≤◌, false, List, length, slice_range, Option, Some, IsSome}
+use Rattle.std.specs.Prelude.{◌≡◌, ◌≢◌, ◌⊎◌, ℕ, ◌+◌, ◌≤◌, false, List, length, slice_range, Option, Some, IsSome}
 use Rattle.std.proofs.Common.{ap, arith, inl, inr, refl, sym, subst, ◌∙◌}
 use Rattle.jfr_base.specs.declared.integer.Var.{Var}
 use Rattle.jfr_base.specs.Integer.{Spells}
 use Rattle.jfr_base.specs.Formats.{int_at}
 use Rattle.jfr_base.proofs.OneAnswer.{int_computed}
-use Rattle.jfr_layout.specs.Classes.{Classes, IsFieldLayout, find_class, form_of, inline_form}
+use Rattle.jfr_base.proofs.Ranges.{range_length}
+use Rattle.jfr_layout.specs.Classes.{Classes, IsFieldLayout, inline_form}
 use Rattle.jfr_layout.specs.declared.form.Form.TheVariants as forms
 use Rattle.jfr_layout.specs.declared.kind.Kind.{Kind}
 use Rattle.jfr_layout.specs.declared.kind.Kind.TheVariants as kinds
 use Rattle.jfr_layout.specs.declared.field_layout.FieldLayout.{FieldLayout}
 use Rattle.jfr_value.specs.declared.leaf.LeafKind.TheVariants as leaf_kinds
 use Rattle.jfr_value.specs.Values.{Value, Single, bytes_of, IsBase}
-use Rattle.jfr_value.specs.Nodes.{EndsAt, IsNode, NodeAt, node_at}
-use Rattle.jfr_value.proofs.FormLaws.{Inline, IsInline, inline_there, plain_there}
+use Rattle.jfr_value.specs.Nodes.{EndsAt, IsNode, node_at}
+use Rattle.jfr_value.proofs.FormLaws.{inline_there, plain_there}
 use Rattle.jfr_value.proofs.NodeForms.{BaseForm, base_form, no_key}
 use Rattle.jfr_value.proofs.LayoutLaws.{layout_class}
 use Rattle.jfr_renumber.specs.Rekeyed.{rekeyed}
-use Rattle.jfr_renumber.proofs.FieldLaws.{inline_layout}
-
--- A layout for a number, for raw bytes or for a string is known.
-pub base_layout : (k : Classes) (c : List ℕ) (n : NodeAt) (v : Value) (l : FieldLayout) → IsNode k c n v → l.shape ≡ n.shape → l.form ≡ form_of l.shape l.kind → (IsSome (find_class k n.shape.class) → IsFieldLayout k l)
-    → (l.form ≡ forms.Integer) ⊎ ((x : ℕ) × (l.form ≡ forms.Raw x)) ⊎ (l.form ≡ forms.Text) → IsFieldLayout k l
-base_layout k c n v l i e h known f = inline_layout k c n v l i e (m.array, m.constant) known
-  where
-    by_form : (l.form ≡ forms.Integer) ⊎ ((x : ℕ) × (l.form ≡ forms.Raw x)) ⊎ (l.form ≡ forms.Text) → IsInline l.form
-    by_form (inl q) = subst IsInline (sym q) tt
-    by_form (inr (inl q)) = subst IsInline (sym q.1) tt
-    by_form (inr (inr q)) = subst IsInline (sym q) tt
-
-    m : Inline l l.form
-    m = inline_there l h l.form refl (by_form f)
 
 -- A value of a base name.
 pub base_field : (k : Classes) (c : List ℕ) (at to : ℕ) (l : FieldLayout) (v : Value) → IsFieldLayout k l → l.shape.array ≡ false → l.shape.constant ≡ false → l.kind ≢ kinds.Composite → IsNode k c (node_at l.shape at to) v → BaseForm k c at to l.shape l.kind v
@@ -73,3 +60,25 @@ integer_end k c at to end l r h w y f t e =
     let q = integer_field k c at to end l h w y f t in
     let x : r ≡ record { value = q.0; end = to } = (let z : Some r ≡ Some (record { value = q.0; end = to }) = sym e ∙ q.1 in cc) in
     ap (λ (z : Var). z.end) x
+
+-- Where raw bytes end.
+raw_kind : (kind : Kind) (b : List ℕ) (key : Option ℕ) (n : ℕ) → forms.Raw n ≡ inline_form kind → IsBase kind b key → length b ≡ n
+raw_kind kinds.Boolean b key n e i = let q : n ≡ 1 = (let h : forms.Raw n ≡ forms.Raw 1 = e in cc) in i.0 ∙ sym q
+raw_kind kinds.Byte b key n e i = let q : n ≡ 1 = (let h : forms.Raw n ≡ forms.Raw 1 = e in cc) in i.0 ∙ sym q
+raw_kind kinds.Char b key n e i = cc
+raw_kind kinds.Short b key n e i = cc
+raw_kind kinds.Int b key n e i = cc
+raw_kind kinds.Long b key n e i = cc
+raw_kind kinds.Float b key n e i = let q : n ≡ 4 = (let h : forms.Raw n ≡ forms.Raw 4 = e in cc) in i.0 ∙ sym q
+raw_kind kinds.Double b key n e i = let q : n ≡ 8 = (let h : forms.Raw n ≡ forms.Raw 8 = e in cc) in i.0 ∙ sym q
+raw_kind kinds.Text b key n e i = cc
+raw_kind kinds.Composite b key n e i = absurd i
+
+pub raw_end : (k : Classes) (c : List ℕ) (at to : ℕ) (l : FieldLayout) (n : ℕ) → IsFieldLayout k l → l.form ≡ forms.Raw n → EndsAt k c l.shape at to → at + n ≡ to
+raw_end k c at to l n y f t =
+    let m = plain_there l y.form (inr (n, f)) in
+    let b = base_field k c at to l t.0 y m.array m.constant m.not_composite t.1 in
+    let s : length (slice_range c at to) ≡ n = raw_kind l.kind (slice_range c at to) b.key n (inline_there l y.form (forms.Raw n) f tt).form b.is in
+    let w = range_length c at to t.1.within in
+    let o = t.1.order in
+    omega (arith, s, w, o)

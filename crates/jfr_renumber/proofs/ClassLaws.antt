@@ -7,8 +7,10 @@ use Rattle.jfr_worklist.specs.Members.{In}
 use Rattle.jfr_worklist.proofs.Members.{contains_in, in_contains, get_in}
 use Rattle.jfr_renumber.specs.declared.numbering.UsedKey.{UsedKey}
 use Rattle.jfr_renumber.specs.Keys.{group_number}
-use Rattle.jfr_renumber.specs.Numbering.{RisingKeys, RisingPairs, Before, pair_at, AreKeysOf, ArePairsOf, group_numbers}
+use Rattle.jfr_renumber.specs.Missing.{Earlier}
+use Rattle.jfr_renumber.specs.Numbering.{pair_at, AreKeysOf, ArePairsOf, group_numbers}
 use Rattle.jfr_renumber.proofs.NumberingLaws.{in_get}
+use Rattle.jfr_renumber.proofs.OrderLaws.{rising_at-map, rising_by}
 
 -- Members of a part.
 get_drop : {X : Type 0} (n i : ℕ) (xs : List X) → slice_get (drop n xs) i ≡ slice_get xs (n + i)
@@ -51,42 +53,14 @@ take_range (x ∷ xs) (suc from) (suc to) h =
     let e : to - from ≡ suc to - suc from = omega arith in
     ap (λ z. x ∷ z) (take_range xs from to (omega (arith, h))) ∙ ap (λ n. x ∷ (take from xs ++ take n (drop from xs))) e
 
--- Of rising pairs, each is before all later ones.
-before_on : (k l m : UsedKey) → Before k l → Before l m → Before k m
-before_on k l m (inl a) (inl b) = inl (omega (arith, a, b))
-before_on k l m (inl a) (inr b) = inl (omega (arith, a, b.0))
-before_on k l m (inr a) (inl b) = inl (omega (arith, a.0, b))
-before_on k l m (inr a) (inr b) = inr (a.0 ∙ b.0, omega (arith, a.1, b.1))
-
-pairs_head : (k : UsedKey) (ks : List UsedKey) (j : ℕ) (l : UsedKey) → RisingPairs (k ∷ ks) → slice_get ks j ≡ Some l → Before k l
-pairs_head k [] j l r e = cc
-pairs_head k (m ∷ ks) zero l r e = let h : m ≡ l = cc in subst (Before k) h r.0
-pairs_head k (m ∷ ks) (suc j) l r e = before_on k m l r.0 (pairs_head m ks j l r.1 e)
-
-pairs_tail : (k : UsedKey) (ks : List UsedKey) → RisingPairs (k ∷ ks) → RisingPairs ks
-pairs_tail k [] r = tt
-pairs_tail k (l ∷ ks) r = r.1
-
-pub pairs_at : (ks : List UsedKey) (i j : ℕ) (k l : UsedKey) → RisingPairs ks → i < j → slice_get ks i ≡ Some k → slice_get ks j ≡ Some l → Before k l
-pairs_at [] i j k l r h e f = cc
-pairs_at (m ∷ ks) zero zero k l r h e f = absurd (omega (arith, h))
-pairs_at (m ∷ ks) zero (suc j) k l r h e f = let q : m ≡ k = cc in subst (λ z. Before z l) q (pairs_head m ks j l r f)
-pairs_at (m ∷ ks) (suc i) zero k l r h e f = absurd (omega (arith, h))
-pairs_at (m ∷ ks) (suc i) (suc j) k l r h e f = pairs_at ks i j k l (pairs_tail m ks r) (omega (arith, h)) e f
-
-before_class : (k l : UsedKey) → Before k l → k.class ≤ l.class
+-- A class and a key that are before others.
+before_class : (k l : UsedKey) → Earlier (pair_at k) (pair_at l) → k.class ≤ l.class
 before_class k l (inl a) = omega (arith, a)
 before_class k l (inr a) = omega (arith, a.0)
 
-before_key : (k l : UsedKey) → k.class ≡ l.class → Before k l → k.key < l.key
+before_key : (k l : UsedKey) → k.class ≡ l.class → Earlier (pair_at k) (pair_at l) → k.key < l.key
 before_key k l e (inl a) = absurd (omega (arith, a, e))
 before_key k l e (inr a) = a.1
-
--- Keys rise if each is below the next.
-rising_by : (ks : List UsedKey) → ((i : ℕ) (k l : UsedKey) → slice_get ks i ≡ Some k → slice_get ks (suc i) ≡ Some l → k.key < l.key) → RisingKeys ks
-rising_by [] f = tt
-rising_by (k ∷ []) f = tt
-rising_by (k ∷ l ∷ ks) f = (f 0 k l refl refl, rising_by (l ∷ ks) (λ i a b. f (suc i) a b))
 
 -- A member at a place before the end.
 pub some_at : (ks : List UsedKey) (i : ℕ) → i < length ks → (k : UsedKey) × (slice_get ks i ≡ Some k)
@@ -116,7 +90,7 @@ module _ (together : ℕ × ℕ → ℕ × ℕ → Bool) (us : List (ℕ × ℕ)
   below_first i k h e = by_side (either i from)
     where
       by_side : (i < from) ⊎ (from ≤ i) → k.class ≤ f.class
-      by_side (inl a) = before_class k f (pairs_at ks i from k f are.rising a e there)
+      by_side (inl a) = before_class k f (rising_at-map pair_at ks i from k f are.rising a e there)
       by_side (inr a) = let q = s.same f k i there a h e in omega (arith, q)
 
   above_last : (j : ℕ) (l : UsedKey) → to ≤ j → slice_get ks j ≡ Some l → f.class < l.class
@@ -124,7 +98,7 @@ module _ (together : ℕ × ℕ → ℕ × ℕ → Bool) (us : List (ℕ × ℕ)
     where
       grows : (m : UsedKey) → slice_get ks to ≡ Some m → f.class < m.class
       grows m g =
-          let a = before_class f m (pairs_at ks from to f m are.rising s.order there g) in
+          let a = before_class f m (rising_at-map pair_at ks from to f m are.rising s.order there g) in
           by_case (equal_or f.class m.class a)
         where
           by_case : (f.class ≡ m.class) ⊎ (f.class < m.class) → f.class < m.class
@@ -137,7 +111,7 @@ module _ (together : ℕ × ℕ → ℕ × ℕ → Bool) (us : List (ℕ × ℕ)
           let w : j < length ks = slice_get_within ks j l e in
           let m = some_at ks to (omega (arith, a, w)) in
           let x : f.class < m.0.class = grows m.0 m.1 in
-          let y : m.0.class ≤ l.class = before_class m.0 l (pairs_at ks to j m.0 l are.rising a m.1 e) in
+          let y : m.0.class ≤ l.class = before_class m.0 l (rising_at-map pair_at ks to j m.0 l are.rising a m.1 e) in
           omega (arith, x, y)
 
   pub cut_next : Cut ks to
@@ -161,19 +135,19 @@ module _ (together : ℕ × ℕ → ℕ × ℕ → Bool) (us : List (ℕ × ℕ)
   -- They are the keys of their class.
   pub class_keys : AreKeysOf together us f.class seg
   class_keys = record {
-    rising = rising_by seg (λ i k l e g. steps i k l e g);
+    rising = rising_by (λ (z : UsedKey). (f.class, z.key)) seg steps;
     used = λ k c. subst (λ z. Contains us (z, k.key)) (seg_class k c) (are.used k (seg_member k c));
     all = λ key c. found key (are.all (f.class, key) c);
     alike = λ k l c d. ((λ e. ((are.alike k l (seg_member k c) (seg_member l d)).0 (back k l c d e)).1), λ h. on k l c d ((are.alike k l (seg_member k c) (seg_member l d)).1 (seg_class k c ∙ sym (seg_class l d), h)));
   }
     where
-      steps : (i : ℕ) (k l : UsedKey) → slice_get seg i ≡ Some k → slice_get seg (suc i) ≡ Some l → k.key < l.key
-      steps i k l e g =
+      steps : (i j : ℕ) (k l : UsedKey) → i < j → slice_get seg i ≡ Some k → slice_get seg j ≡ Some l → Earlier (f.class, k.key) (f.class, l.key)
+      steps i j k l h e g =
           let x = range_get ks from to i k e in
-          let y = range_get ks from to (suc i) l g in
+          let y = range_get ks from to j l g in
           let a = s.same f k (from + i) there (omega arith) x.0 x.1 in
-          let b = s.same f l (from + suc i) there (omega arith) y.0 y.1 in
-          before_key k l (a ∙ sym b) (pairs_at ks (from + i) (from + suc i) k l are.rising (omega arith) x.1 y.1)
+          let b = s.same f l (from + j) there (omega arith) y.0 y.1 in
+          inr (refl, before_key k l (a ∙ sym b) (rising_at-map pair_at ks (from + i) (from + j) k l are.rising (omega (arith, h)) x.1 y.1))
 
       back : (k l : UsedKey) → Contains seg k → Contains seg l → together (f.class, k.key) (f.class, l.key) ≡ true → together (pair_at k) (pair_at l) ≡ true
       back k l c d e = subst (λ z. together (z, k.key) (pair_at l) ≡ true) (sym (seg_class k c)) (subst (λ z. together (f.class, k.key) (z, l.key) ≡ true) (sym (seg_class l d)) e)

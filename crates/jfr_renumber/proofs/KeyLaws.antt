@@ -231,6 +231,17 @@ module _ (together : ℕ × ℕ → ℕ × ℕ → Bool) (same : Together togeth
             absurd (omega arith)
         by_order (inr (inr q)) = q
 
+    -- A key that is smaller than each member of another group of its class has a smaller number.
+    pub number_order : (t u : ℕ × ℕ) → In us t → In us u → t.0 ≡ u.0 → ((v : ℕ × ℕ) → In us v → together u v ≡ true → t.1 < v.1) → group_number together us t < group_number together us u
+    unfolding group_number
+    number_order t u i j c below =
+        let g = first_of_group u j in
+        let a = smallest_most us t in
+        let b = below (u.0, smallest together us u) g.0 (same.symmetric (u.0, smallest together us u) u g.1) in
+        let p : begins together us (u.0, smallest together us t) ≡ true = subst (λ c. begins together us (c, smallest together us t) ≡ true) c (group_begins t i) in
+        let n = count_passes (λ key. begins together us (u.0, key)) (smallest together us t) (smallest together us u) p (omega (arith, a, b)) in
+        subst (λ c. count_below (smallest together us t) (λ key. begins together us (c, key)) < count_below (smallest together us u) (λ key. begins together us (u.0, key))) (sym c) n
+
     -- Each smaller number is that of a member of the class.
     pub number_dense : (t : ℕ × ℕ) (j : ℕ) → j < group_number together us t → (u : ℕ × ℕ) × In us u × (u.0 ≡ t.0) × (group_number together us u ≡ j)
     unfolding group_number

@@ -20,12 +20,12 @@ use Rattle.jfr_worklist.specs.Members.{In}
 use Rattle.jfr_worklist.proofs.Members.{contains_in, in_contains}
 use Rattle.jfr_chunk.proofs.HasNodesLaws.{IsEvent, has_nodes, event_is}
 use Rattle.jfr_renumber.specs.Rekeyed.{rekeyed, rekeyed_all, rekeyed_pair}
-use Rattle.jfr_renumber.specs.Renumber.{Used, new_key, firsts}
-use Rattle.jfr_renumber.specs.Meaning.{AreNewKeys, AreRekeyedEntries, RekeyedMeaning}
+use Rattle.jfr_renumber.specs.Renumber.{Used, used_keys, new_key, firsts}
+use Rattle.jfr_renumber.specs.Meaning.{AreNewKeys, AreRekeyedEntries, IsInOrder, RekeyedMeaning}
 use Rattle.jfr_renumber.specs.Laws.{KeepsMeaning, RekeyedRecord, RekeyedRecords, AgreeOnUsed}
 use Rattle.jfr_renumber.proofs.RekeyedLaws.{rekeyed_fits, rekeyed_shape, rekeyed_leaves, rekeyed_short}
 use Rattle.jfr_renumber.proofs.ValueLaws.{fits_once}
-use Rattle.jfr_renumber.proofs.UsedLaws.{new_keys}
+use Rattle.jfr_renumber.proofs.UsedLaws.{in_used, keys_rise, new_keys, used_in}
 use Rattle.jfr_renumber.proofs.RenamedLaws.{PairedEvent, PairedEvents, renamed_meaning, entries_paired}
 
 pub both_there : {A B : Type 0} (R : A → B → Type 0) (x : Option A) (y : Option B) → Both R x y → IsSome x ↔ IsSome y
@@ -67,6 +67,12 @@ module _ (p : Parts) (a : AreParts p) (kept : List EventAt) (are : AreEvents p k
 
   pub new_keys_are : AreNewKeys p kept (new_key p kept)
   new_keys_are = new_keys p (has_nodes p a) kept kept_nodes
+
+  pub new_keys_rise : IsInOrder p kept (new_key p kept)
+  new_keys_rise = keys_rise p (has_nodes p a) kept kept_nodes
+
+  pub exactly_used : (t : ℕ × ℕ) → Contains (used_keys p kept) t ↔ Used p kept t
+  exactly_used t = (λ c. in_used p (has_nodes p a) kept kept_nodes t (contains_in (used_keys p kept) t c), λ u. in_contains (used_keys p kept) t (used_in p (has_nodes p a) kept kept_nodes t u))
 
   module _ (q : Parts) (b : AreParts q) (new : ℕ × ℕ → ℕ) where
     over_used : AgreeOnUsed p q kept → (t : ℕ × ℕ) → Used p kept t → (v : Value) → (shape_of v).class ≡ t.0 → Fits p.classes v → Fits q.classes v

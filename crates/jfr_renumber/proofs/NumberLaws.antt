@@ -8,8 +8,7 @@ use Rattle.jfr_worklist.proofs.Members.{in_contains}
 use Rattle.jfr_chunk.proofs.AllLaws.{all_get}
 use Rattle.jfr_renumber.specs.Missing.{Earlier, IsRising}
 use Rattle.jfr_renumber.specs.Numbers.{NumberedPairs, number_at, number_of}
-use Rattle.jfr_renumber.proofs.FindLaws.{never}
-use Rattle.jfr_renumber.proofs.OrderLaws.{pair_exact, pair_same}
+use Rattle.jfr_renumber.proofs.OrderLaws.{never, pair_exact, pair_same}
 
 same_self : (t : ℕ × ℕ) → pair_same t t ≡ true
 same_self t = grind arith

@@ -17,8 +17,10 @@ use Rattle.jfr_worklist.specs.Members.{In}
 use Rattle.jfr_worklist.proofs.Members.{contains_in, in_contains, get_in}
 use Rattle.jfr_renumber.specs.declared.numbering.UsedKey.{UsedKey}
 use Rattle.jfr_renumber.specs.Keys.{count_below, smallest, begins, group_number, Together}
-use Rattle.jfr_renumber.specs.Numbering.{number_under, value_of_key, RisingKeys, SameValue, AreKeysOf, group_numbers}
+use Rattle.jfr_renumber.specs.Missing.{Earlier, IsRising}
+use Rattle.jfr_renumber.specs.Numbering.{number_under, value_of_key, SameValue, AreKeysOf, group_numbers}
 use Rattle.jfr_renumber.proofs.KeyLaws.{count_flat, count_this, smallest_least, smallest_most, number_same, group_begins, any_in, Least, least_is}
+use Rattle.jfr_renumber.proofs.OrderLaws.{rising_at-map}
 
 abbrev Firsts : Type 0
 Firsts = BTreeMap (Bor (List ℕ)) ℕ
@@ -31,33 +33,27 @@ in_get [] x i = absurd i
 in_get (y ∷ xs) x (inl e) = (0, ap (λ z. Some z) e)
 in_get (y ∷ xs) x (inr i) = let r = in_get xs x i in (suc r.0, r.1)
 
--- Later keys are larger.
-rising_head : (k : UsedKey) (ks : List UsedKey) (j : ℕ) (l : UsedKey) → RisingKeys (k ∷ ks) → slice_get ks j ≡ Some l → k.key < l.key
-rising_head k [] j l r e = cc
-rising_head k (m ∷ ks) zero l r e = let h : m ≡ l = cc in subst (λ (z : UsedKey). k.key < z.key) h r.0
-rising_head k (m ∷ ks) (suc j) l r e = let a = rising_head m ks j l r.1 e in let b = r.0 in omega arith
+-- Of keys of a class, later ones are larger.
+abbrev Rising : ℕ → List UsedKey → Type 0
+Rising class ks = IsRising (map (λ k. (class, k.key)) ks)
 
-rising_tail : (k : UsedKey) (ks : List UsedKey) → RisingKeys (k ∷ ks) → RisingKeys ks
-rising_tail k [] r = tt
-rising_tail k (l ∷ ks) r = r.1
-
-pub rising_at : (ks : List UsedKey) (i j : ℕ) (k l : UsedKey) → RisingKeys ks → i < j → slice_get ks i ≡ Some k → slice_get ks j ≡ Some l → k.key < l.key
-rising_at [] i j k l r h e f = cc
-rising_at (m ∷ ks) zero zero k l r h e f = absurd (omega arith)
-rising_at (m ∷ ks) zero (suc j) k l r h e f = let q : m ≡ k = cc in subst (λ (z : UsedKey). z.key < l.key) q (rising_head m ks j l r f)
-rising_at (m ∷ ks) (suc i) zero k l r h e f = absurd (omega arith)
-rising_at (m ∷ ks) (suc i) (suc j) k l r h e f = rising_at ks i j k l (rising_tail m ks r) (omega arith) e f
+key_rises : (class : ℕ) (ks : List UsedKey) (i j : ℕ) (k l : UsedKey) → Rising class ks → i < j → slice_get ks i ≡ Some k → slice_get ks j ≡ Some l → k.key < l.key
+key_rises class ks i j k l r h e f = by_class (rising_at-map (λ (z : UsedKey). (class, z.key)) ks i j k l r h e f)
+  where
+    by_class : Earlier (class, k.key) (class, l.key) → k.key < l.key
+    by_class (inl a) = absurd (omega (arith, a))
+    by_class (inr a) = a.1
 
 -- A smaller key comes before.
-stands_before : (ks : List UsedKey) (i j : ℕ) (k l : UsedKey) → RisingKeys ks → k.key < l.key → slice_get ks i ≡ Some k → slice_get ks j ≡ Some l → i < j
-stands_before ks i j k l r h e f = by_order (order i j)
+stands_before : (class : ℕ) (ks : List UsedKey) (i j : ℕ) (k l : UsedKey) → Rising class ks → k.key < l.key → slice_get ks i ≡ Some k → slice_get ks j ≡ Some l → i < j
+stands_before class ks i j k l r h e f = by_order (order i j)
   where
     order : (a b : ℕ) → (a < b) ⊎ ((b < a) ⊎ (a ≡ b))
     order a b = grind arith
 
     by_order : (i < j) ⊎ ((j < i) ⊎ (i ≡ j)) → i < j
     by_order (inl a) = a
-    by_order (inr (inl a)) = let b = rising_at ks j i l k r a f e in absurd (omega arith)
+    by_order (inr (inl a)) = let b = key_rises class ks j i l k r a f e in absurd (omega arith)
     by_order (inr (inr a)) = let x : slice_get ks j ≡ Some k = subst (λ z. slice_get ks z ≡ Some k) a e in let q : k ≡ l = cc in let p : k.key ≡ l.key = ap (λ (z : UsedKey). z.key) q in absurd (omega arith)
 
 map_next : {X Y : Type 0} (f : X → Y) (xs : List X) (i : ℕ) (x : X) → slice_get xs i ≡ Some x → map f (take (i + 1) xs) ≡ map f (take i xs) ++ f x ∷ []
@@ -99,15 +95,15 @@ module _ (together : ℕ × ℕ → ℕ × ℕ → Bool) (same : Together togeth
     where
       by_key : (j : ℕ) × (m : UsedKey) × (slice_get ks j ≡ Some m) × (m.key ≡ x) → ⊥
       by_key (j, m, g, q) =
-          let c = stands_before ks i j k m are.rising (omega arith) e g in
-          let d = stands_before ks j (suc i) m l are.rising (omega arith) g f in
+          let c = stands_before class ks i j k m are.rising (omega arith) e g in
+          let d = stands_before class ks j (suc i) m l are.rising (omega arith) g f in
           omega arith
 
   none_first : (l : UsedKey) (x : ℕ) → slice_get ks 0 ≡ Some l → x < l.key → test x ≡ false
   none_first l x f b = false_if (test x) (λ t. by_key (begins_key x t))
     where
       by_key : (j : ℕ) × (m : UsedKey) × (slice_get ks j ≡ Some m) × (m.key ≡ x) → ⊥
-      by_key (j, m, g, q) = let d = stands_before ks j 0 m l are.rising (omega arith) g f in omega arith
+      by_key (j, m, g, q) = let d = stands_before class ks j 0 m l are.rising (omega arith) g f in omega arith
 
   -- What holds when this many keys have their numbers.
   pub record SoFar (i : ℕ) (firsts : Firsts) (next : ℕ) (numbers : List ℕ) : Type 0 where
@@ -129,7 +125,7 @@ module _ (together : ℕ × ℕ → ℕ × ℕ → Bool) (same : Together togeth
       let t : together (class, l.key) (class, k.key) ≡ true = (are.alike l k (member j l f) (member i k e)).1 (inr (record { value = q; here = b; there = a })) in
       let n = number_same together same us (class, l.key) (class, k.key) (used_member j l f) (used_member i k e) t in
       let s = smallest_least together same us (class, k.key) (class, l.key) (used_member j l f) t in
-      let o = rising_at ks j i l k are.rising h f e in
+      let o = key_rises class ks j i l k are.rising h f e in
       (sym n, false_if (test k.key) (λ u. (let z : smallest together us (class, k.key) ≡ k.key = exact_unsigned_eq (smallest together us (class, k.key)) k.key (second_so _ _ u) in omega arith)))
 
   -- A key whose value no earlier one has begins a group, and its number is the number of groups that begin below it.
@@ -150,7 +146,7 @@ module _ (together : ℕ × ℕ → ℕ × ℕ → Bool) (same : Together togeth
       order a b = grind arith
 
       by_order : (l : Least together same us (class, k.key)) (m : UsedKey) (j : ℕ) → slice_get ks j ≡ Some m → m.key ≡ l.pair.1 → SameValue m k → (m.key < k.key) ⊎ (k.key ≤ m.key) → smallest together us (class, k.key) ≡ k.key
-      by_order l m j g q v (inl a) = absurd (none j m v.value (stands_before ks j i m k are.rising a g e) g v.here v.there)
+      by_order l m j g q v (inl a) = absurd (none j m v.value (stands_before class ks j i m k are.rising a g e) g v.here v.there)
       by_order l m j g q v (inr a) =
           let b : smallest together us (class, k.key) ≡ l.pair.1 = l.key in
           let d = smallest_most together same us (class, k.key) in
@@ -176,7 +172,7 @@ module _ (together : ℕ × ℕ → ℕ × ℕ → Bool) (same : Together togeth
   behind i k l x e f a b = let q : i + 1 ≡ suc i = omega arith in none_between i k l x e (subst (λ z. slice_get ks z ≡ Some l) q f) a b
 
   next_above : (i : ℕ) (k l : UsedKey) → slice_get ks i ≡ Some k → slice_get ks (i + 1) ≡ Some l → k.key < l.key
-  next_above i k l e f = rising_at ks i (i + 1) k l are.rising (omega arith) e f
+  next_above i k l e f = key_rises class ks i (i + 1) k l are.rising (omega arith) e f
 
   either : (j i : ℕ) → j < i + 1 → (j < i) ⊎ (i ≡ j)
   either j i h = grind arith

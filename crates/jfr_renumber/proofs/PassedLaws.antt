@@ -8,11 +8,6 @@ use Rattle.jfr_base.proofs.Ranges.{range_none, range_split}
 pub row_begun : (c out : List ℕ) (from start end : ℕ) → from ≤ start → start ≤ end → (start ≡ start) × (from ≤ start) × (start ≤ end) × (out ++ slice_range c from start ≡ (out ++ slice_range c from start) ++ [])
 row_begun c out from start end h i = (refl, h, i, sym (append-nil (out ++ slice_range c from start)))
 
--- A value that is written after those before it.
-pub whole_written : (c old now out bytes : List ℕ) (from at end : ℕ) → now ≡ old ++ slice_range c from at → out ≡ now ++ bytes → (end ≤ end) × (out ++ slice_range c end end ≡ (old ++ slice_range c from at) ++ bytes)
-whole_written c old now out bytes from at end g h =
-    (omega arith, ap (λ z. out ++ z) (range_none c end end (omega arith)) ∙ (append-nil out ∙ (h ∙ ap (λ z. z ++ bytes) g)))
-
 -- A field that is unchanged is written with those before it.
 pub field_waits : (c out bytes : List ℕ) (from at to : ℕ) → from ≤ at → at ≤ to → bytes ≡ slice_range c at to → out ++ slice_range c from to ≡ (out ++ slice_range c from at) ++ bytes
 field_waits c out bytes from at to h i e =

@@ -18,8 +18,8 @@ use Rattle.jfr_chunk.proofs.PathLaws.{HasNodes}
 use Rattle.jfr_chunk.proofs.ReachLaws.{leads_on, target_path, reach_least}
 use Rattle.jfr_chunk.proofs.ReachedLaws.{reached_marked}
 use Rattle.jfr_renumber.specs.Renumber.{Used, used_keys, together, new_key, pair_of}
-use Rattle.jfr_renumber.specs.Meaning.{AreNewKeys}
-use Rattle.jfr_renumber.proofs.KeyLaws.{number_most, number_same, number_apart, number_dense}
+use Rattle.jfr_renumber.specs.Meaning.{AreNewKeys, IsInOrder}
+use Rattle.jfr_renumber.proofs.KeyLaws.{number_most, number_same, number_apart, number_dense, number_order}
 use Rattle.jfr_renumber.proofs.TogetherLaws.{together_is}
 
 -- A marked member is a member that is marked.
@@ -179,3 +179,8 @@ module _ (p : Parts) (s : HasNodes p) (kept : List EventAt) (nodes : (e : EventA
     groups = λ t u i j c. (λ e. number_apart (together p) (together_is p) (used_keys p kept) t u (used_in t i) (used_in u j) c e, λ e. number_same (together p) (together_is p) (used_keys p kept) t u (used_in t i) (used_in u j) e);
     dense = λ t n i h. (let d = number_dense (together p) (together_is p) (used_keys p kept) t n h in (d.0, in_used d.0 d.1, d.2, d.3));
   }
+
+  -- They are in the order of the smallest keys of the groups.
+  pub keys_rise : IsInOrder p kept (new_key p kept)
+  unfolding new_key
+  keys_rise = λ t u i j c below. number_order (together p) (together_is p) (used_keys p kept) t u (used_in t i) (used_in u j) c (λ v k e. below v (in_used v k) e)

@@ -21,7 +21,7 @@ use Rattle.jfr_worklist.proofs.Members.{contains_in, in_contains, in_left, in_ri
 use Rattle.jfr_chunk.proofs.PathLaws.{HasNodes}
 use Rattle.jfr_renumber.specs.declared.numbering.UsedKey.{UsedKey}
 use Rattle.jfr_renumber.specs.Missing.{IsRising, flagged, is_missing}
-use Rattle.jfr_renumber.specs.Numbering.{ArePairsOf, HasValue, RisingPairs, SameValue, pair_at, pair_numbers}
+use Rattle.jfr_renumber.specs.Numbering.{ArePairsOf, HasValue, SameValue, pair_at, pair_numbers}
 use Rattle.jfr_renumber.specs.Keys.{Together}
 use Rattle.jfr_renumber.specs.Numbers.{number_at, number_of}
 use Rattle.jfr_renumber.specs.Renumber.{Used, new_key, new_key_of, pair_of, together, used_keys}
@@ -41,11 +41,6 @@ filtered_in {X = X} test (y ∷ xs) x i q = by_test (test y) refl i (λ j. filte
     by_test true e (inr j) f = inr (f j)
     by_test false e (inl h) f = let z : false ≡ true = sym e ∙ (ap test h ∙ q) in cc
     by_test false e (inr j) f = f j
-
-rising_pairs : (ks : List UsedKey) → IsRising (map pair_at ks) → RisingPairs ks
-rising_pairs [] r = tt
-rising_pairs (k ∷ []) r = tt
-rising_pairs (k ∷ l ∷ ks) r = (r.0.0, rising_pairs (l ∷ ks) r.1)
 
 some_value : (p : Parts) (o : Option EntryAt) (v : List ℕ) → Some v ≡ option_map (λ e. node_bytes p.bytes (entry_node e)) o → (e : EntryAt) × (o ≡ Some e) × (v ≡ node_bytes p.bytes (entry_node e))
 some_value p None v h = cc
@@ -112,7 +107,7 @@ module _ (p : Parts) (s : HasNodes p) (kept : List EventAt) (nodes : (e : EventA
   pub are_pairs : (ps : List (ℕ × ℕ)) (ks : List UsedKey) → IsRising ps → ((t : ℕ × ℕ) → Contains all_pairs t → Contains ps t) → ((t : ℕ × ℕ) → Contains ps t → Contains all_pairs t)
       → map pair_at ks ≡ ps → AllByRecursion (HasValue p) ks → ArePairsOf (together p) (used_keys p kept) ks
   are_pairs ps ks r on off e v = record {
-    rising = rising_pairs ks (subst IsRising (sym e) r);
+    rising = subst IsRising (sym e) r;
     used = λ k c. in_contains (used_keys p kept) (pair_at k) (pairs_used (pair_at k) (contains_in all_pairs (pair_at k) (off (pair_at k) (in_contains ps (pair_at k) (subst (λ z. In z (pair_at k)) e (map_in pair_at ks k (contains_in ks k c)))))));
     all = λ t c. (let j : In ps t = contains_in ps t (on t (in_contains all_pairs t (used_pairs t (contains_in (used_keys p kept) t c)))) in let m = in_map pair_at ks t (subst (λ z. In z t) (sym e) j) in (m.0, in_contains ks m.0 m.1, m.2));
     alike = λ k l c d. alike_by p k l (all_in (HasValue p) ks k v (contains_in ks k c)) (all_in (HasValue p) ks l v (contains_in ks l d));

@@ -10,8 +10,8 @@ use Rattle.jfr_renumber.specs.Meaning.{IsRenumbered}
 use Rattle.jfr_renumber.specs.Renumber.{renumber_of}
 
 -- The chunk c has parts, and b is its output with new keys: a chunk that is whole and accepted, has
--- exactly the events that the filter keeps and, of the constants that they reach, one for each value, and means
--- the same except for the keys.
+-- exactly the events that the filter keeps and, of the entries that they reach, the first of each group, and
+-- means the same except for the keys.
 pub record IsRenumberedOutput (g : Given) (c b : List ℕ) : Type 0 where
   pub parts : Parts
   pub bytes : parts.bytes ≡ c

@@ -18,7 +18,7 @@ pub record KeepsMeaning (new : ℕ × ℕ → ℕ) (k : Classes) (v : Value) : T
   pub fits : Fits k (rekeyed new v)
   pub shape : shape_of (rekeyed new v) ≡ shape_of v
   pub read : Exactly (value_format k (shape_of v)) (bytes_of (rekeyed new v)) (rekeyed new v)
-  pub leaves : (at to : ℕ) → map content (leaves_at to (rekeyed new v)) ≡ map (rekeyed_leaf new) (leaves_at at v)
+  pub leaves : (at new_at : ℕ) → map content (leaves_at new_at (rekeyed new v)) ≡ map (rekeyed_leaf new) (leaves_at at v)
   pub refers : targets_of (rekeyed new v) ≡ map (rekeyed_pair new) (targets_of v)
   pub short : ((t : ℕ × ℕ) → Contains (targets_of v) t → new t ≤ t.1) → length (bytes_of (rekeyed new v)) ≤ length (bytes_of v)
 

@@ -32,12 +32,17 @@ RekeyedMeaning new p q (e ∷ es) (f ∷ fs) = RekeyedEvent new p q e f × Rekey
 RekeyedMeaning new p q [] (f ∷ fs) = ⊥
 RekeyedMeaning new p q (e ∷ es) [] = ⊥
 
--- These are new keys: none is larger than the old one, the new keys of a class have no gaps, and two are
--- equal exactly if the old keys are together.
+-- These are new keys. None is larger than the old one. Two used keys of a class have equal new keys exactly if
+-- they are together, and the new keys of the used keys of a class have no gaps.
 pub record AreNewKeys (p : Parts) (kept : List EventAt) (new : ℕ × ℕ → ℕ) : Type 0 where
   pub most : (t : ℕ × ℕ) → new t ≤ t.1
   pub groups : (t u : ℕ × ℕ) → Used p kept t → Used p kept u → t.0 ≡ u.0 → (new t ≡ new u) ↔ (together p t u ≡ true)
   pub dense : (t : ℕ × ℕ) (n : ℕ) → Used p kept t → n < new t → (u : ℕ × ℕ) × Used p kept u × (u.0 ≡ t.0) × (new u ≡ n)
+
+-- Of two used keys of a class, the first has the smaller new key if it is smaller than every used key that is
+-- together with the second.
+abbrev pub IsInOrder : Parts → List EventAt → (ℕ × ℕ → ℕ) → Type 0
+IsInOrder p kept new = (t u : ℕ × ℕ) → Used p kept t → Used p kept u → t.0 ≡ u.0 → ((v : ℕ × ℕ) → Used p kept v → together p u v ≡ true → t.1 < v.1) → new t < new u
 
 -- The second entry is the first one with its new key, and with new keys in its value.
 pub record IsRekeyedEntry (new : ℕ × ℕ → ℕ) (p q : Parts) (e f : EntryAt) : Type 0 where

@@ -1,5 +1,6 @@
--- Passing values: their bytes are written with new keys. The last bytes, if they stay the same, wait, to be
--- written in one piece with those that follow.
+-- Passing values: their bytes are written with new keys. The bytes of numbers, of strings that aren't keys, and
+-- of the key 0 in one byte stay the same and wait, to be written in one piece with those that follow. Any other
+-- value is written at once.
 use Rattle.std.specs.Prelude.{◌≡◌, ℕ, ◌≤◌, List, ◌++◌, length, slice_range}
 use Rattle.jfr_layout.specs.Classes.{IsFieldLayout, Sound}
 use Rattle.jfr_layout.specs.declared.field_layout.FieldLayout.{FieldLayout}

@@ -35,8 +35,8 @@ with_record bytes place b s = record {
   metadata = offset_so_far b.metadata ((record_of s).at == place) (length b.bytes);
 }
 
--- If the code's `OutputRecord` is right about the kept events and about the metadata record, the output has
--- one output record more: this one.
+-- If the code's `OutputRecord` is an event only for a kept event and with its number, and `Metadata` exactly
+-- for the metadata record, then the output has one output record more: this one.
 unfoldable pub IsWritten : (ℕ × ℕ → ℕ) → Parts → List Bool → List EntryAt → Option (List ℕ) → contents.OutputRecord → Progress → Progress → Type 0
 IsWritten new p flags remaining slim s b after =
     ShowsEvent p flags s → ShowsMetadata (metadata_at p.bytes) s → after ≡ with_record (new_bytes new p (kept_by p flags) remaining) (metadata_at p.bytes) b (output_record_as slim s)

@@ -1,16 +1,14 @@
 //! One field with new keys.
-ghost use Rattle.std.specs.Prelude.{◌≡◌, ℕ, ◌≤◌, ◌++◌, length, IfOk, IsSome, OnOk, Some, slice_range};
+ghost use Rattle.std.specs.Prelude.{◌≡◌, ◌≤◌, ◌++◌, length, IfOk, IsSome, OnOk, Some, slice_range};
 ghost use Rattle.jfr_base.specs.Formats.{int_at};
-ghost use Rattle.jfr_layout.specs.Classes.{IsFieldLayout, Sound};
 ghost use Rattle.jfr_layout.specs.declared.form.Form.TheVariants as forms;
-ghost use Rattle.jfr_value.specs.Nodes.{EndsAt};
 ghost use Rattle.jfr_renumber.specs.Passed.{FieldFollows, IsPassed};
 
-use crate::rewriting::{KEY, NewKeys, put_integer, put_rekeyed};
+use crate::rewriting::{NewKeys, put_integer, put_rekeyed};
 use crate::same::{is_zero, text_end};
 use jfr_base::{NoMemory, Var, read_within};
 use jfr_layout::{Classes, FieldLayout, Form};
-use jfr_text::is_key;
+use jfr_text::{KEY_BYTE, is_key};
 use jfr_value::{Node, Steps, end_of};
 use std::alloc::AllocError;
 use std::sync::ledger::Ledger;
@@ -32,8 +30,9 @@ impl<'a, N> Clone for RekeyContext<'a, N> {
 
 impl<'a, N> Copy for RekeyContext<'a, N> {}
 
-/// How far a walk over values came. To pass a value is to move `at` to its end. A value whose bytes change is
-/// written at once, after the bytes that wait. Bytes that stay the same wait, to be written in one piece.
+/// How far a walk over values came. To pass a value is to move `at` to its end. The bytes of numbers, of strings
+/// that aren't keys, and of the key 0 in one byte stay the same and wait, to be written in one piece. Any other
+/// value is written at once, after the bytes that wait.
 #[derive(Clone, Copy)]
 pub(crate) struct Passed {
     /// The first byte that isn't written yet.
@@ -55,8 +54,12 @@ pub(crate) fn pass_field<N: NewKeys, L: Ledger>(
     ensures ok { OnOk result (IsPassed N.keys context.entry layout.now out.old.items passed.old out.new.items passed.new) }
 {
     match layout.form {
-        Form::Integer | Form::Raw(_) => {
-            passed.at = field_end(context, layout, passed.at);
+        Form::Integer => {
+            passed.at = integer_at(context.bytes, passed.at, context.end).end;
+            Ok(())
+        }
+        Form::Raw(count) => {
+            passed.at += usize::from(count);
             Ok(())
         }
         Form::Key => pass_key(out, context, layout, passed),
@@ -109,7 +112,7 @@ fn pass_text<N: NewKeys>(
     }
     put_waiting(out, context.bytes, *passed)?;
     let key = integer_at(context.bytes, passed.at + 1, context.end);
-    out.push(KEY)?;
+    out.push(KEY_BYTE)?;
     put_integer(out, context.new.new_key(layout.shape.class, key.value))?;
     passed.at = key.end;
     passed.from = key.end;
@@ -149,7 +152,15 @@ fn put_parts<N: NewKeys, L: Ledger>(
     ensures ok { IfOk result (λ end. IsPassed N.keys context.entry layout.now out.old.items passed out.new.items (record { from = end; at = end })) }
 {
     put_waiting(out, context.bytes, passed)?;
-    let end = field_end(context, layout, passed.at);
+    let Ok(end) = end_of(
+        context.classes,
+        layout.shape,
+        context.bytes,
+        passed.at,
+        context.end,
+    ) else {
+        unreachable!()
+    };
     let field = Node {
         shape: layout.shape,
         bytes: context.bytes,
@@ -160,7 +171,7 @@ fn put_parts<N: NewKeys, L: Ledger>(
     Ok(end)
 }
 
-// Appends the bytes that are passed and not written yet. Between two adjacent references there are none.
+// Appends the bytes that are passed and not written yet. After a value that was written there are none.
 #[inline(always)]
 fn put_waiting(out: &mut Vec<u8>, bytes: &[u8], passed: Passed) -> Result<(), NoMemory>
     requires from { passed.from ≤ passed.at }
@@ -172,35 +183,6 @@ fn put_waiting(out: &mut Vec<u8>, bytes: &[u8], passed: Passed) -> Result<(), No
     }
     out.extend_from_slice(&bytes[passed.from..passed.at])?;
     Ok(())
-}
-
-// The end of the field with this layout, which starts at `at`.
-#[inline(always)]
-fn field_end<N>(context: RekeyContext<'_, N>, layout: &FieldLayout, at: usize) -> usize
-    requires sound { Sound context.classes.now }
-    requires layout { IsFieldLayout context.classes.now layout.now }
-    requires order { at ≤ context.end }
-    requires within { context.end ≤ length context.bytes.now }
-    requires there { (to : ℕ) × EndsAt context.classes.now context.bytes.now layout.now.shape at to × (to ≤ context.end) }
-    ensures exact { (to : ℕ) → EndsAt context.entry.classes.now context.entry.bytes.now layout.now.shape at to → to ≤ context.entry.end → result ≡ to }
-    ensures range { (at ≤ result) × (result ≤ context.entry.end) }
-{
-    if let Form::Integer = layout.form {
-        return integer_at(context.bytes, at, context.end).end;
-    }
-    if let Form::Raw(count) = layout.form {
-        return at + usize::from(count);
-    }
-    match end_of(
-        context.classes,
-        layout.shape,
-        context.bytes,
-        at,
-        context.end,
-    ) {
-        Ok(end) => end,
-        Err(_) => unreachable!(),
-    }
 }
 
 // The integer at `at`, which ends by `end`.

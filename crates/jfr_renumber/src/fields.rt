@@ -1,5 +1,5 @@
 //! Events and entries with new keys, field by field.
-ghost use Rattle.std.specs.Prelude.{◌≡◌, ℕ, ◌≤◌, ◌++◌, length, IfOk, IsSome, OnOk, Some, map, slice_get};
+ghost use Rattle.std.specs.Prelude.{◌≡◌, ℕ, ◌≤◌, ◌++◌, false, length, IfOk, IsSome, OnOk, Some, map, slice_get};
 ghost use Rattle.std.specs.List.{AllByRecursion};
 ghost use Rattle.jfr_layout.specs.Classes.{IsFieldLayout, Sound, find_class};
 ghost use Rattle.jfr_layout.specs.declared.field_layout.FieldLayout.{FieldLayout};
@@ -10,14 +10,14 @@ ghost use Rattle.jfr_renumber.specs.Passed.{Adds, AddsValue};
 ghost use Rattle.jfr_renumber.specs.Rekeyed.{rekeyed_bytes};
 
 use crate::field::{Passed, RekeyContext, pass_field};
-use crate::rewriting::{NewKeys, put_rekeyed};
+use crate::rewriting::NewKeys;
 use jfr_base::NoMemory;
 use jfr_layout::{Classes, FieldLayout, Form, Shape};
 use jfr_value::{Node, Steps, layout_of};
 use std::sync::ledger::Ledger;
 
-/// Appends a value with new keys, as `put_rekeyed` does, but walks leaf by leaf only over arrays and composite
-/// fields.
+/// Appends an inline value with new keys, as `put_rekeyed` does, but walks leaf by leaf only over those of its
+/// fields that are arrays or composite.
 pub(crate) fn put_value<N: NewKeys, L: Ledger>(
     out: &mut Vec<u8>,
     classes: &Classes,
@@ -26,6 +26,8 @@ pub(crate) fn put_value<N: NewKeys, L: Ledger>(
     steps: &mut Steps<L>,
 ) -> Result<(), NoMemory>
     requires sound { Sound classes.now }
+    requires array { node.shape.array ≡ false }
+    requires constant { node.shape.constant ≡ false }
     requires value { IsValue classes.now node }
     ensures ok { OnOk result (out.new.items ≡ out.old.items ++ rekeyed_bytes (N.keys new.now) classes.now node.entry.bytes.now (node_of node.entry)) }
 {
@@ -49,7 +51,7 @@ pub(crate) fn put_value<N: NewKeys, L: Ledger>(
     Ok(())
 }
 
-/// Passes the value of this shape from `start` to `context.end`. Returns the offset of the first byte that
+/// Passes the inline value of this shape from `start` to `context.end`. Returns the offset of the first byte that
 /// isn't written yet; from there on the bytes stay the same.
 pub(crate) fn pass_value<N: NewKeys, L: Ledger>(
     out: &mut Vec<u8>,
@@ -60,6 +62,8 @@ pub(crate) fn pass_value<N: NewKeys, L: Ledger>(
 ) -> Result<usize, NoMemory>
     requires sound { Sound context.classes.now }
     requires from { start.from ≤ start.at }
+    requires array { shape.array ≡ false }
+    requires constant { shape.constant ≡ false }
     requires value { (v : Value) × IsNode context.classes.now context.bytes.now (node_at shape start.at context.end) v }
     ensures ok { IfOk result (λ from. AddsValue N.keys context.entry shape out.old.items start out.new.items from context.entry.end) }
 {
@@ -69,15 +73,13 @@ pub(crate) fn pass_value<N: NewKeys, L: Ledger>(
             let layouts = context.classes.layouts(layout.class_index);
             pass_fields(out, context, layouts, start, steps)
         }
-        Form::Array | Form::Key => pass_leaves(out, context, shape, start, steps),
-        Form::Integer | Form::Raw(_) | Form::Text => {
-            pass_single(out, context, shape, start, steps)
-        }
+        _ => pass_single(out, context, shape, start, steps),
     }
 }
 
-// Passes a value of this shape, as `pass_value` does. Most values are the fields of a class. This is for the
-// others, and is out of line, so that the layouts of fields stay in registers.
+// Passes a value of this shape, as `pass_value` does. Composite values, the usual case, are handled in the
+// caller. Other values are handled here, out of line, so that the compiler keeps the caller's variables in
+// registers.
 #[inline(never)]
 fn pass_single<N: NewKeys, L: Ledger>(
     out: &mut Vec<u8>,
@@ -98,30 +100,6 @@ fn pass_single<N: NewKeys, L: Ledger>(
     let mut passed = start;
     pass_field(out, context, &layout, &mut passed, steps)?;
     Ok(passed.from)
-}
-
-// Passes the value of this shape leaf by leaf.
-fn pass_leaves<N: NewKeys, L: Ledger>(
-    out: &mut Vec<u8>,
-    context: RekeyContext<'_, N>,
-    shape: Shape,
-    start: Passed,
-    steps: &mut Steps<L>,
-) -> Result<usize, NoMemory>
-    requires sound { Sound context.classes.now }
-    requires from { start.from ≤ start.at }
-    requires value { (v : Value) × IsNode context.classes.now context.bytes.now (node_at shape start.at context.end) v }
-    ensures ok { IfOk result (λ from. AddsValue N.keys context.entry shape out.old.items start out.new.items from context.entry.end) }
-{
-    out.extend_from_slice(&context.bytes[start.from..start.at])?;
-    let node = Node {
-        shape,
-        bytes: context.bytes,
-        at: start.at,
-        end: context.end,
-    };
-    put_rekeyed(out, context.classes, node, context.new, steps)?;
-    Ok(context.end)
 }
 
 // Passes the fields with these layouts, as `pass_value` does. The first starts at `start.at`. Numbers at the end of

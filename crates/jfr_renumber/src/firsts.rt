@@ -21,7 +21,8 @@ pub(crate) struct FirstEntries {
     seen: BTreeSet<(u64, u64)>,
 }
 
-/// The entries of the output: of those that are reached, the first of each group.
+/// Of the marked entries, the first for each class and new key. If the marked ones are those that kept events
+/// reach, and the keys are the new keys of all that is used, these are the entries of the output.
 pub(crate) fn first_entries(
     alloc: Global,
     chunk: &Chunk<'_>,
@@ -35,7 +36,7 @@ pub(crate) fn first_entries(
     collected(alloc, chunk.pools(), marks, keys)
 }
 
-// Of the entries that are reached, the first for each class and new key.
+// Of the marked entries, the first for each class and new key.
 fn collected<N: NewKeys>(
     alloc: Global,
     pools: &Pools,
@@ -56,7 +57,7 @@ fn collected<N: NewKeys>(
     Ok(firsts.entries)
 }
 
-// Adds an entry if `keep` is true.
+// Adds an entry if `keep` is true and no entry with the same class and new key was added.
 fn add_if<N: NewKeys>(
     firsts: &mut FirstEntries,
     entry: &EntryAt,
@@ -72,7 +73,7 @@ fn add_if<N: NewKeys>(
     add_entry(firsts, entry, new)
 }
 
-// Adds an entry, unless one with the same class and new key is there.
+// Adds an entry, unless one with the same class and new key was added.
 fn add_entry<N: NewKeys>(
     firsts: &mut FirstEntries,
     entry: &EntryAt,

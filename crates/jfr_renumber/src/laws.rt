@@ -1,5 +1,5 @@
 //! Laws of renumbering. The functions do nothing; their contracts are the laws.
-ghost use Rattle.std.specs.Prelude.{[], ◌∷◌, ◌++◌, if◌then◌else◌, ◌≡◌, ◌↔◌, ℕ, ◌≤◌, Bool, List, IsSome};
+ghost use Rattle.std.specs.Prelude.{[], ◌∷◌, ◌++◌, if◌then◌else◌, ◌≡◌, ◌↔◌, ℕ, ◌≤◌, Bool, List, Contains, IsSome};
 ghost use Rattle.std.specs.List.{list_any};
 ghost use Rattle.jfr_pool.specs.declared.entry.EntryAt.{EntryAt};
 ghost use Rattle.jfr_layout.specs.Classes.{Classes, Sound};
@@ -11,9 +11,9 @@ ghost use Rattle.jfr_chunk.specs.Reach.{kept_by};
 ghost use Rattle.jfr_chunk.specs.Scrub.{output_records};
 ghost use Rattle.jfr_chunk.specs.Parts.{AreParts, EventAt, Parts};
 ghost use Rattle.jfr_renumber.specs.Laws.{AgreeOnUsed, KeepsMeaning, RekeyedRecords};
-ghost use Rattle.jfr_renumber.specs.Meaning.{AreNewKeys, AreRekeyedEntries, IsRenumbered, RekeyedMeaning};
+ghost use Rattle.jfr_renumber.specs.Meaning.{AreNewKeys, AreRekeyedEntries, IsInOrder, IsRenumbered, RekeyedMeaning};
 ghost use Rattle.jfr_renumber.specs.Rekeyed.{rekeyed_pair};
-ghost use Rattle.jfr_renumber.specs.Renumber.{Used, assembled_by, firsts, firsts_with, new_bytes, new_key, renumber_of};
+ghost use Rattle.jfr_renumber.specs.Renumber.{Used, assembled_by, firsts, firsts_with, new_bytes, new_key, renumber_of, used_keys};
 
 /// A value with new keys is read by its format. It has the same shape and the same leaves, except for the
 /// keys.
@@ -22,16 +22,26 @@ pub fn rekeyed_values_are_read()
     ensures { (new : ℕ × ℕ → ℕ) (k : Classes) (v : Value) → Sound k → Fits k v → KeepsMeaning new k v }
 {}
 
-/// No new key is larger than the old one, the new keys of a class have no gaps, and two are equal exactly if
-/// the old keys are together.
-#[tactic(auto, using(crate::proofs::LawLaws::new_keys_are))]
-pub fn keys_are_numbered()
-    ensures { (p : Parts) (kept : List EventAt) → AreParts p → AreEvents p kept → AreNewKeys p kept (new_key p kept) }
+/// A class and a key are in the computed list of used keys exactly if a path of a kept event leads to a
+/// reference to them.
+pub fn used_keys_are_used()
+    ensures { (p : Parts) (kept : List EventAt) → AreParts p → AreEvents p kept → (t : ℕ × ℕ) → Contains (used_keys p kept) t ↔ Used p kept t }
 {}
 
-/// The law of paths with new keys. Let the events of a second chunk be the kept ones with new keys in their
-/// fields, and its entries the first of each group with new keys. Then each path leads to the same in both,
-/// except for the keys.
+/// No new key is larger than the old one. Two used keys of a class have equal new keys exactly if the old ones
+/// are together, and the new keys of the used keys of a class have no gaps. They are in the order of the
+/// smallest keys of the groups.
+#[tactic(auto, using(crate::proofs::LawLaws::new_keys_are, crate::proofs::LawLaws::new_keys_rise))]
+pub fn keys_are_numbered()
+    ensures keys { (p : Parts) (kept : List EventAt) → AreParts p → AreEvents p kept → AreNewKeys p kept (new_key p kept) }
+    ensures order { (p : Parts) (kept : List EventAt) → AreParts p → AreEvents p kept → IsInOrder p kept (new_key p kept) }
+{}
+
+/// The law of paths with new keys. Let the keys be new keys in the sense of `AreNewKeys`, and let the class lists
+/// of two chunks agree on the classes of used keys. Let the entries of the second chunk be the first of each
+/// group with new keys, and its events the kept ones with new keys in their fields. Then each path leads to the
+/// same in both, except for the keys. Whatever its events are, a used key has an entry in force in the first
+/// chunk exactly if its new key has one in the second (`missing`).
 #[tactic(auto, using(crate::proofs::LawLaws::renamed_the_same, crate::proofs::LawLaws::same_missing))]
 pub fn renamed_paths()
     ensures paths { (p q : Parts) (kept others : List EventAt) (new : ℕ × ℕ → ℕ) → AreParts p → AreEvents p kept → AreParts q → AreEvents q others → AreNewKeys p kept new → AgreeOnUsed p q kept → AreRekeyedEntries new p q (firsts p kept) q.entries → RekeyedRecords new p q kept others → RekeyedMeaning new p q kept others }
@@ -39,7 +49,7 @@ pub fn renamed_paths()
 {}
 
 /// The output of an accepted chunk with new keys is accepted, for every choice of the events that are kept. It
-/// has exactly these events and, of the constants that they reach, one for each value, and means the same
+/// has exactly these events and, of the entries that they reach, the first of each group, and means the same
 /// except for the keys.
 pub fn renumbered_means_the_same()
     ensures { (p : Parts) (flags : List Bool) → Whole p.bytes → AreParts p → IsRenumbered p (kept_by p flags) }

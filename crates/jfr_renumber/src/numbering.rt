@@ -17,8 +17,9 @@ pub(crate) struct UsedKey<'a> {
     pub value: Option<&'a [u8]>,
 }
 
-/// The numbers of the groups of a class's keys, in the order of the keys. A key whose value came earlier gets
-/// that value's number; any other key gets the next number.
+/// A number for each key. A key whose value came earlier gets that value's number; any other key gets the next
+/// number, from 0. If these are all keys of a class in a list, rising, and two are together exactly if they are
+/// equal or have the same value, the numbers are those of their groups.
 pub(crate) fn number_class<'a>(alloc: Global, keys: &[UsedKey<'a>]) -> Result<Vec<u64>, NoMemory>
     ensures ok { IfOk result (λ numbers. (together : ℕ × ℕ → ℕ × ℕ → Bool) (us : List (ℕ × ℕ)) (class : ℕ) → Together together → AreKeysOf together us class keys.now → numbers.items ≡ group_numbers together us class keys.now) }
 {
@@ -60,7 +61,9 @@ fn remember<'a>(
     Ok(())
 }
 
-/// The numbers of the groups of all used keys, in the order of the classes and keys.
+/// A number for each class and key, class by class. If these are all classes and keys in a list, rising, and two
+/// are together exactly if the classes are equal and the keys are equal or have the same value, the numbers are
+/// those of their groups.
 pub(crate) fn number_all<'a>(alloc: Global, keys: &[UsedKey<'a>]) -> Result<Vec<u64>, NoMemory>
     ensures ok { IfOk result (λ numbers. (together : ℕ × ℕ → ℕ × ℕ → Bool) (us : List (ℕ × ℕ)) → Together together → ArePairsOf together us keys.now → numbers.items ≡ pair_numbers together us keys.now) }
 {

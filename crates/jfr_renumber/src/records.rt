@@ -1,5 +1,5 @@
 //! Events with new keys.
-ghost use Rattle.std.specs.Prelude.{◌≡◌, ◌<◌, ◌≤◌, ◌+◌, ◌-◌, ◌^◌, ℕ, ◌++◌, length, take, drop, slice_get, IfSome, OnOk};
+ghost use Rattle.std.specs.Prelude.{◌≡◌, ◌<◌, ◌≤◌, ◌+◌, ◌-◌, ◌^◌, ℕ, ◌++◌, false, length, take, drop, slice_get, IfSome, OnOk};
 ghost use Rattle.jfr_base.specs.Integer.{FitsIn, spell_in};
 ghost use Rattle.jfr_frame.specs.Records.{IsRecord, record_end};
 ghost use Rattle.jfr_layout.specs.Classes.{Sound};
@@ -28,6 +28,8 @@ pub(crate) fn put_event<N: NewKeys, L: Ledger>(
     requires sound { Sound classes.now }
     requires record { IsRecord event.node.bytes.now event.frame }
     requires value { IsValue classes.now event.node }
+    requires array { event.node.shape.array ≡ false }
+    requires constant { event.node.shape.constant ≡ false }
     requires place { event.node.at ≡ event.frame.body }
     requires within { event.node.end ≤ record_end event.frame }
     requires below { (t : ℕ × ℕ) → N.keys new.now t ≤ t.1 }
@@ -42,6 +44,7 @@ pub(crate) fn put_event<N: NewKeys, L: Ledger>(
         end: node.end,
         new,
     };
+    // From `frame.at` on: the old size and the type are copied, and `put_size` overwrites the size.
     let passed = Passed {
         from: frame.at,
         at: node.at,

@@ -78,8 +78,8 @@ impl Renumberer {
         self.bytes.as_slice()
     }
 
-    /// The new key of a class and a key; `None` exactly if no path of a kept event leads to them.
-    /// Allocates nothing.
+    /// The new key of a class and a key; `None` exactly if no path of a kept event leads to a reference to them
+    /// (the law `used_keys_are_used`). Allocates nothing.
     pub fn new_key(&self, class: u64, key: u64) -> Option<u64>
         ensures { result ≡ number_of self.now.keys (class, key) }
     {

@@ -11,12 +11,10 @@ ghost use Rattle.jfr_renumber.specs.Rewriting.{KeyFollowsKind, leaf_with};
 
 use jfr_base::{NoMemory, read_within, write_var};
 use jfr_layout::{Classes, Kind};
+use jfr_text::{KEY_BYTE, is_key};
 use jfr_value::{Leaf, LeafKind, Leaves, Node, Steps};
 use std::alloc::AllocError;
 use std::sync::ledger::Ledger;
-
-/// The kind byte of a string that is a key.
-pub(crate) const KEY: u8 = 2;
 
 /// The new key of each class and key.
 pub(crate) trait NewKeys {
@@ -70,13 +68,13 @@ fn put_string<N: NewKeys>(out: &mut Vec<u8>, leaf: Leaf<'_>, new: &N) -> Result<
     requires holds { KeyFollowsKind (leaf_of leaf) }
     ensures ok { OnOk result (out.new.items ≡ out.old.items ++ leaf_with (N.keys new.now) (leaf_of leaf.entry)) }
 {
-    if leaf.spelled.is_empty() || leaf.spelled[0] != KEY {
+    if !is_key(leaf.spelled, 0, leaf.spelled.len()) {
         return out.extend_from_slice(leaf.spelled);
     }
     let Ok(key) = read_within(leaf.spelled, 1, leaf.spelled.len()) else {
         unreachable!()
     };
-    out.push(KEY)?;
+    out.push(KEY_BYTE)?;
     put_integer(out, new.new_key(leaf.class, key.value))
 }
 

@@ -67,9 +67,10 @@ pub fn renumber_stream<P: Place>(
     output: &str,
     filter: &Filter,
 ) -> Ending
-    // The file holds the output of each chunk before the first refused one: a recording that is cut into
-    // exactly these chunks. Each is accepted again, no longer than its scrub, and means the same except for
-    // the keys. `each` says this of the output of every accepted chunk, whatever the result is.
+    // If all chunks were handled, or one was refused, the file holds the output of each chunk before the first
+    // refused one: a recording that is cut into exactly these chunks. Each is accepted again, no longer than
+    // its scrub, and means the same except for the keys. `each` says this of the output of every accepted
+    // chunk, whatever the result is.
     ensures headline { IsByPlan result → IfKnown (P.state place.old).contents (P.state place.new).contents (Renumbers filter.now input.now output.now) }
     ensures each { (c : List ℕ) → Whole c → refusal_of c ≡ None → IsRenumberedOutput filter.now c (renumbered filter.now c) }
 

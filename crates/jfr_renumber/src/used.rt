@@ -33,8 +33,8 @@ impl Visit<Pools> for Missing {
 
     ghost takes = { λ pools target old new. Lists pools (target ∷ []) old new };
 
-    /// Adds a class and a key, unless they have an entry in force. Most calls repeat the pair that was added
-    /// last, a class and the key 0; it isn't added again.
+    /// Adds a class and a key, unless they have an entry in force. Most calls without an entry repeat the pair
+    /// that was added last, a class and the key 0; it isn't added again.
     #[inline(always)]
     fn visit(&mut self, pools: &Pools, class: u64, key: u64) {
         if pools.entry(class, key).is_some() {
@@ -146,8 +146,9 @@ fn list_value(list: &mut Missing, classes: &Classes, pools: &Pools, node: Node<'
     }
 }
 
-// Adds what a value of this shape refers to. Most values are the fields of a class. This is for the others, and
-// is out of line, so that the layouts of fields stay in registers.
+// Adds the classes and keys to which a value of this shape refers and that have no entry in force. Composite
+// values, the usual case, are handled in the caller. Other values are handled here, out of line, so that the
+// compiler keeps the caller's variables in registers.
 #[inline(never)]
 fn list_single(list: &mut Missing, walk: Walk<'_, '_, Pools>, shape: Shape, at: usize)
     requires sound { Sound walk.classes.now }

@@ -8,7 +8,7 @@ use jfr_base::NoMemory;
 use jfr_chunk::Chunk;
 use std::alloc::Global;
 
-/// These classes and keys, each with the bytes of the value of its entry in force.
+/// These classes and keys, each with the bytes of the value of its entry in force, if there is one.
 pub(crate) fn with_values<'a>(
     alloc: Global,
     chunk: &Chunk<'a>,

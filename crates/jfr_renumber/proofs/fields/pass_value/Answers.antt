@@ -1,11 +1,10 @@
-use Rattle.std.proofs.Common.{◌++◌, ap, refl, subst, sym, ◌∙◌}
+use Rattle.std.proofs.Common.{◌++◌, ap, subst, sym, ◌∙◌}
 use Rattle.std.specs.Prelude.{IsSome, slice_range}
 use Rattle.std.proofs.lemmas.Result.{IfOk-weaker}
 use Rattle.jfr_layout.specs.Classes.{Class, find_class}
 use Rattle.jfr_layout.specs.declared.shape.Shape.{Shape}
 use Rattle.jfr_value.specs.Nodes.{node_at}
-use Rattle.jfr_value.proofs.LayoutLaws.{layout_class}
-use Rattle.jfr_renumber.proofs.BaseLaws.{base_layout}
+use Rattle.jfr_value.proofs.ChildLaws.{inline_known}
 use Rattle.jfr_renumber.proofs.FieldLaws.{fields_shape, inline_layout, layouts_row}
 use Rattle.jfr_renumber.proofs.fields.pass_value.Goals as goal
 
@@ -41,7 +40,6 @@ pub pass_single-requires-clause-known : goal.pass_single-requires-clause-known
 pass_single-requires-clause-known g c =
     let k = c.args.context.classes.now in
     let v = c.requires.value in
-    let y = c.layout_of-layout.ensures in
-    let l = c.layout_of-layout.result in
-    let d = layout_class k l (base_layout k c.args.context.bytes.now (node_at c.args.shape c.args.start.at c.args.context.end) v.0 l v.1 y.shape y.form y.known c.in-Integer.is) in
-    subst (λ (z : Shape). IsSome {T = Class} (find_class k z.class)) y.shape (subst (λ z. IsSome {T = Class} z) (sym d.found) refl)
+    let s = v.1.shape in
+    let known = inline_known k v.0 (ap (λ (z : Shape). z.array) (sym s) ∙ c.requires.array) (ap (λ (z : Shape). z.constant) (sym s) ∙ c.requires.constant) v.1.fits in
+    subst (λ (z : Shape). IsSome {T = Class} (find_class k z.class)) (sym s) known

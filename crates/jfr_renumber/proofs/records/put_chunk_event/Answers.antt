@@ -2,10 +2,17 @@ use Rattle.std.proofs.Common.{sym}
 use Rattle.std.proofs.lemmas.Result.{on_ok_weaker}
 use Rattle.jfr_chunk.specs.Indexed.{event_at}
 use Rattle.jfr_renumber.proofs.EventWriting.{event_facts, event_written}
+use Rattle.jfr_renumber.proofs.ListingLaws.{event_inline}
 use Rattle.jfr_renumber.proofs.records.put_chunk_event.Goals as goal
 
 pub put_event-requires-clause-record : goal.put_event-requires-clause-record
 put_event-requires-clause-record g c = (event_facts c.args.chunk.now c.parts_are_valid.ensures.parts c.args.number (event_at c.in-Some.event) c.in-Some.event.node.bytes.now c.in-Some.ensures.exact c.in-Some.ensures.of_chunk.bytes).is_record
+
+pub put_event-requires-clause-array : goal.put_event-requires-clause-array
+put_event-requires-clause-array g c = (event_inline c.args.chunk.now c.parts_are_valid.ensures.parts c.args.number (event_at c.in-Some.event) c.in-Some.ensures.exact).0
+
+pub put_event-requires-clause-constant : goal.put_event-requires-clause-constant
+put_event-requires-clause-constant g c = (event_inline c.args.chunk.now c.parts_are_valid.ensures.parts c.args.number (event_at c.in-Some.event) c.in-Some.ensures.exact).1
 
 pub put_event-requires-clause-place : goal.put_event-requires-clause-place
 put_event-requires-clause-place g c = (event_facts c.args.chunk.now c.parts_are_valid.ensures.parts c.args.number (event_at c.in-Some.event) c.in-Some.event.node.bytes.now c.in-Some.ensures.exact c.in-Some.ensures.of_chunk.bytes).place

@@ -1,4 +1,4 @@
-use Rattle.std.proofs.Common.{◌++◌, [], ◌∷◌, ap, arith, sym, ◌∙◌}
+use Rattle.std.proofs.Common.{◌++◌, [], ◌∷◌, ap, sym, ◌∙◌}
 use Rattle.jfr_base.specs.Integer.{spell}
 use Rattle.jfr_value.specs.Leaves.{leaf_of}
 use Rattle.std.proofs.lemmas.List.{append_assoc}
@@ -8,7 +8,8 @@ use Rattle.jfr_renumber.proofs.rewriting.put_string.Goals as goal
 
 pub returns : goal.returns
 returns g c =
-    let written = string_with (g.N.NewKeys.keys c.args.new.now) (leaf_of c.args.leaf) c.in-Ok.key.end c.in-Ok.key.value c.requires.holds c.requires.text (omega (arith, c.in-Ok.ensures.range)) c.if-leaf-ne-KEY.false c.in-Ok.ensures.ok in
+    let found = c.is_key.ensures.exact.0 c.if-not-is_key.false in
+    let written = string_with (g.N.NewKeys.keys c.args.new.now) (leaf_of c.args.leaf) c.in-Ok.key.end c.in-Ok.key.value c.requires.holds c.requires.text found.0 found.1 c.in-Ok.ensures.ok in
     record {
       ok = on_ok_weaker c.put_integer.result (λ e.
           e ∙ (ap (λ z. z ++ spell c.new_key.result) c.in_ok-push.ensures.items
