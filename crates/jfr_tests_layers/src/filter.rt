@@ -67,11 +67,28 @@ fn faults(rt: HostRuntime) -> Result<(), Fail> {
     has_fault_text(&rt, rt.alloc())
 }
 
-/// Words of these texts.
-fn words_of(alloc: Global, texts: &[&str]) -> Result<Words, NoMemory> {
-    let mut words = Words::new(alloc);
-    push_texts(&mut words, texts)?;
-    Ok(words)
+/// Gives an option to a filter that lacks it.
+fn give(filter: &mut Filter, side: Side, list: &str) -> Result<(), Fail> {
+    if filter.has(side) {
+        Err("the option is given already")?;
+    }
+    filter.add(side, list)?;
+    Ok(())
+}
+
+/// Gives options to a filter.
+fn give_all(filter: &mut Filter, options: &[(Side, &str)]) -> Result<(), Fail> {
+    for (side, list) in options {
+        give(filter, *side, list)?;
+    }
+    Ok(())
+}
+
+/// The filter of these options.
+fn filter_of(alloc: Global, options: &[(Side, &str)]) -> Result<Filter, Fail> {
+    let mut filter = Filter::new(alloc);
+    give_all(&mut filter, options)?;
+    Ok(filter)
 }
 
 /// Adds texts to words.
@@ -82,96 +99,123 @@ fn push_texts(words: &mut Words, texts: &[&str]) -> Result<(), NoMemory> {
     Ok(())
 }
 
-/// Whether the filter keeps an event of this class and these categories, on this thread.
-fn keeps(
+/// Words of these texts.
+fn words_of(alloc: Global, texts: &[&str]) -> Result<Words, NoMemory> {
+    let mut words = Words::new(alloc);
+    push_texts(&mut words, texts)?;
+    Ok(words)
+}
+
+/// An event: its class, its categories and its thread, and whether it is kept.
+type Event = (
+    &'static str,
+    &'static [&'static str],
+    Option<&'static str>,
+    bool,
+);
+
+/// The options of a filter, and events.
+type Case = (&'static [(Side, &'static str)], &'static [Event]);
+
+/// Whether the filter keeps the event.
+fn is_kept(filter: &Filter, event: &Event, categories: &Words) -> bool {
+    filter.keeps(event.0, categories, event.2)
+}
+
+/// The filter keeps the event, or doesn't, as the row says.
+fn see_event(rt: &impl Abort, alloc: Global, filter: &Filter, event: &Event) -> Result<(), Fail> {
+    let categories = words_of(alloc, event.1)?;
+    assert!(rt; is_kept(filter, event, &categories) == event.3, "{event:?}");
+    Ok(())
+}
+
+/// The filter keeps those of the events that it should.
+fn see_events(
+    rt: &impl Abort,
     alloc: Global,
     filter: &Filter,
-    name: &str,
-    categories: &[&str],
-    thread: Option<&str>,
-) -> Result<bool, NoMemory> {
-    let categories = words_of(alloc, categories)?;
-    Ok(filter.keeps(name, &categories, thread))
-}
-
-/// The filter of two lists of events.
-fn two_lists(alloc: Global) -> Result<Filter, FilterFault> {
-    let mut filter = Filter::new(alloc);
-    filter.add(Side::IncludeEvents, "ThreadPark,my.*")?;
-    filter.add(Side::ExcludeEvents, "my.internal.*")?;
-    Ok(filter)
-}
-
-/// Without a list each event is kept.
-fn keeps_all(rt: &impl Abort, alloc: Global) -> Result<(), Fail> {
-    let filter = Filter::new(alloc);
-    assert!(rt; keeps(alloc, &filter, "jdk.CPULoad", &[], None)?);
+    events: &[Event],
+) -> Result<(), Fail> {
+    for event in events {
+        see_event(rt, alloc, filter, event)?;
+    }
     Ok(())
 }
 
-/// Events are kept by their classes.
-fn keeps_by_class(rt: &impl Abort, alloc: Global) -> Result<(), Fail> {
-    let filter = two_lists(alloc)?;
-    assert!(rt; keeps(alloc, &filter, "jdk.ThreadPark", &[], None)?);
-    assert!(rt; keeps(alloc, &filter, "my.Event", &[], None)?);
-    assert!(rt; !keeps(alloc, &filter, "my.internal.Event", &[], None)?);
-    assert!(rt; !keeps(alloc, &filter, "jdk.CPULoad", &[], None)?);
+/// The filter of these options keeps those of the events that it should.
+fn see_case(rt: &impl Abort, alloc: Global, (options, events): Case) -> Result<(), Fail> {
+    let filter = filter_of(alloc, options)?;
+    see_events(rt, alloc, &filter, events)
+}
+
+/// So does each filter.
+fn see_cases(rt: &impl Abort, alloc: Global, cases: &[Case]) -> Result<(), Fail> {
+    for case in cases {
+        see_case(rt, alloc, *case)?;
+    }
     Ok(())
 }
+
+const BY_CLASS: [Case; 2] = [
+    // Without an option each event is kept.
+    (&[], &[("jdk.CPULoad", &[], None, true)]),
+    (
+        &[
+            (Side::IncludeEvents, "ThreadPark,my.*"),
+            (Side::ExcludeEvents, "my.internal.*"),
+        ],
+        &[
+            ("jdk.ThreadPark", &[], None, true),
+            ("my.Event", &[], None, true),
+            ("my.internal.Event", &[], None, false),
+            ("jdk.CPULoad", &[], None, false),
+        ],
+    ),
+];
 
 #[test]
 fn events(rt: HostRuntime) -> Result<(), Fail> {
-    keeps_all(&rt, rt.alloc())?;
-    keeps_by_class(&rt, rt.alloc())
+    see_cases(&rt, rt.alloc(), &BY_CLASS)
 }
 
-/// Events are kept by their categories.
-fn keeps_by_category(rt: &impl Abort, alloc: Global) -> Result<(), Fail> {
-    let system = &["Java", "Operating System"];
-    let mut filter = Filter::new(alloc);
-    filter.add(Side::IncludeCategories, "Operating*")?;
-    assert!(rt; keeps(alloc, &filter, "jdk.CPULoad", system, None)?);
-    assert!(rt; !keeps(alloc, &filter, "jdk.CPULoad", &[], None)?);
-    Ok(())
-}
+const BY_CATEGORY: [Case; 1] = [(
+    &[(Side::IncludeCategories, "Operating*")],
+    &[
+        ("jdk.CPULoad", &["Java", "Operating System"], None, true),
+        ("jdk.CPULoad", &[], None, false),
+    ],
+)];
 
 #[test]
 fn categories(rt: HostRuntime) -> Result<(), Fail> {
-    keeps_by_category(&rt, rt.alloc())
+    see_cases(&rt, rt.alloc(), &BY_CATEGORY)
 }
 
-/// Without a thread text nothing is included by it.
-fn includes_threads(rt: &impl Abort, alloc: Global) -> Result<(), Fail> {
-    let mut include = Filter::new(alloc);
-    include.add(Side::IncludeThreads, "worker*")?;
-    assert!(rt; keeps(alloc, &include, "t.A", &[], Some("worker-1"))?);
-    assert!(rt; !keeps(alloc, &include, "t.A", &[], None)?);
-    Ok(())
-}
-
-/// Without one nothing is excluded.
-fn excludes_threads(rt: &impl Abort, alloc: Global) -> Result<(), Fail> {
-    let mut exclude = Filter::new(alloc);
-    exclude.add(Side::ExcludeThreads, "*")?;
-    assert!(rt; !keeps(alloc, &exclude, "t.A", &[], Some("main"))?);
-    assert!(rt; keeps(alloc, &exclude, "t.A", &[], None)?);
-    Ok(())
-}
+// An event without a thread is neither included by its thread nor excluded.
+const BY_THREAD: [Case; 2] = [
+    (
+        &[(Side::IncludeThreads, "worker*")],
+        &[
+            ("t.A", &[], Some("worker-1"), true),
+            ("t.A", &[], None, false),
+        ],
+    ),
+    (
+        &[(Side::ExcludeThreads, "*")],
+        &[("t.A", &[], Some("main"), false), ("t.A", &[], None, true)],
+    ),
+];
 
 #[test]
 fn threads(rt: HostRuntime) -> Result<(), Fail> {
-    includes_threads(&rt, rt.alloc())?;
-    excludes_threads(&rt, rt.alloc())
+    see_cases(&rt, rt.alloc(), &BY_THREAD)
 }
 
-/// The filter of a list of events, one of categories and one of threads.
-fn three_lists(alloc: Global) -> Result<Filter, FilterFault> {
-    let mut filter = Filter::new(alloc);
-    filter.add(Side::IncludeEvents, "t.*")?;
-    filter.add(Side::ExcludeCategories, "Java")?;
-    filter.add(Side::IncludeThreads, "main")?;
-    Ok(filter)
-}
+const THREE_OPTIONS: [(Side, &str); 3] = [
+    (Side::IncludeEvents, "t.*"),
+    (Side::ExcludeCategories, "Java"),
+    (Side::IncludeThreads, "main"),
+];
 
 /// Only the class, and only the thread.
 fn allows_parts(rt: &impl Abort, filter: &Filter, none: &Words, java: &Words) {
@@ -191,16 +235,21 @@ fn asks_parts(rt: &impl Abort, alloc: Global, filter: &Filter) -> Result<(), Fai
     Ok(())
 }
 
-/// They are asked of the filter of three lists.
-fn asks_three_lists(rt: &impl Abort, alloc: Global) -> Result<(), Fail> {
-    let filter = three_lists(alloc)?;
+/// They are asked of the filter of three options.
+fn asks_three_options(rt: &impl Abort, alloc: Global) -> Result<(), Fail> {
+    let filter = filter_of(alloc, &THREE_OPTIONS)?;
     asks_parts(rt, alloc, &filter)
 }
 
 #[test]
 fn parts(rt: HostRuntime) -> Result<(), Fail> {
-    asks_three_lists(&rt, rt.alloc())
+    asks_three_options(&rt, rt.alloc())
 }
+
+const TWO_OPTIONS: [(Side, &str); 2] = [
+    (Side::IncludeEvents, "A"),
+    (Side::ExcludeCategories, "A,Java*"),
+];
 
 /// Each option by itself, for one text: a class is matched by its simple name too, a category only whole.
 fn asks_options(rt: &impl Abort, filter: &Filter) {
@@ -212,9 +261,7 @@ fn asks_options(rt: &impl Abort, filter: &Filter) {
 
 /// They are asked of the filter of two options.
 fn asks_two_options(rt: &impl Abort, alloc: Global) -> Result<(), Fail> {
-    let mut filter = Filter::new(alloc);
-    filter.add(Side::IncludeEvents, "A")?;
-    filter.add(Side::ExcludeCategories, "A,Java*")?;
+    let filter = filter_of(alloc, &TWO_OPTIONS)?;
     asks_options(rt, &filter);
     Ok(())
 }

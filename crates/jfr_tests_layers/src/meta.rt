@@ -62,9 +62,9 @@ fn flawed(offset: u64, reason: Reason) -> Option<ReadFault> {
 
 // The metadata of a chunk without classes.
 fn see_no_classes(rt: &impl Abort, none: &Metadata) {
-    assert_eq!(rt; (none.start, none.duration, none.id), (0, 0, 1));
-    assert_eq!(rt; none.strings.get(1), Some("metadata"));
-    assert_eq!(rt; none.classes.len(), 0);
+    let numbers = (none.start, none.duration, none.id, none.classes.len());
+    assert_eq!(rt; numbers, (0, 0, 1, 0));
+    assert!(rt; none.strings.get(1) == Some("metadata"));
 }
 
 fn read_no_classes(rt: &impl Abort, alloc: Global) -> Result<(), Fail> {

@@ -1,24 +1,31 @@
 //! Strings from outside: their bytes, and their texts or flaws.
 use jfr_base::{Flaw, Reason};
-use jfr_outside::Text;
-use jfr_text::{read_string, same_text, short_units_end, text_of};
+use jfr_outside::{NoMemory, Text};
+use jfr_text::{StringSpan, read_string, same_text, short_units_end, text_of};
 use std::alloc::Global;
 use std::process::Abort;
 use std::test::Fail;
 
+/// Whether the string has this text and no other, or has none.
+fn is_same(span: &StringSpan<'_>, text: Option<&str>) -> bool {
+    match text {
+        Some(text) => same_text(span, text) && !same_text(span, "another"),
+        None => !same_text(span, ""),
+    }
+}
+
+/// Whether the text that is made of the string is this one.
+fn is_made(alloc: Global, span: &StringSpan<'_>, text: Option<&str>) -> Result<bool, NoMemory> {
+    let made = text_of(alloc, span)?;
+    Ok(made.as_ref().map(Text::as_str) == text)
+}
+
 /// The string is the bytes, to the last one, and has this text.
 fn has_text(rt: &impl Abort, alloc: Global, bytes: &[u8], text: Option<&str>) -> Result<(), Fail> {
     let span = read_string(bytes, 0, bytes.len())?;
-    assert_eq!(rt; span.end, bytes.len());
-    match text {
-        Some(text) => {
-            assert!(rt; same_text(&span, text));
-            assert!(rt; !same_text(&span, "another"));
-        }
-        None => assert!(rt; !same_text(&span, "")),
-    }
-    let made = text_of(alloc, &span)?;
-    assert_eq!(rt; made.as_ref().map(Text::as_str), text);
+    assert_eq!(rt; span.end, bytes.len(), "{text:?}");
+    assert!(rt; is_same(&span, text), "{text:?}");
+    assert!(rt; is_made(alloc, &span, text)?, "{text:?}");
     Ok(())
 }
 

@@ -3,70 +3,78 @@
 ghost use Rattle.std.specs.Prelude.{◌≡◌, ◌<◌, IfSome};
 ghost use Rattle.jfr_value.specs.Nodes.{IsValue};
 
-use crate::classes::{add, inline, items, reference, references};
+use crate::classes::Has::{Inline, Items, Reference, References};
+use crate::classes::{ClassLine, Has, add, classes_of, shape};
 use jfr_base::{Flaw, Reason};
-use jfr_layout::{ClassFault, ClassList, Classes, Kind, Shape};
+use jfr_layout::{ClassFault, ClassList, Classes, Kind};
+use jfr_outside::NoMemory;
 use jfr_value::{LeafKind, Leaves, Node, Step, Steps, child, end_of};
 use std::alloc::{AllocError, Global};
 use std::marker::Brand;
+use std::process::Abort;
 use std::sync::ledger::{Blank, Ledger};
 use std::test::Fail;
 
 // A number, a double, a string and a class of two fields: keys of its own class, and a double.
-fn some_classes(alloc: Global) -> Result<Classes, ClassFault> {
-    let mut list = ClassList::new(alloc);
-    add(&mut list, alloc, 1, "long", None, &[])?;
-    add(&mut list, alloc, 2, "double", None, &[])?;
-    add(&mut list, alloc, 3, "java.lang.String", None, &[])?;
-    let fields = [("a", references(4)), ("b", inline(2))];
-    add(&mut list, alloc, 4, "t.Pair", None, &fields)?;
-    Classes::make(alloc, list)
-}
+const SOME_CLASSES: [ClassLine; 4] = [
+    (1, "long", None, &[]),
+    (2, "double", None, &[]),
+    (3, "java.lang.String", None, &[]),
+    (4, "t.Pair", None, &[("a", References(4)), ("b", Inline(2))]),
+];
 
 // The classes of stack traces, with the ids of a recording of JDK 17.
-fn trace_classes(alloc: Global) -> Result<Classes, ClassFault> {
-    let mut list = ClassList::new(alloc);
-    let frame = [
-        ("a", reference(168)),
-        ("b", inline(207)),
-        ("c", inline(207)),
-        ("d", reference(189)),
-    ];
-    let trace = [("a", inline(212)), ("b", items(197))];
-    add(&mut list, alloc, 188, "jdk.types.StackTrace", None, &trace)?;
-    add(&mut list, alloc, 197, "jdk.types.StackFrame", None, &frame)?;
-    add(&mut list, alloc, 168, "jdk.types.Method", None, &[])?;
-    add(&mut list, alloc, 189, "jdk.types.FrameType", None, &[])?;
-    add(&mut list, alloc, 207, "int", None, &[])?;
-    add(&mut list, alloc, 212, "boolean", None, &[])?;
-    Classes::make(alloc, list)
+const TRACE_CLASSES: [ClassLine; 6] = [
+    (
+        188,
+        "jdk.types.StackTrace",
+        None,
+        &[("a", Inline(212)), ("b", Items(197))],
+    ),
+    (
+        197,
+        "jdk.types.StackFrame",
+        None,
+        &[
+            ("a", Reference(168)),
+            ("b", Inline(207)),
+            ("c", Inline(207)),
+            ("d", Reference(189)),
+        ],
+    ),
+    (168, "jdk.types.Method", None, &[]),
+    (189, "jdk.types.FrameType", None, &[]),
+    (207, "int", None, &[]),
+    (212, "boolean", None, &[]),
+];
+
+// Adds as many composite classes as may nest, each with an array of the next.
+fn add_deep(list: &mut ClassList, alloc: Global) -> Result<(), NoMemory> {
+    for id in 0..33u64 {
+        let next = Items(id.saturating_add(1));
+        add(list, alloc, id, "t.Deep", None, &[("a", next)])?;
+    }
+    add(list, alloc, 33, "long", None, &[])
 }
 
-// As many composite classes as may nest, each with an array of the next.
 fn deep_classes(alloc: Global) -> Result<Classes, ClassFault> {
     let mut list = ClassList::new(alloc);
-    for id in 0..33u64 {
-        let next = items(id.saturating_add(1));
-        add(&mut list, alloc, id, "t.Deep", None, &[("a", next)])?;
-    }
-    add(&mut list, alloc, 33, "long", None, &[])?;
+    add_deep(&mut list, alloc)?;
     Classes::make(alloc, list)
 }
 
 // Where a value ends at the front of the bytes.
-fn front(classes: &Classes, shape: Shape, bytes: &[u8]) -> Option<Result<usize, Flaw>> {
+fn front(classes: &Classes, has: Has, bytes: &[u8]) -> Option<Result<usize, Flaw>> {
+    let shape = shape(has);
     classes.kind(shape.class)?;
     Some(end_of(classes, shape, bytes, 0, bytes.len()))
 }
 
 /// The value at the front of the bytes.
-pub(crate) fn node_at_front<'a>(
-    classes: &Classes,
-    shape: Shape,
-    bytes: &'a [u8],
-) -> Option<Node<'a>>
+pub(crate) fn node_at_front<'a>(classes: &Classes, has: Has, bytes: &'a [u8]) -> Option<Node<'a>>
     ensures { IfSome result (IsValue classes.now) }
 {
+    let shape = shape(has);
     classes.kind(shape.class)?;
     match end_of(classes, shape, bytes, 0, bytes.len()) {
         Ok(end) => Some(Node {
@@ -100,23 +108,56 @@ fn leaves_of<L: Ledger>(
     Ok(seen)
 }
 
+// What is at the front of bytes, and where it ends or is flawed.
+type End = (Has, &'static [u8], Result<usize, Flaw>);
+
+const ENDS: [End; 4] = [
+    // A count of items that aren't there.
+    (
+        Items(1),
+        &[0x80, 0x80, 0x80, 0x80, 0x80, 0x20, 0x01],
+        Err(Flaw {
+            offset: 7,
+            reason: Reason::Short,
+        }),
+    ),
+    (
+        Inline(3),
+        &[6],
+        Err(Flaw {
+            offset: 0,
+            reason: Reason::StringKind,
+        }),
+    ),
+    (Inline(3), &[3, 1, 120, 9], Ok(3)),
+    (Inline(2), &[0x3f, 0xf0, 0, 0, 0, 0, 0, 0], Ok(8)),
+];
+
+fn see_end(rt: &impl Abort, classes: &Classes, (has, bytes, end): &End) {
+    assert_eq!(rt; front(classes, *has, bytes), Some(*end));
+}
+
 #[test]
 fn values_end(rt: HostRuntime) -> Result<(), Fail> {
-    let classes = some_classes(rt.alloc())?;
-    let short = Flaw {
-        offset: 7,
-        reason: Reason::Short,
-    };
-    let count = [0x80, 0x80, 0x80, 0x80, 0x80, 0x20, 0x01];
-    assert_eq!(rt; front(&classes, items(1), &count), Some(Err(short)));
-    let kind = Flaw {
-        offset: 0,
-        reason: Reason::StringKind,
-    };
-    assert_eq!(rt; front(&classes, inline(3), &[6]), Some(Err(kind)));
-    assert_eq!(rt; front(&classes, inline(3), &[3, 1, 120, 9]), Some(Ok(3)));
-    let double = [0x3f, 0xf0, 0, 0, 0, 0, 0, 0];
-    assert_eq!(rt; front(&classes, inline(2), &double), Some(Ok(8)));
+    let classes = classes_of(rt.alloc(), &SOME_CLASSES)?;
+    for end in ENDS.iter() {
+        see_end(&rt, &classes, end);
+    }
+    Ok(())
+}
+
+// The leaves of the value at the front of the bytes are these.
+fn see_leaves(
+    rt: &impl Abort,
+    alloc: Global,
+    classes: &Classes,
+    node: Node<'_>,
+    expected: &[(LeafKind, usize)],
+) -> Result<(), Fail>
+    requires { IsValue classes.now node }
+{
+    let seen = leaves_of::<Brand>(alloc, Blank::new(1), classes, node)?;
+    assert!(rt; seen.as_slice() == expected);
     Ok(())
 }
 
@@ -135,22 +176,28 @@ const OF_TWO_PAIRS: [(LeafKind, usize); 7] = [
     (LeafKind::Base(Kind::Double), 13),
 ];
 
+fn see_pairs(rt: &impl Abort, alloc: Global, classes: &Classes) -> Result<(), Fail> {
+    let node = node_at_front(classes, Items(4), &TWO_PAIRS).ok_or("no value")?;
+    see_leaves(rt, alloc, classes, node, &OF_TWO_PAIRS)
+}
+
 #[test]
 fn leaves_follow_one_another(rt: HostRuntime) -> Result<(), Fail> {
-    let classes = some_classes(rt.alloc())?;
-    let node = node_at_front(&classes, items(4), &TWO_PAIRS).ok_or("no value")?;
-    let seen = leaves_of::<Brand>(rt.alloc(), Blank::new(1), &classes, node)?;
-    assert_eq!(rt; seen.as_slice(), OF_TWO_PAIRS.as_slice());
+    let classes = classes_of(rt.alloc(), &SOME_CLASSES)?;
+    see_pairs(&rt, rt.alloc(), &classes)
+}
+
+fn see_second(rt: &impl Abort, classes: &Classes) -> Result<(), Fail> {
+    let node = node_at_front(classes, Items(4), &TWO_PAIRS).ok_or("no value")?;
+    let second = child(classes, &node, &Step::Item(1)).ok_or("no item")?;
+    assert_eq!(rt; (second.at, second.end), (12, 21));
     Ok(())
 }
 
 #[test]
 fn an_item_follows_the_one_before(rt: HostRuntime) -> Result<(), Fail> {
-    let classes = some_classes(rt.alloc())?;
-    let node = node_at_front(&classes, items(4), &TWO_PAIRS).ok_or("no value")?;
-    let second = child(&classes, &node, &Step::Item(1)).ok_or("no item")?;
-    assert_eq!(rt; (second.at, second.end), (12, 21));
-    Ok(())
+    let classes = classes_of(rt.alloc(), &SOME_CLASSES)?;
+    see_second(&rt, &classes)
 }
 
 // A constant of a recording of JDK 17: three frames.
@@ -178,34 +225,48 @@ const OF_TRACE: [(LeafKind, usize); 14] = [
     (LeafKind::Key(0), 28),
 ];
 
-#[test]
-fn stack_traces_are_read(rt: HostRuntime) -> Result<(), Fail> {
-    let classes = trace_classes(rt.alloc())?;
-    let node = node_at_front(&classes, inline(188), &TRACE).ok_or("no value")?;
+fn see_trace(rt: &impl Abort, alloc: Global, classes: &Classes) -> Result<(), Fail> {
+    let node = node_at_front(classes, Inline(188), &TRACE).ok_or("no value")?;
     assert_eq!(rt; node.end, 29);
-    let seen = leaves_of::<Brand>(rt.alloc(), Blank::new(1), &classes, node)?;
-    assert_eq!(rt; seen.as_slice(), OF_TRACE.as_slice());
-    Ok(())
+    see_leaves(rt, alloc, classes, node, &OF_TRACE)
 }
 
-// Arrays of one item, 33 times, and of two numbers in the last.
-fn deep_bytes(alloc: Global) -> Result<Vec<u8>, AllocError> {
-    let mut bytes = Vec::new(alloc);
+#[test]
+fn stack_traces_are_read(rt: HostRuntime) -> Result<(), Fail> {
+    let classes = classes_of(rt.alloc(), &TRACE_CLASSES)?;
+    see_trace(&rt, rt.alloc(), &classes)
+}
+
+// Adds arrays of one item, 33 times, and of two numbers in the last.
+fn push_deep(bytes: &mut Vec<u8>) -> Result<(), AllocError> {
     for _ in 0..33 {
         bytes.push(1)?;
     }
-    bytes.extend_from_slice(&[2, 5, 6])?;
+    bytes.extend_from_slice(&[2, 5, 6])
+}
+
+fn deep_bytes(alloc: Global) -> Result<Vec<u8>, AllocError> {
+    let mut bytes = Vec::new(alloc);
+    push_deep(&mut bytes)?;
     Ok(bytes)
+}
+
+// There are 36 leaves, of which the last two are numbers.
+fn see_deep_leaves(rt: &impl Abort, leaves: &[(LeafKind, usize)]) {
+    assert!(rt; leaves.len() == 36);
+    assert!(rt; leaves.get(34) == Some(&(LeafKind::Base(Kind::Long), 34)));
+}
+
+fn see_deep(rt: &impl Abort, alloc: Global, classes: &Classes, bytes: &[u8]) -> Result<(), Fail> {
+    let node = node_at_front(classes, Items(0), bytes).ok_or("no value")?;
+    let seen = leaves_of::<Brand>(alloc, Blank::new(1), classes, node)?;
+    see_deep_leaves(rt, &seen);
+    Ok(())
 }
 
 #[test]
 fn values_nest(rt: HostRuntime) -> Result<(), Fail> {
-    let alloc = rt.alloc();
-    let classes = deep_classes(alloc)?;
-    let bytes = deep_bytes(alloc)?;
-    let node = node_at_front(&classes, items(0), &bytes).ok_or("no value")?;
-    let seen = leaves_of::<Brand>(alloc, Blank::new(1), &classes, node)?;
-    assert_eq!(rt; seen.len(), 36);
-    assert_eq!(rt; seen.get(34), Some(&(LeafKind::Base(Kind::Long), 34)));
-    Ok(())
+    let classes = deep_classes(rt.alloc())?;
+    let bytes = deep_bytes(rt.alloc())?;
+    see_deep(&rt, rt.alloc(), &classes, &bytes)
 }

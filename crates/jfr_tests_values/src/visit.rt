@@ -3,13 +3,15 @@
 ghost use Rattle.std.specs.Prelude.{◌≡◌, ◌<◌};
 ghost use Rattle.jfr_value.specs.Nodes.{IsValue};
 
-use crate::classes::{add, inline, items, reference, references};
+use crate::classes::Has::{Inline, Items, Reference, References};
+use crate::classes::{ClassLine, Has, classes_of, shape};
 use crate::value::node_at_front;
 use jfr_base::{Flaw, Reason};
-use jfr_layout::{ClassFault, ClassList, Classes, Shape};
+use jfr_layout::Classes;
 use jfr_value::{Node, Steps, Visit, Walk, end_visiting, layout_of, visit_targets};
 use std::alloc::Global;
 use std::marker::Brand;
+use std::process::Abort;
 use std::sync::ledger::{Blank, Ledger};
 use std::test::Fail;
 
@@ -35,20 +37,25 @@ impl Visit<u64> for Seen {
 }
 
 // A number, a string, a class without fields, and one with a reference, a string, references and a number.
-fn node_classes(alloc: Global) -> Result<Classes, ClassFault> {
-    let mut list = ClassList::new(alloc);
-    add(&mut list, alloc, 1, "long", None, &[])?;
-    add(&mut list, alloc, 2, "java.lang.String", None, &[])?;
-    add(&mut list, alloc, 3, "t.Empty", None, &[])?;
-    let fields = [
-        ("a", reference(4)),
-        ("b", inline(2)),
-        ("c", references(4)),
-        ("d", inline(1)),
-    ];
-    add(&mut list, alloc, 4, "t.Node", None, &fields)?;
-    Classes::make(alloc, list)
-}
+const NODE_CLASSES: [ClassLine; 4] = [
+    (1, "long", None, &[]),
+    (2, "java.lang.String", None, &[]),
+    (3, "t.Empty", None, &[]),
+    (
+        4,
+        "t.Node",
+        None,
+        &[
+            ("a", Reference(4)),
+            ("b", Inline(2)),
+            ("c", References(4)),
+            ("d", Inline(1)),
+        ],
+    ),
+];
+
+// Two nodes: the second has a text of its own, and no references.
+const TWO_NODES: [u8; 14] = [2, 7, 2, 9, 2, 5, 6, 42, 8, 3, 1, 120, 0, 43];
 
 // What a node hands out but for one class.
 fn targets_of<L: Ledger>(
@@ -80,9 +87,10 @@ fn targets_of<L: Ledger>(
 fn walk_to_end(
     alloc: Global,
     classes: &Classes,
-    shape: Shape,
+    has: Has,
     bytes: &[u8],
 ) -> Option<(Vec<(u64, u64)>, Result<usize, Flaw>)> {
+    let shape = shape(has);
     classes.kind(shape.class)?;
     let mut seen = Seen {
         targets: Vec::new(alloc),
@@ -103,50 +111,75 @@ fn walk_to_end(
     }
 }
 
+// The targets that a node hands out but for one class are these.
+fn see_targets(
+    rt: &impl Abort,
+    alloc: Global,
+    classes: &Classes,
+    node: Node<'_>,
+    left_out: u64,
+    expected: &[(u64, u64)],
+) -> Result<(), Fail>
+    requires { IsValue classes.now node }
+{
+    let blank = Blank::new(1);
+    let found = targets_of::<Brand>(alloc, blank, classes, node, left_out).ok_or("no memory")?;
+    assert_eq!(rt; found.as_slice(), expected);
+    Ok(())
+}
+
+const TARGETS: [(u64, u64); 5] = [(4, 7), (2, 9), (4, 5), (4, 6), (4, 8)];
+
+fn see_nodes(rt: &impl Abort, alloc: Global, classes: &Classes) -> Result<(), Fail> {
+    let node = node_at_front(classes, Items(4), &TWO_NODES).ok_or("no value")?;
+    assert_eq!(rt; node.end, 14);
+    see_targets(rt, alloc, classes, node, 0, &TARGETS)?;
+    see_targets(rt, alloc, classes, node, 4, &[(2, 9)])
+}
+
 #[test]
 fn references_and_string_keys_are_handed_out(rt: HostRuntime) -> Result<(), Fail> {
-    let alloc = rt.alloc();
-    let classes = node_classes(alloc)?;
-    // Two nodes: the second has a text of its own, and no references.
-    let bytes = [2, 7, 2, 9, 2, 5, 6, 42, 8, 3, 1, 120, 0, 43];
-    let node = node_at_front(&classes, items(4), &bytes).ok_or("no value")?;
-    assert_eq!(rt; node.end, 14);
-    let all = targets_of::<Brand>(alloc, Blank::new(1), &classes, node, 0).ok_or("no memory")?;
-    let expected = [(4, 7), (2, 9), (4, 5), (4, 6), (4, 8)];
-    assert_eq!(rt; all.as_slice(), expected.as_slice());
-    let some = targets_of::<Brand>(alloc, Blank::new(1), &classes, node, 4).ok_or("no memory")?;
-    assert_eq!(rt; some.as_slice(), [(2, 9)].as_slice());
+    let classes = classes_of(rt.alloc(), &NODE_CLASSES)?;
+    see_nodes(&rt, rt.alloc(), &classes)
+}
+
+// The targets up to the end are those of the value, whose end is the same.
+fn see_walk(rt: &impl Abort, alloc: Global, classes: &Classes) -> Result<(), Fail> {
+    let (targets, end) = walk_to_end(alloc, classes, Items(4), &TWO_NODES).ok_or("no memory")?;
+    assert_eq!(rt; end, Ok(14));
+    assert_eq!(rt; targets.as_slice(), TARGETS.as_slice());
+    Ok(())
+}
+
+// The second node's number is missing.
+fn see_short(rt: &impl Abort, alloc: Global, classes: &Classes) -> Result<(), Fail> {
+    let (bytes, _) = TWO_NODES.split_at(13);
+    let (_, end) = walk_to_end(alloc, classes, Items(4), bytes).ok_or("no memory")?;
+    let flaw = Flaw {
+        offset: 13,
+        reason: Reason::Short,
+    };
+    assert_eq!(rt; end, Err(flaw));
     Ok(())
 }
 
 #[test]
 fn the_walk_to_the_end_hands_out_the_same(rt: HostRuntime) -> Result<(), Fail> {
-    let alloc = rt.alloc();
-    let classes = node_classes(alloc)?;
-    let bytes = [2, 7, 2, 9, 2, 5, 6, 42, 8, 3, 1, 120, 0, 43];
-    let node = node_at_front(&classes, items(4), &bytes).ok_or("no value")?;
-    let all = targets_of::<Brand>(alloc, Blank::new(1), &classes, node, 0).ok_or("no memory")?;
-    let (targets, end) = walk_to_end(alloc, &classes, items(4), &bytes).ok_or("no memory")?;
-    assert_eq!(rt; end, Ok(node.end));
-    assert_eq!(rt; targets.as_slice(), all.as_slice());
-    // The second node's number is missing.
-    let (_, short) = walk_to_end(alloc, &classes, items(4), &bytes[..13]).ok_or("no memory")?;
-    let flaw = Flaw {
-        offset: 13,
-        reason: Reason::Short,
-    };
-    assert_eq!(rt; short, Err(flaw));
-    Ok(())
+    let classes = classes_of(rt.alloc(), &NODE_CLASSES)?;
+    see_walk(&rt, rt.alloc(), &classes)?;
+    see_short(&rt, rt.alloc(), &classes)
+}
+
+// As many items as a count can say.
+const MOST_ITEMS: [u8; 9] = [0xff; 9];
+
+fn see_no_targets(rt: &impl Abort, alloc: Global, classes: &Classes) -> Result<(), Fail> {
+    let node = node_at_front(classes, Items(3), &MOST_ITEMS).ok_or("no value")?;
+    see_targets(rt, alloc, classes, node, 0, &[])
 }
 
 #[test]
 fn items_without_bytes_are_not_counted(rt: HostRuntime) -> Result<(), Fail> {
-    let alloc = rt.alloc();
-    let classes = node_classes(alloc)?;
-    // As many items as a count can say.
-    let bytes = [0xff, 0xff, 0xff, 0xff, 0xff, 0xff, 0xff, 0xff, 0xff];
-    let node = node_at_front(&classes, items(3), &bytes).ok_or("no value")?;
-    let none = targets_of::<Brand>(alloc, Blank::new(1), &classes, node, 0).ok_or("no memory")?;
-    assert_eq!(rt; none.len(), 0);
-    Ok(())
+    let classes = classes_of(rt.alloc(), &NODE_CLASSES)?;
+    see_no_targets(&rt, rt.alloc(), &classes)
 }
