@@ -1,7 +1,8 @@
 //! Recordings that are built of texts.
-use crate::runs::says;
+use crate::runs::{Said, place_with, say_all, says};
 use jfr_outside::MemoryPlace;
 use std::alloc::Global;
+use std::process::Abort;
 use std::test::Fail;
 
 // One event with one field.
@@ -42,42 +43,43 @@ const REFUSED: [(&[u8], &str); 12] = [
     (b"class 9223372036854775808 long", "line 1: LineBad\n"),
 ];
 
-// A place with the text.
-fn texts(alloc: Global) -> Result<MemoryPlace, Fail> {
-    let mut place = MemoryPlace::new(alloc);
-    place.put("t", TEXT.as_bytes())?;
-    Ok(place)
+// What is built, printed and scrubbed, and faults of places.
+const BUILDS: [Said; 6] = [
+    (&["build", "t", "o"], 0, "", ""),
+    (&["print", "o"], 0, "t.A {\n  n = 300\n}\n", ""),
+    (&["scrub", "o", "p"], 0, "", ""),
+    (&["print", "p"], 0, "t.A {\n  n = 300\n}\n", ""),
+    (&["build", "t", "o"], 4, "", "write fault\n"),
+    (&["build", "none", "q"], 3, "", "read fault\n"),
+];
+
+// Compares the output that is there.
+fn see_built(rt: &impl Abort, place: &MemoryPlace) -> Result<(), Fail> {
+    let built = place.file("o").ok_or("no output")?;
+    assert!(rt; built.len() == 212 && built.ends_with(RECORDS));
+    assert!(rt; place.file("q").is_none());
+    Ok(())
 }
 
 #[test]
 fn a_text_is_built(rt: HostRuntime) -> Result<(), Fail> {
-    let alloc = rt.alloc();
-    let mut place = texts(alloc)?;
-    for (line, status, text, fault) in [
-        (&["build", "t", "o"][..], 0, "", ""),
-        (&["print", "o"][..], 0, "t.A {\n  n = 300\n}\n", ""),
-        (&["scrub", "o", "p"][..], 0, "", ""),
-        (&["print", "p"][..], 0, "t.A {\n  n = 300\n}\n", ""),
-        (&["build", "t", "o"][..], 4, "", "write fault\n"),
-        (&["build", "none", "q"][..], 3, "", "read fault\n"),
-    ] {
-        says(&rt, alloc, &mut place, line, status, text, fault)?;
-    }
-    let built = place.file("o").ok_or("no output")?;
-    assert_eq!(&rt; built.len(), 212);
-    assert!(&rt; built.ends_with(RECORDS));
-    assert!(&rt; place.file("q").is_none());
+    let mut place = place_with(rt.alloc(), "t", TEXT.as_bytes())?;
+    say_all(&rt, rt.alloc(), &mut place, &BUILDS)?;
+    see_built(&rt, &place)
+}
+
+// Builds a text that is refused.
+fn see_refused(rt: &impl Abort, alloc: Global, text: &[u8], fault: &str) -> Result<(), Fail> {
+    let mut place = place_with(alloc, "t", text)?;
+    says(rt, alloc, &mut place, &["build", "t", "o"], 8, "", fault)?;
+    assert!(rt; place.file("o").is_none(), "{fault}");
     Ok(())
 }
 
 #[test]
 fn texts_are_refused(rt: HostRuntime) -> Result<(), Fail> {
-    let alloc = rt.alloc();
     for (text, fault) in REFUSED.iter() {
-        let mut place = MemoryPlace::new(alloc);
-        place.put("t", text)?;
-        says(&rt, alloc, &mut place, &["build", "t", "o"], 8, "", fault)?;
-        assert!(&rt; place.file("o").is_none());
+        see_refused(&rt, rt.alloc(), text, fault)?;
     }
     Ok(())
 }

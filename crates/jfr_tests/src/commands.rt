@@ -1,20 +1,28 @@
 //! The commands that write text, and the sample.
 ghost use Rattle.std.specs.Prelude.{◌≤◌};
 
-use crate::runs::{says, status_of, words};
+use crate::runs::{
+    Said, place_with, say_all, says, says_three_bytes, see_answer, status_of, words,
+};
 use jfr_fixtures::{RINGS, STRINGS, inert, with_classes};
-use jfr_outside::{MemoryPlace, MemorySink};
+use jfr_outside::{MemoryPlace, MemorySink, Words};
 use jfr_sample::sample;
 use std::alloc::Global;
 use std::process::Abort;
 use std::test::Fail;
 
-// A place with chunks of rings, of strings that are keys, and with inert records.
-fn small_chunks(alloc: Global) -> Result<MemoryPlace, Fail> {
-    let mut place = MemoryPlace::new(alloc);
+// Puts chunks of rings, of strings that are keys, and with inert records.
+fn put_chunks(place: &mut MemoryPlace, alloc: Global) -> Result<(), Fail> {
     place.put("rings.jfr", &with_classes(alloc, RINGS, 333)?)?;
     place.put("strings.jfr", &with_classes(alloc, STRINGS, 330)?)?;
     place.put("inert.jfr", &inert(alloc)?)?;
+    Ok(())
+}
+
+// A place with these chunks.
+fn small_chunks(alloc: Global) -> Result<MemoryPlace, Fail> {
+    let mut place = MemoryPlace::new(alloc);
+    put_chunks(&mut place, alloc)?;
     Ok(place)
 }
 
@@ -105,23 +113,27 @@ t.B id 9 super jdk.jfr.Event
 ";
 
 // What the commands that write text write of small chunks.
+const TEXTS: [Said; 9] = [
+    (&["print", "--depth", "0", "rings.jfr"], 0, SHALLOW, ""),
+    (&["print", "--depth", "2", "rings.jfr"], 0, DEEP, ""),
+    (&["print", "--events", "A", "rings.jfr"], 0, DEEP_A, ""),
+    (&["print", "strings.jfr"], 0, KEYS_OF_STRINGS, ""),
+    (
+        &["print", "--json", "--depth", "1", "rings.jfr"],
+        0,
+        JSON,
+        "",
+    ),
+    (&["print", "--categories", "none", "rings.jfr"], 0, "", ""),
+    (&["summary", "rings.jfr"], 0, TOTALS, ""),
+    (&["summary", "inert.jfr"], 0, INERT, ""),
+    (&["metadata", "rings.jfr"], 0, CLASSES, ""),
+];
+
 #[test]
 fn texts_are_written(rt: HostRuntime) -> Result<(), Fail> {
     let mut place = small_chunks(rt.alloc())?;
-    for (line, text) in [
-        (&["print", "--depth", "0", "rings.jfr"][..], SHALLOW),
-        (&["print", "--depth", "2", "rings.jfr"][..], DEEP),
-        (&["print", "--events", "A", "rings.jfr"][..], DEEP_A),
-        (&["print", "strings.jfr"][..], KEYS_OF_STRINGS),
-        (&["print", "--json", "--depth", "1", "rings.jfr"][..], JSON),
-        (&["print", "--categories", "none", "rings.jfr"][..], ""),
-        (&["summary", "rings.jfr"][..], TOTALS),
-        (&["summary", "inert.jfr"][..], INERT),
-        (&["metadata", "rings.jfr"][..], CLASSES),
-    ] {
-        says(&rt, rt.alloc(), &mut place, line, 0, text, "")?;
-    }
-    Ok(())
+    say_all(&rt, rt.alloc(), &mut place, &TEXTS)
 }
 
 const SAMPLE: &str = "events 7
@@ -146,83 +158,94 @@ fn the_sample_is_counted(rt: HostRuntime) -> Result<(), Fail> {
     )
 }
 
-// Scrubs the recording of a sample, put into a place as a file, and counts the bytes of what is left.
-fn scrubbed_size(rt: &impl Abort, alloc: Global, seed: u32, events: u32) -> Result<usize, Fail>
+// A place with the recording of a sample.
+fn sample_place(alloc: Global, seed: u32, events: u32) -> Result<MemoryPlace, Fail>
     requires some { 1 ≤ events }
     requires most { events ≤ 1000000 }
 {
-    let mut place = MemoryPlace::new(alloc);
-    place.put("a.jfr", &sample(alloc, seed, events)?)?;
+    let recording = sample(alloc, seed, events)?;
+    Ok(place_with(alloc, "a.jfr", &recording)?)
+}
+
+// Scrubs it, and counts the bytes of what is left.
+fn scrubbed_size(rt: &impl Abort, alloc: Global, place: &mut MemoryPlace) -> Result<usize, Fail> {
     let line = &["scrub", "--include-events", "t.A", "a.jfr", "b.jfr"];
-    says(rt, alloc, &mut place, line, 0, "", "")?;
+    says(rt, alloc, place, line, 0, "", "")?;
     match place.file("b.jfr") {
         Some(bytes) => Ok(bytes.len()),
         None => Ok(0),
     }
 }
 
-// The last line of the command `sample`.
-fn last_line(rt: &impl Abort, alloc: Global, seed: &str, events: &str) -> Result<String, Fail> {
+// Runs a command that needs no file, and compares the end of what it writes.
+fn see_end(rt: &impl Abort, alloc: Global, words: &Words, end: &[u8]) {
     let mut place = MemoryPlace::new(alloc);
     let mut out = MemorySink::new(alloc);
     let mut err = MemorySink::new(alloc);
-    let line = words(alloc, &["sample", seed, events])?;
-    assert_eq!(rt; status_of(alloc, &line, &mut place, &mut out, &mut err), 0);
-    let bytes = out.bytes();
-    let start = bytes
-        .iter()
-        .rposition(|byte| *byte == b'k')
-        .unwrap_or(bytes.len());
-    let mut last = String::new(alloc);
-    for byte in &bytes[start..] {
-        last.push(char::from(*byte))?;
-    }
-    Ok(last)
+    let status = status_of(alloc, words, &mut place, &mut out, &mut err);
+    assert!(rt; status == 0 && out.bytes().ends_with(end));
+}
+
+// The last line of the command `sample` reports this number of bytes.
+fn see_last_line(rt: &impl Abort, alloc: Global, line: &[&str], size: usize) -> Result<(), Fail> {
+    let words = words(alloc, line)?;
+    let expected = format!(in alloc; "kept bytes {size}\n")?;
+    see_end(rt, alloc, &words, expected.as_bytes());
+    Ok(())
 }
 
 // What is left of a sample has the number of bytes that the command reports.
+fn see_sample(
+    rt: &impl Abort,
+    alloc: Global,
+    seed: u32,
+    events: u32,
+    line: &[&str],
+) -> Result<(), Fail>
+    requires some { 1 ≤ events }
+    requires most { events ≤ 1000000 }
+{
+    let mut place = sample_place(alloc, seed, events)?;
+    let size = scrubbed_size(rt, alloc, &mut place)?;
+    see_last_line(rt, alloc, line, size)
+}
+
 #[test]
 fn the_sample_is_scrubbed_as_a_file(rt: HostRuntime) -> Result<(), Fail> {
-    let alloc = rt.alloc();
-    for (seed, events, words) in [
-        (0u32, 7u32, ["0", "7"]),
-        (1, 2000, ["1", "2000"]),
-        (1, 1_000_000, ["1", "1000000"]),
-    ] {
-        let size = scrubbed_size(&rt, alloc, seed, events)?;
-        let expected = format!(in alloc; "kept bytes {size}\n")?;
-        let line = last_line(&rt, alloc, words[0], words[1])?;
-        assert_eq!(&rt; line.as_str(), expected.as_str());
-    }
-    Ok(())
+    see_sample(&rt, rt.alloc(), 0, 7, &["sample", "0", "7"])?;
+    see_sample(&rt, rt.alloc(), 1, 2000, &["sample", "1", "2000"])?;
+    see_sample(&rt, rt.alloc(), 1, 1_000_000, &["sample", "1", "1000000"])
 }
 
 // A stream that fails keeps the text that it took.
 #[test]
 fn faults_of_streams_are_reported(rt: HostRuntime) -> Result<(), Fail> {
-    let alloc = rt.alloc();
-    let mut place = small_chunks(alloc)?;
-    let mut out = MemorySink::new(alloc);
-    let mut err = MemorySink::new(alloc);
-    out.fail(1, 3)?;
-    let print = words(alloc, &["print", "rings.jfr"])?;
-    assert_eq!(&rt; status_of(alloc, &print, &mut place, &mut out, &mut err), 4);
-    assert_eq!(&rt; out.bytes(), b"t.A".as_slice());
-    assert_eq!(&rt; err.bytes(), b"write fault\n".as_slice());
-    Ok(())
+    let mut place = small_chunks(rt.alloc())?;
+    let print = &["print", "rings.jfr"];
+    says_three_bytes(&rt, rt.alloc(), &mut place, print, b"t.A")
 }
 
+const SCRUB: [&str; 3] = ["scrub", "a.jfr", "b.jfr"];
+
 // A line that can't be written changes no status.
-#[test]
-fn lines_that_fail_change_no_status(rt: HostRuntime) -> Result<(), Fail> {
-    let alloc = rt.alloc();
-    let mut place = MemoryPlace::new(alloc);
-    place.put("a.jfr", &[])?;
+fn see_cut_line(
+    rt: &impl Abort,
+    alloc: Global,
+    place: &mut MemoryPlace,
+    scrub: &Words,
+) -> Result<(), Fail> {
     let mut out = MemorySink::new(alloc);
     let mut err = MemorySink::new(alloc);
     err.fail(1, 5)?;
-    let scrub = words(alloc, &["scrub", "a.jfr", "b.jfr"])?;
-    assert_eq!(&rt; status_of(alloc, &scrub, &mut place, &mut out, &mut err), 2);
-    assert_eq!(&rt; err.bytes(), b"chunk".as_slice());
+    let status = status_of(alloc, scrub, place, &mut out, &mut err);
+    let found = (status, out.bytes(), err.bytes());
+    see_answer(rt, &SCRUB, found, (2, b"", b"chunk"));
     Ok(())
+}
+
+#[test]
+fn lines_that_fail_change_no_status(rt: HostRuntime) -> Result<(), Fail> {
+    let scrub = words(rt.alloc(), &SCRUB)?;
+    let mut place = place_with(rt.alloc(), "a.jfr", b"")?;
+    see_cut_line(&rt, rt.alloc(), &mut place, &scrub)
 }

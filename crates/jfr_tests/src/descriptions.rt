@@ -1,7 +1,7 @@
 //! Which descriptions of classes stay.
-use crate::runs::{status_of, words};
+use crate::runs::{place_with, says};
 use jfr_fixtures::{JDK_LIKE, NO_POOLS, chunk_of};
-use jfr_outside::{MemoryPlace, MemorySink};
+use jfr_outside::MemoryPlace;
 use std::alloc::Global;
 use std::process::Abort;
 use std::test::Fail;
@@ -52,20 +52,16 @@ const LONG: &[u8] = b"\
     \x03\x05field\x03\x01v\
     \0\0\x01\x01\0\x01\x02\x02\x03\x04\x05\x06\x01\x07\x02\x03\x08\x02\x06\0";
 
-// Scrubs a recording with an option over a place in memory, and gives the place.
+// Scrubs a recording over a place in memory, with the option for events, and gives the place.
 fn scrubbed(
     rt: &impl Abort,
     alloc: Global,
     recording: &[u8],
-    option: &str,
     list: &str,
 ) -> Result<MemoryPlace, Fail> {
-    let words = words(alloc, &["scrub", option, list, "a.jfr", "b.jfr"])?;
-    let mut place = MemoryPlace::new(alloc);
-    place.put("a.jfr", recording)?;
-    let mut out = MemorySink::new(alloc);
-    let mut err = MemorySink::new(alloc);
-    assert_eq!(rt; status_of(alloc, &words, &mut place, &mut out, &mut err), 0);
+    let command = ["scrub", "--include-events", list, "a.jfr", "b.jfr"];
+    let mut place = place_with(alloc, "a.jfr", recording)?;
+    says(rt, alloc, &mut place, &command, 0, "", "")?;
     Ok(place)
 }
 
@@ -76,20 +72,50 @@ fn with_event(alloc: Global, metadata: &[u8], event: &[u8]) -> Result<Vec<u8>, F
     Ok(chunk_of(alloc, &[metadata, event, NO_POOLS], last, 68)?)
 }
 
+// A metadata record, an event, the list of events, and the metadata record and the event that stay.
+type Named = (
+    &'static [u8],
+    &'static [u8],
+    &'static str,
+    &'static [u8],
+    &'static [u8],
+);
+
 // A class stays if a class that stays names it, in an annotation too, and however deep.
+const NAMED: [Named; 4] = [
+    (ANNOTATED, &[2, 8], "*", NAMED_BY_A, &[2, 8]),
+    (ANNOTATED, &[2, 10], "*", NAMED_BY_C, &[2, 10]),
+    (LONG_AND_A, &[3, 8, 7], "t.A", LONG_AND_A, &[3, 8, 7]),
+    (LONG_AND_A, &[3, 8, 7], "t.B", LONG, &[]),
+];
+
+// Compares what a recording becomes.
+fn see_scrubbed(
+    rt: &impl Abort,
+    alloc: Global,
+    recording: &[u8],
+    list: &str,
+    expected: &[u8],
+) -> Result<(), Fail> {
+    let place = scrubbed(rt, alloc, recording, list)?;
+    assert!(rt; place.file("b.jfr") == Some(expected), "{list}");
+    Ok(())
+}
+
+fn see_named(
+    rt: &impl Abort,
+    alloc: Global,
+    (metadata, event, list, slim, left): Named,
+) -> Result<(), Fail> {
+    let recording = with_event(alloc, metadata, event)?;
+    let expected = with_event(alloc, slim, left)?;
+    see_scrubbed(rt, alloc, &recording, list, &expected)
+}
+
 #[test]
 fn classes_that_are_named_stay(rt: HostRuntime) -> Result<(), Fail> {
-    let alloc = rt.alloc();
-    for (metadata, event, list, slim, left) in [
-        (ANNOTATED, &[2u8, 8][..], "*", NAMED_BY_A, &[2u8, 8][..]),
-        (ANNOTATED, &[2, 10], "*", NAMED_BY_C, &[2, 10]),
-        (LONG_AND_A, &[3, 8, 7], "t.A", LONG_AND_A, &[3, 8, 7]),
-        (LONG_AND_A, &[3, 8, 7], "t.B", LONG, &[]),
-    ] {
-        let recording = with_event(alloc, metadata, event)?;
-        let expected = with_event(alloc, slim, left)?;
-        let place = scrubbed(&rt, alloc, &recording, "--include-events", list)?;
-        assert_eq!(&rt; place.file("b.jfr"), Some(expected.as_slice()));
+    for named in NAMED.iter() {
+        see_named(&rt, rt.alloc(), *named)?;
     }
     Ok(())
 }
@@ -104,25 +130,30 @@ fn occurs(bytes: &[u8], text: &str) -> bool {
     false
 }
 
-// With the events of a class go its name, the names of its own fields, and the categories that only it has.
+// Whether a text stays of the chunk that is like the JDK's, with the events of `ThreadPark`. With the events of a
+// class go its name, the names of its own fields, and the categories that only it has.
+const STAYS: [(&str, bool); 9] = [
+    ("jdk.ThreadPark", true),
+    ("parkedClass", true),
+    ("Java Application", true),
+    ("jdk.JavaMonitorEnter", false),
+    ("monitorClass", false),
+    ("jdk.CPULoad", false),
+    ("machineTotal", false),
+    ("Operating System", false),
+    ("Processor", false),
+];
+
+fn see_texts(rt: &impl Abort, output: &[u8]) {
+    for (text, stays) in STAYS.iter() {
+        assert!(rt; occurs(&JDK_LIKE, text), "{text}");
+        assert!(rt; occurs(output, text) == *stays, "{text}");
+    }
+}
+
 #[test]
 fn names_of_classes_without_events_go(rt: HostRuntime) -> Result<(), Fail> {
-    let park = "ThreadPark";
-    let place = scrubbed(&rt, rt.alloc(), &JDK_LIKE, "--include-events", park)?;
-    let output = place.file("b.jfr").ok_or("no output")?;
-    for (text, stays) in [
-        ("jdk.ThreadPark", true),
-        ("parkedClass", true),
-        ("Java Application", true),
-        ("jdk.JavaMonitorEnter", false),
-        ("monitorClass", false),
-        ("jdk.CPULoad", false),
-        ("machineTotal", false),
-        ("Operating System", false),
-        ("Processor", false),
-    ] {
-        assert!(&rt; occurs(&JDK_LIKE, text), "{text}");
-        assert_eq!(&rt; occurs(output, text), stays, "{text}");
-    }
+    let place = scrubbed(&rt, rt.alloc(), &JDK_LIKE, "ThreadPark")?;
+    see_texts(&rt, place.file("b.jfr").ok_or("no output")?);
     Ok(())
 }

@@ -173,34 +173,47 @@ static ROWS: [Row; 7] = [
 ];
 
 // Events go with the constants and the classes that only they need. A second scrub changes nothing.
+fn see_row(rt: &impl Abort, alloc: Global, row: &Row) -> Result<(), Fail> {
+    let expected = chunk_left(alloc, &row.2)?;
+    filtered(rt, alloc, &JDK_LIKE, row.0, row.1, &expected)?;
+    filtered(rt, alloc, &expected, row.0, row.1, &expected)
+}
+
 #[test]
 fn events_are_chosen(rt: HostRuntime) -> Result<(), Fail> {
-    for (option, list, left) in ROWS.iter() {
-        let expected = chunk_left(rt.alloc(), left)?;
-        filtered(&rt, rt.alloc(), &JDK_LIKE, option, list, &expected)?;
-        filtered(&rt, rt.alloc(), &expected, option, list, &expected)?;
+    for row in ROWS.iter() {
+        see_row(&rt, rt.alloc(), row)?;
     }
     Ok(())
 }
 
+// A kind of Java name, a list of threads, and what stays.
+type Thread = (u8, &'static str, Left);
+
 // A thread without a Java name goes by its system name. The empty text is a name.
+static THREADS: [Thread; 3] = [
+    (0, "w", UNNAMED_LEFT),
+    (0, "worker*", NOTHING_LEFT),
+    (1, "w", NOTHING_LEFT),
+];
+
+fn see_thread(rt: &impl Abort, alloc: Global, thread: &Thread) -> Result<(), Fail> {
+    let recording = jdk_unnamed(alloc, thread.0)?;
+    let expected = chunk_left(alloc, &thread.2)?;
+    filtered(
+        rt,
+        alloc,
+        &recording,
+        "--include-threads",
+        thread.1,
+        &expected,
+    )
+}
+
 #[test]
 fn threads_without_java_names_go_by_system_names(rt: HostRuntime) -> Result<(), Fail> {
-    for (kind, list, left) in [
-        (0u8, "w", UNNAMED_LEFT),
-        (0, "worker*", NOTHING_LEFT),
-        (1, "w", NOTHING_LEFT),
-    ] {
-        let recording = jdk_unnamed(rt.alloc(), kind)?;
-        let expected = chunk_left(rt.alloc(), &left)?;
-        filtered(
-            &rt,
-            rt.alloc(),
-            &recording,
-            "--include-threads",
-            list,
-            &expected,
-        )?;
+    for thread in THREADS.iter() {
+        see_thread(&rt, rt.alloc(), thread)?;
     }
     Ok(())
 }
@@ -219,32 +232,34 @@ const SECOND_WITH_A_BYTE_LEFT: &[u8] = &[
     4, 9, 3, 0xFF, 0x13, 1, 0, 0, 0, 0, 1, 7, 2, 3, 4, 3, 1, 0x72, 4, 3, 3, 1, 0x73,
 ];
 
+// Records and the place of their last checkpoint, a list of events, and the metadata record and the records that
+// are left, with the place of theirs.
+type Ring = (
+    (&'static [u8], u64),
+    &'static str,
+    (&'static [u8], &'static [u8], u64),
+);
+
 // A ring of constants stays whole, or goes whole.
+#[rattlefmt::skip]
+const OF_RINGS: [Ring; 4] = [
+    ((RINGS, 333), "t.A", (CLASSES_OF_A, FIRST_RING, 307)),
+    ((RINGS, 333), "t.B", (CLASSES_OF_B, SECOND_RING, 295)),
+    ((RINGS, 333), "t.C", (NO_EVENT_CLASSES, NO_POOLS, 234)),
+    ((BYTES_LEFT, 334), "B", (CLASSES_OF_B, SECOND_WITH_A_BYTE_LEFT, 296)),
+];
+
+fn see_ring(rt: &impl Abort, alloc: Global, ring: &Ring) -> Result<(), Fail> {
+    let ((records, last), list, (classes, scrubbed, scrubbed_last)) = *ring;
+    let recording = with_classes(alloc, records, last)?;
+    let expected = with_metadata(alloc, classes, scrubbed, scrubbed_last)?;
+    filtered(rt, alloc, &recording, "--include-events", list, &expected)
+}
+
 #[test]
 fn rings_stay_or_go(rt: HostRuntime) -> Result<(), Fail> {
-    for (records, last, list, classes, scrubbed, scrubbed_last) in [
-        (RINGS, 333, "t.A", CLASSES_OF_A, FIRST_RING, 307),
-        (RINGS, 333, "t.B", CLASSES_OF_B, SECOND_RING, 295),
-        (RINGS, 333, "t.C", NO_EVENT_CLASSES, NO_POOLS, 234),
-        (
-            BYTES_LEFT,
-            334,
-            "B",
-            CLASSES_OF_B,
-            SECOND_WITH_A_BYTE_LEFT,
-            296,
-        ),
-    ] {
-        let recording = with_classes(rt.alloc(), records, last)?;
-        let expected = with_metadata(rt.alloc(), classes, scrubbed, scrubbed_last)?;
-        filtered(
-            &rt,
-            rt.alloc(),
-            &recording,
-            "--include-events",
-            list,
-            &expected,
-        )?;
+    for ring in OF_RINGS.iter() {
+        see_ring(&rt, rt.alloc(), ring)?;
     }
     Ok(())
 }

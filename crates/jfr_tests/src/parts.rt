@@ -1,20 +1,23 @@
 //! The commands that split and join.
-use crate::runs::says;
+use crate::runs::{place_with, says};
 use jfr_fixtures::PLAIN;
-use jfr_outside::{Call, MemoryPlace, Place};
-use std::alloc::Global;
+use jfr_outside::{Call, MemoryPlace, NoMemory, Place};
+use std::alloc::{AllocError, Global};
 use std::process::Abort;
 use std::test::Fail;
 
-// A place with a recording of three plain chunks.
-fn three_chunks(alloc: Global) -> Result<MemoryPlace, Fail> {
-    let mut bytes = Vec::new(alloc);
-    for _ in 0..3 {
-        bytes.extend_from_slice(&PLAIN)?;
-    }
-    let mut place = MemoryPlace::new(alloc);
-    place.put("r.jfr", &bytes)?;
-    Ok(place)
+// Three plain chunks.
+fn three_chunks(alloc: Global) -> Result<Vec<u8>, AllocError> {
+    let mut bytes = Vec::from_slice(alloc, PLAIN.as_slice())?;
+    bytes.extend_from_slice(&PLAIN)?;
+    bytes.extend_from_slice(&PLAIN)?;
+    Ok(bytes)
+}
+
+// A place with a recording of them.
+fn three_in_a_place(alloc: Global) -> Result<MemoryPlace, Fail> {
+    let bytes = three_chunks(alloc)?;
+    Ok(place_with(alloc, "r.jfr", &bytes)?)
 }
 
 // How many bytes the files have.
@@ -35,25 +38,68 @@ const CUTS: [Cut; 3] = [
 ];
 
 // A recording is cut into parts, which are joined again.
+fn come_back(
+    rt: &impl Abort,
+    alloc: Global,
+    place: &mut MemoryPlace,
+    (split, [first, second, third]): Cut,
+) -> Result<(), Fail> {
+    says(rt, alloc, place, split, 0, "", "")?;
+    says(rt, alloc, place, &["assemble", "d", "o.jfr"], 0, "", "")?;
+    have(
+        rt,
+        place,
+        &[
+            ("d/r_000001.jfr", first),
+            ("d/r_000002.jfr", second),
+            ("d/r_000003.jfr", third),
+        ],
+    );
+    assert!(rt; place.file("o.jfr") == place.file("r.jfr"));
+    Ok(())
+}
+
+fn see_cut(rt: &impl Abort, alloc: Global, cut: Cut) -> Result<(), Fail> {
+    let mut place = three_in_a_place(alloc)?;
+    come_back(rt, alloc, &mut place, cut)
+}
+
 #[test]
 fn parts_come_back(rt: HostRuntime) -> Result<(), Fail> {
-    let join = &["assemble", "d", "o.jfr"];
-    for (split, sizes) in CUTS.iter() {
-        let mut place = three_chunks(rt.alloc())?;
-        says(&rt, rt.alloc(), &mut place, split, 0, "", "")?;
-        says(&rt, rt.alloc(), &mut place, join, 0, "", "")?;
-        have(
-            &rt,
-            &place,
-            &[
-                ("d/r_000001.jfr", sizes[0]),
-                ("d/r_000002.jfr", sizes[1]),
-                ("d/r_000003.jfr", sizes[2]),
-            ],
-        );
-        assert_eq!(&rt; place.file("o.jfr"), place.file("r.jfr"));
+    for cut in CUTS.iter() {
+        see_cut(&rt, rt.alloc(), *cut)?;
     }
     Ok(())
+}
+
+// Files of a folder, of which one is no recording.
+fn put_files(place: &mut MemoryPlace, first: &[u8]) -> Result<(), NoMemory> {
+    place.put("d/b.jfr", &PLAIN)?;
+    place.put("d/a.jfr", first)?;
+    place.put("d/c.txt", b"")
+}
+
+// Joins them, and then with an empty one.
+fn join(
+    rt: &impl Abort,
+    alloc: Global,
+    place: &mut MemoryPlace,
+    joined: &[u8],
+) -> Result<(), Fail> {
+    says(rt, alloc, place, &["assemble", "d", "o.jfr"], 0, "", "")?;
+    assert!(rt; place.file("o.jfr") == Some(joined));
+    place.put("d/c.jfr", b"")?;
+    let line = "chunk 3 offset 0: NoChunk\n";
+    says(rt, alloc, place, &["assemble", "d", "p.jfr"], 2, "", line)?;
+    assert!(rt; place.file("p.jfr") == Some(joined));
+    Ok(())
+}
+
+// Joins files of which this is the first.
+fn see_joined(rt: &impl Abort, alloc: Global, first: &[u8], joined: &[u8]) -> Result<(), Fail> {
+    let mut place = MemoryPlace::new(alloc);
+    put_files(&mut place, first)?;
+    join(rt, alloc, &mut place, joined)
 }
 
 // Files are joined by their names, but for those of other kinds.
@@ -63,19 +109,7 @@ fn files_are_joined_in_order(rt: HostRuntime) -> Result<(), Fail> {
     first[39] = 7;
     let mut joined = Vec::from_slice(rt.alloc(), &first)?;
     joined.extend_from_slice(&PLAIN)?;
-    let mut place = MemoryPlace::new(rt.alloc());
-    place.put("d/b.jfr", &PLAIN)?;
-    place.put("d/a.jfr", &first)?;
-    place.put("d/c.txt", b"")?;
-    let join = &["assemble", "d", "o.jfr"];
-    says(&rt, rt.alloc(), &mut place, join, 0, "", "")?;
-    assert_eq!(&rt; place.file("o.jfr"), Some(joined.as_slice()));
-    place.put("d/c.jfr", b"")?;
-    let join = &["assemble", "d", "p.jfr"];
-    let line = "chunk 3 offset 0: NoChunk\n";
-    says(&rt, rt.alloc(), &mut place, join, 2, "", line)?;
-    assert_eq!(&rt; place.file("p.jfr"), Some(joined.as_slice()));
-    Ok(())
+    see_joined(&rt, rt.alloc(), &first, &joined)
 }
 
 // A folder without recordings has no chunk.
@@ -91,8 +125,13 @@ fn an_empty_folder_is_refused(rt: HostRuntime) -> Result<(), Fail> {
 
 // The second part can't be created: the first one, of `chunks` chunks, is whole and was finished, so that
 // the next output that is finished is the second.
-fn see_first_part(rt: &impl Abort, alloc: Global, chunks: &str, size: usize) -> Result<(), Fail> {
-    let mut place = three_chunks(alloc)?;
+fn fail_second(
+    rt: &impl Abort,
+    alloc: Global,
+    place: &mut MemoryPlace,
+    chunks: &str,
+    size: usize,
+) -> Result<(), Fail> {
     place.fail(Call::Create, 2, 0)?;
     place.fail(Call::Finish, 2, 0)?;
     let line = &[
@@ -103,10 +142,10 @@ fn see_first_part(rt: &impl Abort, alloc: Global, chunks: &str, size: usize) -> 
         chunks,
         "r.jfr",
     ];
-    says(rt, alloc, &mut place, line, 4, "", "write fault\n")?;
+    says(rt, alloc, place, line, 4, "", "write fault\n")?;
     have(
         rt,
-        &place,
+        place,
         &[("d/r_000001.jfr", Some(size)), ("d/r_000002.jfr", None)],
     );
     assert!(rt; place.create_output("other").is_ok());
@@ -114,19 +153,45 @@ fn see_first_part(rt: &impl Abort, alloc: Global, chunks: &str, size: usize) -> 
     Ok(())
 }
 
+fn see_first_part(rt: &impl Abort, alloc: Global, chunks: &str, size: usize) -> Result<(), Fail> {
+    let mut place = three_in_a_place(alloc)?;
+    fail_second(rt, alloc, &mut place, chunks, size)
+}
+
+// A call that fails while two files are joined, and how many bytes the output has.
+fn fail_join(
+    rt: &impl Abort,
+    alloc: Global,
+    place: &mut MemoryPlace,
+    call: Call,
+    nth: u64,
+    size: Option<usize>,
+) -> Result<(), Fail> {
+    place.put("d/a.jfr", &PLAIN)?;
+    place.put("d/b.jfr", &PLAIN)?;
+    place.fail(call, nth, 0)?;
+    let join = &["assemble", "d", "o.jfr"];
+    says(rt, alloc, place, join, 3, "", "read fault\n")?;
+    have(rt, place, &[("o.jfr", size)]);
+    Ok(())
+}
+
+fn see_join(
+    rt: &impl Abort,
+    alloc: Global,
+    call: Call,
+    nth: u64,
+    size: Option<usize>,
+) -> Result<(), Fail> {
+    let mut place = MemoryPlace::new(alloc);
+    fail_join(rt, alloc, &mut place, call, nth, size)
+}
+
 // Calls of the outside that fail, and what is left.
 #[test]
 fn faults_of_parts_are_reported(rt: HostRuntime) -> Result<(), Fail> {
     see_first_part(&rt, rt.alloc(), "1", 103)?;
     see_first_part(&rt, rt.alloc(), "2", 206)?;
-    for (call, nth, size) in [(Call::List, 1, None), (Call::Open, 2, Some(103))] {
-        let mut place = MemoryPlace::new(rt.alloc());
-        place.put("d/a.jfr", &PLAIN)?;
-        place.put("d/b.jfr", &PLAIN)?;
-        place.fail(call, nth, 0)?;
-        let join = &["assemble", "d", "o.jfr"];
-        says(&rt, rt.alloc(), &mut place, join, 3, "", "read fault\n")?;
-        have(&rt, &place, &[("o.jfr", size)]);
-    }
-    Ok(())
+    see_join(&rt, rt.alloc(), Call::List, 1, None)?;
+    see_join(&rt, rt.alloc(), Call::Open, 2, Some(103))
 }
