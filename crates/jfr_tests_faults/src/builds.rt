@@ -52,7 +52,10 @@ fn see_fault(rt: &impl Abort, alloc: Global, row: Row) -> Result<(), Fail> {
     let mut out = MemorySink::new(alloc);
     let mut err = MemorySink::new(alloc);
     let words = words(alloc)?;
-    assert_eq!(rt; status_of(alloc, &words, &mut place, &mut out, &mut err), status);
+    assert_eq!(rt;
+        status_of(alloc, &words, &mut place, &mut out, &mut err),
+        status
+    );
     assert_eq!(rt; err.bytes(), line.as_bytes());
     assert!(rt; out.bytes().is_empty());
     assert_eq!(rt; len_of(place.file("o")), left);

@@ -88,7 +88,10 @@ fn too_many_parts_are_refused(rt: HostRuntime) -> Result<(), Fail> {
         words.push("a.jfr")?;
         let mut out = MemorySink::new(alloc);
         let mut err = MemorySink::new(alloc);
-        assert_eq!(rt; status_of(alloc, &words, &mut place, &mut out, &mut err), status);
+        assert_eq!(rt;
+            status_of(alloc, &words, &mut place, &mut out, &mut err),
+            status
+        );
         assert_eq!(rt; err.bytes(), line.as_bytes());
         assert_eq!(rt; place.created, PARTS);
         assert_eq!(rt; place.finished, finished);
