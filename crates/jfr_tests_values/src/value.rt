@@ -48,7 +48,7 @@ const TRACE_CLASSES: [ClassLine; 6] = [
     (212, "boolean", None, &[]),
 ];
 
-// Adds as many composite classes as may nest, each with an array of the next.
+// Adds the most composite classes that may nest, each with an array of the next.
 fn add_deep(list: &mut ClassList, alloc: Global) -> Result<(), NoMemory> {
     for id in 0..33u64 {
         let next = Items(id.saturating_add(1));
