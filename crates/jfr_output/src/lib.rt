@@ -1,8 +1,8 @@
-//! The parts of an output chunk that are the same with old and with new keys: which records and entries it
-//! has, its metadata record, and the positions in its header.
+//! The parts of an output chunk that scrubs with old and with new keys share: which records it has, its metadata
+//! record, and the positions in its header. For a scrub with old keys, also which entries it has.
 //!
-//! `next_output_record` goes through the records that are written, `remaining_entries` lists the entries that remain,
-//! and `slim_metadata` makes the metadata record without the event classes that the output doesn't need. Read
+//! `next_output_record` goes through the records that are written, `slim_metadata` makes the metadata record without
+//! the event classes that the output doesn't need, and `remaining_entries` lists the entries that remain. Read
 //! `specs/OutputRecords.antt` first, then `specs/Remaining.antt` and `specs/Recordings.antt`.
 #![tactic(auto)]
 
