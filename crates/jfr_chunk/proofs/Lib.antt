@@ -1,5 +1,5 @@
 pub mod ChainAnswers
-mod Chunks
+pub mod Chunks
 mod EventReading
 pub mod AllLaws
 pub mod AnswerLaws
