@@ -28,7 +28,7 @@ use Rattle.jfr_chunk.specs.Reach.{kept_by, marked, reached_marks, remain}
 use Rattle.jfr_chunk.proofs.HasNodesLaws.{has_nodes}
 use Rattle.jfr_laws.proofs.Same.{chosen_events}
 use Rattle.jfr_renumber.specs.Firsts.{firsts_by, same_new}
-use Rattle.jfr_renumber.specs.Numbers.{NumberedPairs, number_of, numbers_of}
+use Rattle.jfr_renumber.specs.Numbers.{NumberedPairs, number_of, number_or_zero}
 use Rattle.jfr_renumber.specs.Meaning.{AreNewKeys}
 use Rattle.jfr_renumber.specs.Renumber.{Used, assembled_by, entry_bytes, event_bytes, firsts, group_bytes, new_bytes, new_key, new_key_of, pair_of, renumber_of, together, used_keys, whole_bytes}
 use Rattle.jfr_renumber.proofs.FirstsLaws.{firsts_same}
@@ -79,7 +79,7 @@ module _ (p : Parts) (a : AreParts p) (flags : List Bool) where
   keys = new_keys_are p a kept (chosen_events p flags)
 
   -- Numbers that are the new keys of all that is used.
-  pub number_used : (k : NumberedPairs) → ((t : ℕ × ℕ) → number_of k t ≡ new_key_of p kept t) → (t : ℕ × ℕ) → Used p kept t → numbers_of k t ≡ new_key p kept t
+  pub number_used : (k : NumberedPairs) → ((t : ℕ × ℕ) → number_of k t ≡ new_key_of p kept t) → (t : ℕ × ℕ) → Used p kept t → number_or_zero k t ≡ new_key p kept t
   number_used k h t u =
       ap (λ o. unwrap_or o 0) (h t)
       ∙ ap (λ b. unwrap_or (if b then Some (new_key p kept t) else None) 0) (any_of (used_keys p kept) t (used_in p (has_nodes p a) kept (kept_nodes p a kept (chosen_events p flags)) t u))
@@ -113,9 +113,9 @@ module _ (p : Parts) (a : AreParts p) (flags : List Bool) where
     firsts_are = firsts_same (same_new new) (λ e f. together p (pair_of e) (pair_of f)) (remain p kept) together_by
 
   -- So it is for marked entries.
-  pub firsts_marked : (k : NumberedPairs) → ((t : ℕ × ℕ) → number_of k t ≡ new_key_of p kept t) → (marks : List Bool) → marks ≡ reached_marks p kept → firsts_by (numbers_of k) (marked marks p.entries) ≡ firsts p kept
+  pub firsts_marked : (k : NumberedPairs) → ((t : ℕ × ℕ) → number_of k t ≡ new_key_of p kept t) → (marks : List Bool) → marks ≡ reached_marks p kept → firsts_by (number_or_zero k) (marked marks p.entries) ≡ firsts p kept
   unfolding remain
-  firsts_marked k h marks m = ap (λ z. firsts_by (numbers_of k) (marked z p.entries)) m ∙ firsts_are (numbers_of k) (number_used k h)
+  firsts_marked k h marks m = ap (λ z. firsts_by (number_or_zero k) (marked z p.entries)) m ∙ firsts_are (number_or_zero k) (number_used k h)
 
   -- What is written of events and entries is the same, and so is all that is written.
   module _ (new : ℕ × ℕ → ℕ) (same : (t : ℕ × ℕ) → Used p kept t → new t ≡ new_key p kept t) where

@@ -15,27 +15,27 @@ use Rattle.jfr_worklist.specs.Marks.{is_marked}
 use Rattle.jfr_worklist.specs.Members.{In}
 use Rattle.jfr_worklist.proofs.Members.{contains_in, in_contains, in_left, in_right, in_cases}
 use Rattle.jfr_chunk.specs.Reach.{all_targets, kept_by, marked, nodes_of, reached_marks, remain}
-use Rattle.jfr_renumber.specs.declared.used.Missing.{Missing}
+use Rattle.jfr_renumber.specs.declared.missing.Missing.{Missing}
 use Rattle.jfr_renumber.specs.Missing.{Lists, flagged, is_missing}
 use Rattle.jfr_renumber.specs.Renumber.{used_keys}
 
 lists_none : (es : List EntryAt) (list : Missing) → Lists es [] list list
-lists_none es list = record { went = λ e. e; kept = λ e t c. c; joined = λ e t c. absurd (contains_in [] t c); only = λ e t c. inl c }
+lists_none es list = record { memory = λ e. e; grows = λ e t c. c; added = λ e t c. absurd (contains_in [] t c); only = λ e t c. inl c }
 
 lists_more : (es : List EntryAt) (ts us : List (ℕ × ℕ)) (a b c : Missing) → Lists es ts a b → Lists es us b c → Lists es (ts ++ us) a c
 lists_more es ts us a b c x y = record {
-  went = λ e. x.went (y.went e);
-  kept = λ e t i. y.kept e t (x.kept (y.went e) t i);
-  joined = λ e t i. joined_by e t (in_cases (filter (is_missing es) ts) (filter (is_missing es) us) t (subst (λ z. In z t) both (contains_in (filter (is_missing es) (ts ++ us)) t i)));
+  memory = λ e. x.memory (y.memory e);
+  grows = λ e t i. y.grows e t (x.grows (y.memory e) t i);
+  added = λ e t i. added_by e t (in_cases (filter (is_missing es) ts) (filter (is_missing es) us) t (subst (λ z. In z t) both (contains_in (filter (is_missing es) (ts ++ us)) t i)));
   only = λ e t i. only_by e t (y.only e t i);
 }
   where
     both : filter (is_missing es) (ts ++ us) ≡ (filter (is_missing es) ts) ++ (filter (is_missing es) us)
     both = filter-append (is_missing es) ts us
 
-    joined_by : c.failed ≡ false → (t : ℕ × ℕ) → In (filter (is_missing es) ts) t ⊎ In (filter (is_missing es) us) t → Contains c.keys.items t
-    joined_by e t (inl i) = y.kept e t (x.joined (y.went e) t (in_contains (filter (is_missing es) ts) t i))
-    joined_by e t (inr i) = y.joined e t (in_contains (filter (is_missing es) us) t i)
+    added_by : c.failed ≡ false → (t : ℕ × ℕ) → In (filter (is_missing es) ts) t ⊎ In (filter (is_missing es) us) t → Contains c.keys.items t
+    added_by e t (inl i) = y.grows e t (x.added (y.memory e) t (in_contains (filter (is_missing es) ts) t i))
+    added_by e t (inr i) = y.added e t (in_contains (filter (is_missing es) us) t i)
 
     there : (t : ℕ × ℕ) → In ((filter (is_missing es) ts) ++ (filter (is_missing es) us)) t → Contains (filter (is_missing es) (ts ++ us)) t
     there t i = subst (λ z. Contains z t) (sym both) (in_contains ((filter (is_missing es) ts) ++ (filter (is_missing es) us)) t i)
@@ -45,7 +45,7 @@ lists_more es ts us a b c x y = record {
     first_by t (inr i) = inr (there t (in_left (filter (is_missing es) ts) (filter (is_missing es) us) t (contains_in (filter (is_missing es) ts) t i)))
 
     only_by : c.failed ≡ false → (t : ℕ × ℕ) → Contains b.keys.items t ⊎ Contains (filter (is_missing es) us) t → Contains a.keys.items t ⊎ Contains (filter (is_missing es) (ts ++ us)) t
-    only_by e t (inl i) = first_by t (x.only (y.went e) t i)
+    only_by e t (inl i) = first_by t (x.only (y.memory e) t i)
     only_by e t (inr i) = inr (there t (in_right (filter (is_missing es) ts) (filter (is_missing es) us) t (contains_in (filter (is_missing es) us) t i)))
 
 -- What a visit takes is listed.
@@ -119,14 +119,14 @@ holds_more p ts us a b h l = λ e. ((λ t c. all_by e t (in_cases (filter (is_mi
     both = filter-append (is_missing p.entries) ts us
 
     all_by : b.failed ≡ false → (t : ℕ × ℕ) → In (filter (is_missing p.entries) ts) t ⊎ In (filter (is_missing p.entries) us) t → Contains b.keys.items t
-    all_by e t (inl i) = l.kept e t ((h (l.went e)).0 t (in_contains (filter (is_missing p.entries) ts) t i))
-    all_by e t (inr i) = l.joined e t (in_contains (filter (is_missing p.entries) us) t i)
+    all_by e t (inl i) = l.grows e t ((h (l.memory e)).0 t (in_contains (filter (is_missing p.entries) ts) t i))
+    all_by e t (inr i) = l.added e t (in_contains (filter (is_missing p.entries) us) t i)
 
     there : (t : ℕ × ℕ) → In ((filter (is_missing p.entries) ts) ++ (filter (is_missing p.entries) us)) t → Contains (filter (is_missing p.entries) (ts ++ us)) t
     there t i = subst (λ z. Contains z t) (sym both) (in_contains ((filter (is_missing p.entries) ts) ++ (filter (is_missing p.entries) us)) t i)
 
     only_by : b.failed ≡ false → (t : ℕ × ℕ) → Contains a.keys.items t ⊎ Contains (filter (is_missing p.entries) us) t → Contains (filter (is_missing p.entries) (ts ++ us)) t
-    only_by e t (inl i) = there t (in_left (filter (is_missing p.entries) ts) (filter (is_missing p.entries) us) t (contains_in (filter (is_missing p.entries) ts) t ((h (l.went e)).1 t i)))
+    only_by e t (inl i) = there t (in_left (filter (is_missing p.entries) ts) (filter (is_missing p.entries) us) t (contains_in (filter (is_missing p.entries) ts) t ((h (l.memory e)).1 t i)))
     only_by e t (inr i) = there t (in_right (filter (is_missing p.entries) ts) (filter (is_missing p.entries) us) t (contains_in (filter (is_missing p.entries) us) t i))
 
 pub event_next : (p : Parts) (flags : List Bool) (n : ℕ) (a b : Missing) → n < length flags → Holds p (all_targets p (nodes_of (marked (take n flags) (events_of p)))) a

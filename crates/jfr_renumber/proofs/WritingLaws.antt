@@ -41,7 +41,7 @@ use Rattle.jfr_output.proofs.CheckpointEntries.{marked_order}
 use Rattle.jfr_output.proofs.PositionLaws.{last_next, last_none, moved_next, or_none, or_place}
 use Rattle.jfr_output.proofs.Widths.{size_width, spelled_length}
 use Rattle.jfr_renumber.specs.Meaning.{AreNewKeys}
-use Rattle.jfr_renumber.specs.Numbers.{NumberedPairs, number_of, numbers_of}
+use Rattle.jfr_renumber.specs.Numbers.{NumberedPairs, number_of, number_or_zero}
 use Rattle.jfr_renumber.specs.Renumber.{assembled_by, bytes_by, checkpoint_tail, event_bytes, firsts, group_bytes, new_bytes, new_key, new_key_of, renumber_of, whole_bytes, written_by}
 use Rattle.jfr_renumber.specs.Writing.{CanWrite, CheckpointFits, IsBody, IsWritten, Progress, with_record}
 use Rattle.jfr_renumber.proofs.AgreeLaws.{number_used, output_same}
@@ -69,7 +69,7 @@ metadata_no_event p a flags r s t = by_find (find (λ e. e.record_of.at == r.at)
         absurd (clash (is_event_class p.classes e.record_of.type_id) c.class none)
 
 -- Keys that are the new ones of all that is used are no larger than the old ones.
-pub numbers_below : (p : Parts) → AreParts p → (flags : List Bool) (k : NumberedPairs) → ((t : ℕ × ℕ) → number_of k t ≡ new_key_of p (kept_by p flags) t) → (t : ℕ × ℕ) → numbers_of k t ≤ t.1
+pub numbers_below : (p : Parts) → AreParts p → (flags : List Bool) (k : NumberedPairs) → ((t : ℕ × ℕ) → number_of k t ≡ new_key_of p (kept_by p flags) t) → (t : ℕ × ℕ) → number_or_zero k t ≤ t.1
 numbers_below p a flags k h t = subst (λ o. unwrap_or o 0 ≤ t.1) (sym (h t)) (by_test _)
   where
     keys : AreNewKeys p (kept_by p flags) (new_key p (kept_by p flags))
@@ -296,9 +296,9 @@ all_assembled p bytes ss b h out i e o =
 
 -- So with these entries and keys it is the output with new keys.
 pub all_renumbered : (p : Parts) (a : AreParts p) (flags : List Bool) (k : NumberedPairs) (entries : List EntryAt) (out : List ℕ) → ((t : ℕ × ℕ) → number_of k t ≡ new_key_of p (kept_by p flags) t) → entries ≡ firsts p (kept_by p flags)
-    → out ≡ assembled_by p (new_bytes (numbers_of k) p (kept_by p flags) entries) (output_records p (kept_by p flags)) → out ≡ renumber_of p (kept_by p flags)
+    → out ≡ assembled_by p (new_bytes (number_or_zero k) p (kept_by p flags) entries) (output_records p (kept_by p flags)) → out ≡ renumber_of p (kept_by p flags)
 all_renumbered p a flags k entries out h e o =
-    o ∙ (ap (λ z. assembled_by p (new_bytes (numbers_of k) p (kept_by p flags) z) (output_records p (kept_by p flags))) e ∙ output_same p a flags (numbers_of k) (number_used p a flags k h))
+    o ∙ (ap (λ z. assembled_by p (new_bytes (number_or_zero k) p (kept_by p flags) z) (output_records p (kept_by p flags))) e ∙ output_same p a flags (number_or_zero k) (number_used p a flags k h))
 
 -- The first entries are in the order of their checkpoints, and all output records can be written with them.
 pub firsts_order : (p : Parts) → AreParts p → (flags : List Bool) → NotFalling 0 (firsts p (kept_by p flags))

@@ -5,7 +5,7 @@ use Rattle.std.specs.declared.cmp.Ordering.{Ordering}
 use Rattle.std.specs.Ordering.{nat_cmp, ordering_then}
 use Rattle.jfr_pool.specs.declared.entry.EntryAt.{EntryAt}
 use Rattle.jfr_pool.specs.Entries.{number_in_force}
-use Rattle.jfr_renumber.specs.declared.used.Missing.{Missing}
+use Rattle.jfr_renumber.specs.declared.missing.Missing.{Missing}
 
 -- Whether no entry is in force for the class and the key.
 abbrev pub is_missing : List EntryAt → ℕ × ℕ → Bool
@@ -17,9 +17,9 @@ flagged flags xs i = option_and_then (λ keep. if keep then slice_get xs i else 
 
 -- Unless memory ran out, the list has what it had, and those of `ts` without an entry in force.
 pub record Lists (es : List EntryAt) (ts : List (ℕ × ℕ)) (old new : Missing) : Type 0 where
-  pub went : new.failed ≡ false → old.failed ≡ false
-  pub kept : new.failed ≡ false → (t : ℕ × ℕ) → Contains old.keys.items t → Contains new.keys.items t
-  pub joined : new.failed ≡ false → (t : ℕ × ℕ) → Contains (filter (is_missing es) ts) t → Contains new.keys.items t
+  pub memory : new.failed ≡ false → old.failed ≡ false
+  pub grows : new.failed ≡ false → (t : ℕ × ℕ) → Contains old.keys.items t → Contains new.keys.items t
+  pub added : new.failed ≡ false → (t : ℕ × ℕ) → Contains (filter (is_missing es) ts) t → Contains new.keys.items t
   pub only : new.failed ≡ false → (t : ℕ × ℕ) → Contains new.keys.items t → Contains old.keys.items t ⊎ Contains (filter (is_missing es) ts) t
 
 -- A class and a key come before another pair: the class is smaller, or it is the same and the key is smaller.

@@ -17,5 +17,5 @@ unfoldable pub number_of : NumberedPairs → ℕ × ℕ → Option ℕ
 number_of k t = number_at k.pairs k.numbers t
 
 -- A number for each class and key: 0 if it has none.
-abbrev pub numbers_of : NumberedPairs → ℕ × ℕ → ℕ
-numbers_of k t = unwrap_or (number_of k t) 0
+abbrev pub number_or_zero : NumberedPairs → ℕ × ℕ → ℕ
+number_or_zero k t = unwrap_or (number_of k t) 0

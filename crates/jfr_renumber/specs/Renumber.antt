@@ -98,11 +98,11 @@ whole_bytes new p r (Some e) = event_bytes new p e
 whole_bytes new p r None = record_bytes p.bytes r
 
 -- The bytes of an output record at this offset in the output, with the older checkpoint at `older`, if there is
--- one. `remaining` are the entries of the output.
+-- one. `entries` are those of the output.
 abbrev pub new_bytes : (ℕ × ℕ → ℕ) → Parts → List EventAt → List EntryAt → OutputRecord → ℕ → Option ℕ → List ℕ
-new_bytes new p kept remaining (Whole r) at older = whole_bytes new p r (find (λ e. e.record_of.at == r.at) kept)
-new_bytes new p kept remaining (Rebuilt r x) at older = x
-new_bytes new p kept remaining (Chained number l) at older = sized (l.frame.type_at - l.frame.at) (checkpoint_tail new p l (distance at older) (groups_of remaining number))
+new_bytes new p kept entries (Whole r) at older = whole_bytes new p r (find (λ e. e.record_of.at == r.at) kept)
+new_bytes new p kept entries (Rebuilt r x) at older = x
+new_bytes new p kept entries (Chained number l) at older = sized (l.frame.type_at - l.frame.at) (checkpoint_tail new p l (distance at older) (groups_of entries number))
 
 -- The output records with their offsets, one after another, given the bytes of each.
 abbrev pub written_by : (OutputRecord → ℕ → Option ℕ → List ℕ) → ℕ → Option ℕ → List OutputRecord → List Written

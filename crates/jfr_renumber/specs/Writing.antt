@@ -29,17 +29,17 @@ progress_of o = record { bytes = o.bytes.items; newest = o.newest; metadata = o.
 -- The output with one output record more, given the bytes of each. The metadata record was at this offset in
 -- the chunk.
 unfoldable pub with_record : (OutputRecord → ℕ → Option ℕ → List ℕ) → ℕ → Progress → OutputRecord → Progress
-with_record bytes place b s = record {
+with_record bytes old_at b s = record {
   bytes = b.bytes ++ bytes s (length b.bytes) b.newest;
   newest = older_after s (length b.bytes) b.newest;
-  metadata = offset_so_far b.metadata ((record_of s).at == place) (length b.bytes);
+  metadata = offset_so_far b.metadata ((record_of s).at == old_at) (length b.bytes);
 }
 
 -- If the code's `OutputRecord` is an event only for a kept event and with its number, and `Metadata` exactly
 -- for the metadata record, then the output has one output record more: this one.
 unfoldable pub IsWritten : (ℕ × ℕ → ℕ) → Parts → List Bool → List EntryAt → Option (List ℕ) → contents.OutputRecord → Progress → Progress → Type 0
-IsWritten new p flags remaining slim s b after =
-    ShowsEvent p flags s → ShowsMetadata (metadata_at p.bytes) s → after ≡ with_record (new_bytes new p (kept_by p flags) remaining) (metadata_at p.bytes) b (output_record_as slim s)
+IsWritten new p flags entries slim s b after =
+    ShowsEvent p flags s → ShowsMetadata (metadata_at p.bytes) s → after ≡ with_record (new_bytes new p (kept_by p flags) entries) (metadata_at p.bytes) b (output_record_as slim s)
 
 -- The output has all output records, given the bytes of each, and 68 bytes for the header.
 pub record IsBody (p : Parts) (bytes : OutputRecord → ℕ → Option ℕ → List ℕ) (ss : List OutputRecord) (b : Progress) : Type 0 where
@@ -56,6 +56,6 @@ pub record CheckpointFits (new : ℕ × ℕ → ℕ) (p : Parts) (l : Link) (del
 
 -- The output record can be written at this offset: what it is made of is in the chunk.
 unfoldable pub CanWrite : (ℕ × ℕ → ℕ) → Parts → List EntryAt → OutputRecord → ℕ → Option ℕ → Type 0
-CanWrite new p remaining (Whole r) at older = IsRecord p.bytes r
-CanWrite new p remaining (Rebuilt r x) at older = IsRecord p.bytes r
-CanWrite new p remaining (Chained number l) at older = CheckpointFits new p l (distance at older) (filter (λ e. e.checkpoint == number) remaining)
+CanWrite new p entries (Whole r) at older = IsRecord p.bytes r
+CanWrite new p entries (Rebuilt r x) at older = IsRecord p.bytes r
+CanWrite new p entries (Chained number l) at older = CheckpointFits new p l (distance at older) (filter (λ e. e.checkpoint == number) entries)

@@ -6,8 +6,8 @@ ghost use Rattle.jfr_laws.specs.InChunk.{IsEntryIn, IsLinkIn};
 ghost use Rattle.jfr_renumber.specs.Renumber.{checkpoint_tail, entry_bytes, group_bytes};
 
 use crate::fields::put_value;
-use crate::records::put_size;
 use crate::rewriting::{NewKeys, put_integer};
+use crate::size::put_size;
 use jfr_base::NoMemory;
 use jfr_chunk::Chunk;
 use jfr_layout::Shape;

@@ -1,6 +1,6 @@
 //! The new keys of entries.
 ghost use Rattle.std.specs.Prelude.{◌≡◌, map, IfOk};
-ghost use Rattle.jfr_renumber.specs.Numbers.{numbers_of};
+ghost use Rattle.jfr_renumber.specs.Numbers.{number_or_zero};
 ghost use Rattle.jfr_renumber.specs.Renumber.{pair_of};
 
 use crate::numbered::NumberedKeys;
@@ -21,14 +21,14 @@ pub(crate) struct EntryKeys<'k> {
 
 impl<'k> Model for EntryKeys<'k> {
     ghost use Rattle.std.specs.Prelude.{◌≡◌, map};
-    ghost use Rattle.jfr_renumber.specs.Numbers.{NumberedPairs, numbers_of};
+    ghost use Rattle.jfr_renumber.specs.Numbers.{NumberedPairs, number_or_zero};
     ghost use Rattle.jfr_renumber.specs.Renumber.{pair_of};
 
     ghost Value = { NumberedPairs };
 
     ghost view = { λ k. k.keys.now };
 
-    ghost invariant = { λ k. k.by_entry.items ≡ map (λ e. numbers_of k.keys.now (pair_of e)) k.pools.now };
+    ghost invariant = { λ k. k.by_entry.items ≡ map (λ e. number_or_zero k.keys.now (pair_of e)) k.pools.now };
 }
 
 impl<'k> EntryKeys<'k> {
@@ -50,9 +50,9 @@ impl<'k> EntryKeys<'k> {
 }
 
 impl<'k> NewKeys for EntryKeys<'k> {
-    ghost use Rattle.jfr_renumber.specs.Numbers.{numbers_of};
+    ghost use Rattle.jfr_renumber.specs.Numbers.{number_or_zero};
 
-    ghost keys = { numbers_of };
+    ghost keys = { number_or_zero };
 
     /// The new key of a class and a key, or 0 if they aren't used.
     #[inline]
@@ -63,14 +63,14 @@ impl<'k> NewKeys for EntryKeys<'k> {
         }
     }
 
-    fn zero_stays(&self) {
-        self.keys.zero_stays();
+    fn zero_is_kept(&self) {
+        self.keys.zero_is_kept();
     }
 }
 
 // The new key of each of these entries.
 fn keys_of(alloc: Global, keys: &NumberedKeys, entries: &[EntryAt]) -> Result<Vec<u64>, NoMemory>
-    ensures { IfOk result (λ found. found.items ≡ map (λ e. numbers_of keys.now (pair_of e)) entries.now) }
+    ensures { IfOk result (λ found. found.items ≡ map (λ e. number_or_zero keys.now (pair_of e)) entries.now) }
 {
     let mut found = Vec::with_capacity(alloc, entries.len())?;
     for entry in entries {

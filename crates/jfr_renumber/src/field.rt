@@ -82,7 +82,7 @@ fn pass_key<N: NewKeys>(
 {
     if is_zero(context.bytes, passed.at, context.end) {
         // A law: it does nothing.
-        context.new.zero_stays();
+        context.new.zero_is_kept();
         passed.at += 1;
         return Ok(());
     }

@@ -115,7 +115,7 @@ fn pass_fields<N: NewKeys, L: Ledger>(
     requires layouts { AllByRecursion (IsFieldLayout context.classes.now) layouts.now }
     requires from { start.from ≤ start.at }
     requires within { context.end ≤ length context.bytes.now }
-    requires row { (vs : Values) × AreValues context.classes.now context.bytes.now start.at context.end (map (λ s. s.shape) layouts.now) vs }
+    requires values { (vs : Values) × AreValues context.classes.now context.bytes.now start.at context.end (map (λ s. s.shape) layouts.now) vs }
     ensures ok { IfOk result (λ from. (vs : Values) → AreValues context.entry.classes.now context.entry.bytes.now start.at context.entry.end (map (λ s. s.shape) layouts.now) vs → Adds context.entry.bytes.now out.old.items start out.new.items from context.entry.end (rekeyed_first (N.keys context.entry.new.now) vs (length layouts.now))) }
 {
     let count = referring_len(layouts);

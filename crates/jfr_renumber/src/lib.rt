@@ -17,6 +17,7 @@ mod fields;
 mod finding;
 mod firsts;
 mod laws;
+mod missing;
 mod numbered;
 mod numbering;
 mod output;
@@ -24,8 +25,8 @@ mod records;
 mod renumberer;
 mod rewriting;
 mod same;
+mod size;
 mod stream;
-mod used;
 mod values;
 
 pub use laws::{

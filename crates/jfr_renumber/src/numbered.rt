@@ -2,13 +2,13 @@
 ghost use Rattle.std.specs.Prelude.{◌≡◌, ℕ, ◌++◌, ◌<◌, [], ◌∷◌, length, map, slice_get, if◌then◌else◌, IfOk, IfSome, OnOk};
 ghost use Rattle.jfr_chunk.specs.Parts.{events_of};
 ghost use Rattle.jfr_chunk.specs.Reach.{kept_by, marked, reached_marks};
-ghost use Rattle.jfr_renumber.specs.Numbers.{number_of, numbers_of};
+ghost use Rattle.jfr_renumber.specs.Numbers.{number_of, number_or_zero};
 ghost use Rattle.jfr_renumber.specs.Renumber.{new_key_of, pair_of};
 
 use crate::finding::find;
+use crate::missing::{missing_keys, sort_and_dedup};
 use crate::numbering::number_all;
 use crate::rewriting::NewKeys;
-use crate::used::{missing_keys, sort_and_dedup};
 use crate::values::with_values;
 use jfr_base::NoMemory;
 use jfr_chunk::{Chunk, Kept};
@@ -27,13 +27,13 @@ pub(crate) struct NumberedKeys {
 impl Model for NumberedKeys {
     ghost use Rattle.std.specs.Prelude.{◌≡◌, ℕ, length};
     ghost use Rattle.jfr_renumber.specs.Missing.{IsRising};
-    ghost use Rattle.jfr_renumber.specs.Numbers.{NumberedPairs, numbers_of};
+    ghost use Rattle.jfr_renumber.specs.Numbers.{NumberedPairs, number_or_zero};
 
     ghost Value = { NumberedPairs };
 
     ghost view = { λ k. record { pairs = k.pairs.items; numbers = k.numbers.items } };
 
-    ghost invariant = { λ k. IsRising k.pairs.items × (length k.numbers.items ≡ length k.pairs.items) × ((class : ℕ) → numbers_of (record { pairs = k.pairs.items; numbers = k.numbers.items }) (class, 0) ≡ 0) };
+    ghost invariant = { λ k. IsRising k.pairs.items × (length k.numbers.items ≡ length k.pairs.items) × ((class : ℕ) → number_or_zero (record { pairs = k.pairs.items; numbers = k.numbers.items }) (class, 0) ≡ 0) };
 }
 
 impl NumberedKeys {
@@ -68,9 +68,9 @@ impl NumberedKeys {
 }
 
 impl NewKeys for NumberedKeys {
-    ghost use Rattle.jfr_renumber.specs.Numbers.{numbers_of};
+    ghost use Rattle.jfr_renumber.specs.Numbers.{number_or_zero};
 
-    ghost keys = { numbers_of };
+    ghost keys = { number_or_zero };
 
     /// The new key of a class and a key, or 0 if they aren't used.
     #[inline(never)]
@@ -79,7 +79,7 @@ impl NewKeys for NumberedKeys {
     }
 
     // The proof gets the invariant of `self` by reading a field.
-    fn zero_stays(&self) {
+    fn zero_is_kept(&self) {
         let _pairs = &self.pairs;
     }
 }

@@ -7,7 +7,7 @@ ghost use Rattle.jfr_chunk.specs.Written.{distance, sized};
 ghost use Rattle.jfr_output.specs.OutputRecords.{new_metadata, output_record_as};
 ghost use Rattle.jfr_output.specs.Positions.{IsBefore, offset_so_far};
 ghost use Rattle.jfr_output.specs.Remaining.{NotFalling};
-ghost use Rattle.jfr_renumber.specs.Numbers.{number_of, numbers_of};
+ghost use Rattle.jfr_renumber.specs.Numbers.{number_of, number_or_zero};
 ghost use Rattle.jfr_renumber.specs.Renumber.{checkpoint_tail, firsts, new_bytes, new_key_of, renumber_of};
 ghost use Rattle.jfr_renumber.specs.Writing.{CanWrite, CheckpointFits, IsBody, IsWritten, progress_of};
 
@@ -83,8 +83,8 @@ fn put_records<L: Ledger>(
     requires empty { progress_of output.old ≡ record { bytes = replicate 68 0; newest = None; metadata = None } }
     requires slim { option_map (λ s. s.now) source.slim ≡ new_metadata source.chunk.now kept.now }
     requires entries { source.entries.now ≡ firsts source.chunk.now (kept_by source.chunk.now kept.now) }
-    requires below { (t : ℕ × ℕ) → numbers_of source.keys.now t ≤ t.1 }
-    ensures ok { OnOk result (IsBody source.entry.chunk.now (new_bytes (numbers_of source.entry.keys.now) source.entry.chunk.now (kept_by source.entry.chunk.now kept.now) source.entry.entries.now) (output_records source.entry.chunk.now (kept_by source.entry.chunk.now kept.now)) (progress_of output.new)) }
+    requires below { (t : ℕ × ℕ) → number_or_zero source.keys.now t ≤ t.1 }
+    ensures ok { OnOk result (IsBody source.entry.chunk.now (new_bytes (number_or_zero source.entry.keys.now) source.entry.chunk.now (kept_by source.entry.chunk.now kept.now) source.entry.entries.now) (output_records source.entry.chunk.now (kept_by source.entry.chunk.now kept.now)) (progress_of output.new)) }
 {
     source.chunk.parts_are_valid();
     let mut cursor = Cursor {
@@ -110,10 +110,10 @@ fn put_record<L: Ledger>(
     steps: &mut Steps<L>,
 ) -> Result<(), NoMemory>
     requires order { NotFalling 0 source.entries.now }
-    requires below { (t : ℕ × ℕ) → numbers_of source.keys.now t ≤ t.1 }
+    requires below { (t : ℕ × ℕ) → number_or_zero source.keys.now t ≤ t.1 }
     requires before { IsBefore output.old.newest (length output.old.bytes.items) }
-    requires can { CanWrite (numbers_of source.keys.now) source.chunk.now source.entries.now (output_record_as (option_map (λ s. s.now) source.slim) output_record) (length output.old.bytes.items) output.old.newest }
-    ensures ok { OnOk result ((flags : List Bool) → IsWritten (numbers_of source.entry.keys.now) source.entry.chunk.now flags source.entry.entries.now (option_map (λ s. s.now) source.entry.slim) output_record (progress_of output.old) (progress_of output.new)) }
+    requires can { CanWrite (number_or_zero source.keys.now) source.chunk.now source.entries.now (output_record_as (option_map (λ s. s.now) source.slim) output_record) (length output.old.bytes.items) output.old.newest }
+    ensures ok { OnOk result ((flags : List Bool) → IsWritten (number_or_zero source.entry.keys.now) source.entry.chunk.now flags source.entry.entries.now (option_map (λ s. s.now) source.entry.slim) output_record (progress_of output.old) (progress_of output.new)) }
 {
     source.chunk.parts_are_valid();
     match output_record {
@@ -126,7 +126,7 @@ fn put_record<L: Ledger>(
             frame,
             source.slim,
         ),
-        OutputRecord::Chained(number, link) => { put_link(output, source, number, link, steps) }
+        OutputRecord::Chained(number, link) => { put_chained(output, source, number, link, steps) }
     }
 }
 
@@ -148,7 +148,7 @@ fn put_metadata(
 }
 
 // Writes a chained checkpoint.
-fn put_link<L: Ledger>(
+fn put_chained<L: Ledger>(
     output: &mut Output,
     source: Source<'_>,
     number: usize,
@@ -157,8 +157,8 @@ fn put_link<L: Ledger>(
 ) -> Result<(), NoMemory>
     requires order { NotFalling 0 source.entries.now }
     requires before { IsBefore output.old.newest (length output.old.bytes.items) }
-    requires can { CheckpointFits (numbers_of source.keys.now) source.chunk.now link (distance (length output.old.bytes.items) output.old.newest) (filter (λ e. e.checkpoint == number) source.entries.now) }
-    ensures ok { OnOk result (progress_of output.new ≡ record { bytes = output.old.bytes.items ++ sized (link.frame.type_at - link.frame.at) (checkpoint_tail (numbers_of source.entry.keys.now) source.entry.chunk.now link (distance (length output.old.bytes.items) output.old.newest) (groups_of source.entry.entries.now number)); newest = Some (length output.old.bytes.items); metadata = output.old.metadata }) }
+    requires can { CheckpointFits (number_or_zero source.keys.now) source.chunk.now link (distance (length output.old.bytes.items) output.old.newest) (filter (λ e. e.checkpoint == number) source.entries.now) }
+    ensures ok { OnOk result (progress_of output.new ≡ record { bytes = output.old.bytes.items ++ sized (link.frame.type_at - link.frame.at) (checkpoint_tail (number_or_zero source.entry.keys.now) source.entry.chunk.now link (distance (length output.old.bytes.items) output.old.newest) (groups_of source.entry.entries.now number)); newest = Some (length output.old.bytes.items); metadata = output.old.metadata }) }
 {
     let at = output.bytes.len();
     let checkpoint = OutputCheckpoint {

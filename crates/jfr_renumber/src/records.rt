@@ -1,6 +1,5 @@
 //! Events with new keys.
-ghost use Rattle.std.specs.Prelude.{◌≡◌, ◌<◌, ◌≤◌, ◌+◌, ◌-◌, ◌^◌, ℕ, ◌++◌, false, length, take, drop, slice_get, IfSome, OnOk};
-ghost use Rattle.jfr_base.specs.Integer.{FitsIn, spell_in};
+ghost use Rattle.std.specs.Prelude.{◌≡◌, ◌≤◌, ℕ, ◌++◌, None, false, slice_get, IfSome, OnOk};
 ghost use Rattle.jfr_frame.specs.Records.{IsRecord, record_end};
 ghost use Rattle.jfr_layout.specs.Classes.{Sound};
 ghost use Rattle.jfr_value.specs.Nodes.{IsValue};
@@ -11,7 +10,8 @@ ghost use Rattle.jfr_renumber.specs.Renumber.{event_bytes};
 use crate::field::{Passed, RekeyContext};
 use crate::fields::pass_value;
 use crate::rewriting::NewKeys;
-use jfr_base::{NoMemory, write_in};
+use crate::size::put_size;
+use jfr_base::NoMemory;
 use jfr_chunk::{Chunk, Event};
 use jfr_layout::Classes;
 use jfr_value::Steps;
@@ -30,7 +30,7 @@ pub(crate) fn put_event<N: NewKeys, L: Ledger>(
     requires value { IsValue classes.now event.node }
     requires array { event.node.shape.array ≡ false }
     requires constant { event.node.shape.constant ≡ false }
-    requires place { event.node.at ≡ event.frame.body }
+    requires start { event.node.at ≡ event.frame.body }
     requires within { event.node.end ≤ record_end event.frame }
     requires below { (t : ℕ × ℕ) → N.keys new.now t ≤ t.1 }
     ensures ok { OnOk result ((p : Parts) → p.classes ≡ classes.now → p.bytes ≡ event.entry.node.bytes.now → out.new.items ≡ out.old.items ++ event_bytes (N.keys new.now) p (event_at event.entry)) }
@@ -55,8 +55,8 @@ pub(crate) fn put_event<N: NewKeys, L: Ledger>(
     Ok(())
 }
 
-/// Appends the event of the chunk with this number, with new keys. Its size takes the same number of bytes as
-/// before.
+/// Appends the event of the chunk with this number, if there is one, with new keys. Its size takes the same number
+/// of bytes as before.
 pub(crate) fn put_chunk_event<N: NewKeys, L: Ledger>(
     out: &mut Vec<u8>,
     chunk: &Chunk<'_>,
@@ -65,6 +65,7 @@ pub(crate) fn put_chunk_event<N: NewKeys, L: Ledger>(
     steps: &mut Steps<L>,
 ) -> Result<(), NoMemory>
     requires below { (t : ℕ × ℕ) → N.keys new.now t ≤ t.1 }
+    ensures none { slice_get (events_of chunk.now) number ≡ None → out.new ≡ out.old }
     ensures ok { OnOk result (IfSome (slice_get (events_of chunk.now) number) (λ e. out.new.items ≡ out.old.items ++ event_bytes (N.keys new.now) chunk.now e)) }
 {
     chunk.parts_are_valid();
@@ -72,20 +73,4 @@ pub(crate) fn put_chunk_event<N: NewKeys, L: Ledger>(
         Some(event) => put_event(out, chunk.classes(), event, new, steps),
         None => Ok(()),
     }
-}
-
-/// Writes the number of bytes from offset `from` on into the first `count` of them.
-pub(crate) fn put_size(out: &mut Vec<u8>, from: usize, count: usize)
-    requires count { (1 ≤ count) × (count ≤ 9) }
-    requires within { from + count ≤ length out.old.items }
-    requires fits { FitsIn (length out.old.items - from) count }
-    ensures { out.new.items ≡ take from out.old.items ++ (spell_in count (length out.old.items - from) ++ drop (from + count) out.old.items) }
-{
-    if count == 1 {
-        out[from] = (out.len() - from) as u8;
-        return;
-    }
-    let mut spelled = [0; 9];
-    write_in((out.len() - from) as u64, count, &mut spelled);
-    out[from..from + count].copy_from_slice(&spelled[..count]);
 }

@@ -26,7 +26,7 @@ pub(crate) trait NewKeys {
         ensures { result ≡ keys self.now (class, key) };
 
     /// The law that the key 0 stays 0.
-    fn zero_stays(&self)
+    fn zero_is_kept(&self)
         ensures { (class : ℕ) → keys self.now (class, 0) ≡ 0 };
 }
 

@@ -18,7 +18,7 @@ returns-then-is_zero g c = record {
       let f = c.requires.field in
       let m = key_shape s c.args.layout.now.kind (sym c.requires.key ∙ f.layout.form) in
       let z = c.is_zero.ensures.exact.0 c.if-is_zero.true in
-      let q = null_same (g.N.NewKeys.keys c.args.context.new.now) c.args.context.classes.now c.args.context.bytes.now passed.at to c.args.context.end s f.sound z.0 f.within z.1 (c.zero_stays.ensures s.class) m.0 m.1 t l in
+      let q = null_same (g.N.NewKeys.keys c.args.context.new.now) c.args.context.classes.now c.args.context.bytes.now passed.at to c.args.context.end s f.sound z.0 f.within z.1 (c.zero_is_kept.ensures s.class) m.0 m.1 t l in
       waits g.N.NewKeys.keys c.args.context s c.args.out.now.items passed to _ f.from t.1.order q.0 q.1);
 }
 

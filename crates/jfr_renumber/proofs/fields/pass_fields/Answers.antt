@@ -16,7 +16,7 @@ pub pass_field-requires : goal.pass_field-requires
 pass_field-requires g c =
     let ls = c.args.layouts.now in
     let i = c.loop-i.i in
-    let r = c.requires.row in
+    let r = c.requires.values in
     let s = (get_or ls i no_layout).shape in
     let f = field_at (g.N.NewKeys.keys c.args.context.new.now) c.args.context.classes.now c.args.context.bytes.now c.args.start.at c.args.context.end (map (λ s. s.shape) ls) r.0 i s r.1 (shapes_get ls i (get_or ls i no_layout) (layout_there ls i (omega (arith, c.referring_len-count.ensures.within)))) in
     let a = c.loop-i.invariant r.0 r.1 in

@@ -8,8 +8,8 @@ use Rattle.jfr_value.proofs.ChildLaws.{inline_known}
 use Rattle.jfr_renumber.proofs.FieldLaws.{fields_shape, inline_layout, layouts_row}
 use Rattle.jfr_renumber.proofs.fields.pass_value.Goals as goal
 
-pub pass_fields-requires-clause-row : goal.pass_fields-requires-clause-row
-pass_fields-requires-clause-row g c =
+pub pass_fields-requires-clause-values : goal.pass_fields-requires-clause-values
+pass_fields-requires-clause-values g c =
     let k = c.args.context.classes.now in
     let x = c.args.context.bytes.now in
     let n = node_at c.args.shape c.args.start.at c.args.context.end in

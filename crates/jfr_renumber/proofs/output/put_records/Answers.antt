@@ -6,7 +6,7 @@ use Rattle.jfr_chunk.specs.Scrub.{output_records}
 use Rattle.jfr_output.specs.OutputRecords.{output_record_as, output_record_in}
 use Rattle.jfr_output.specs.Remaining.{NotFalling}
 use Rattle.jfr_output.proofs.CursorLaws.{cursor_first}
-use Rattle.jfr_renumber.specs.Numbers.{numbers_of}
+use Rattle.jfr_renumber.specs.Numbers.{number_or_zero}
 use Rattle.jfr_renumber.specs.Renumber.{new_bytes}
 use Rattle.jfr_renumber.specs.Writing.{CanWrite, progress_of, with_record}
 use Rattle.jfr_renumber.proofs.WritingLaws.{Going, firsts_can, firsts_order, going_next, going_none, next_before, written_is}
@@ -16,7 +16,7 @@ pub output_records-init : goal.output_records-init
 output_records-init g c =
     let p = c.args.source.chunk.now in
     let flags = c.args.kept.now in
-    let new = numbers_of c.args.source.keys.now in
+    let new = number_or_zero c.args.source.keys.now in
     let remaining = c.args.source.entries.now in
     record {
       cursor = cursor_first p flags c.parts_are_valid.ensures.parts;
@@ -29,7 +29,7 @@ put_record-requires-clause-order g c = subst (NotFalling 0) (sym c.requires.entr
 pub put_record-requires-clause-can : goal.put_record-requires-clause-can
 put_record-requires-clause-can g c =
     let p = c.args.source.chunk.now in
-    let new = numbers_of c.args.source.keys.now in
+    let new = number_or_zero c.args.source.keys.now in
     let remaining = c.args.source.entries.now in
     let e = ap (λ (slim : Option (List ℕ)). output_record_as slim c.in-Some.output_record) c.requires.slim in
     let going = subst (λ ss. Going p (new_bytes new p (kept_by p c.args.kept.now) remaining) (CanWrite new p remaining) (output_records p (kept_by p c.args.kept.now)) ss (progress_of c.output_records.output)) c.in-Some.ensures.exact c.output_records.invariant.output in
@@ -39,7 +39,7 @@ pub output_records-preserved : goal.output_records-preserved
 output_records-preserved g c =
     let p = c.args.source.chunk.now in
     let flags = c.args.kept.now in
-    let new = numbers_of c.args.source.keys.now in
+    let new = number_or_zero c.args.source.keys.now in
     let remaining = c.args.source.entries.now in
     let e = ap (λ (slim : Option (List ℕ)). output_record_as slim c.in-Some.output_record) c.requires.slim in
     let going = subst (λ ss. Going p (new_bytes new p (kept_by p flags) remaining) (CanWrite new p remaining) (output_records p (kept_by p flags)) ss (progress_of c.output_records.output)) c.in-Some.ensures.exact c.output_records.invariant.output in

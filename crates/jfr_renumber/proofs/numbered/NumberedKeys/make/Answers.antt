@@ -1,6 +1,6 @@
 use Rattle.std.proofs.Common.{arith}
 use Rattle.std.specs.Prelude.{◌≤◌}
-use Rattle.jfr_renumber.specs.Numbers.{NumberedPairs, numbers_of}
+use Rattle.jfr_renumber.specs.Numbers.{NumberedPairs, number_or_zero}
 use Rattle.jfr_renumber.proofs.UsedPairs.{IsNumbered, all_numbered, numbered_of}
 use Rattle.jfr_renumber.proofs.WritingLaws.{numbers_below}
 use Rattle.jfr_chunk.specs.Reach.{kept_by}
@@ -17,7 +17,7 @@ invariant_of-result c =
       c.sort_and_dedup.ensures.rising,
       made.count,
       λ class.
-          (let below : numbers_of k (class, 0) ≤ 0 = numbers_below p c.parts_are_valid.ensures.parts flags k (numbered_of p (kept_by p flags) k.pairs k.numbers made) (class, 0) in
+          (let below : number_or_zero k (class, 0) ≤ 0 = numbers_below p c.parts_are_valid.ensures.parts flags k (numbered_of p (kept_by p flags) k.pairs k.numbers made) (class, 0) in
           omega arith),
     )
 

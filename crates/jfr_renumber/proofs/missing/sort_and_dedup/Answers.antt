@@ -1,7 +1,7 @@
 use Rattle.std.proofs.lemmas.List.Filters.{dedup_is}
 use Rattle.std.proofs.lemmas.List.Sorted.{Contains-permutation, IsPermutation-sym}
 use Rattle.jfr_renumber.proofs.OrderLaws.{all_kept, in_order, no_more, pair_same}
-use Rattle.jfr_renumber.proofs.used.sort_and_dedup.Goals as goal
+use Rattle.jfr_renumber.proofs.missing.sort_and_dedup.Goals as goal
 
 pub returns-clause-rising : goal.returns-clause-rising
 returns-clause-rising c = in_order c.sort_unstable.new.self.items c.dedup.new.self.items c.sort_unstable.ensures.sorted (dedup_is pair_same _ _ c.dedup.ensures.filtered)

@@ -1,7 +1,7 @@
 use Rattle.std.proofs.Common.{◌≡◌, ◌+◌, ◌-◌, ◌++◌, ap, arith, drop, length, set, sym, take, ◌∙◌}
 use Rattle.jfr_base.specs.Integer.{spell_in}
 use Rattle.jfr_renumber.proofs.SizeLaws.{size_put}
-use Rattle.jfr_renumber.proofs.records.put_size.Goals as goal
+use Rattle.jfr_renumber.proofs.size.put_size.Goals as goal
 
 pub returns-then-count-eq1 : goal.returns-then-count-eq1
 returns-then-count-eq1 c =

@@ -7,7 +7,7 @@ use Rattle.jfr_value.proofs.LayoutLaws.{layout_class}
 use Rattle.jfr_renumber.specs.Missing.{Lists}
 use Rattle.jfr_renumber.proofs.FieldLaws.{inline_layout}
 use Rattle.jfr_renumber.proofs.ListingLaws.{all_visited}
-use Rattle.jfr_renumber.proofs.used.list_value.Goals as goal
+use Rattle.jfr_renumber.proofs.missing.list_value.Goals as goal
 
 pub end_visiting-end-requires-clause-layout : goal.end_visiting-end-requires-clause-layout
 end_visiting-end-requires-clause-layout c =

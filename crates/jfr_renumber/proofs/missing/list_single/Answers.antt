@@ -1,7 +1,7 @@
 use Rattle.std.proofs.Common.{[], ◌∷◌}
 use Rattle.jfr_renumber.specs.Missing.{Lists}
 use Rattle.jfr_renumber.proofs.ListingLaws.{all_visited}
-use Rattle.jfr_renumber.proofs.used.list_single.Goals as goal
+use Rattle.jfr_renumber.proofs.missing.list_single.Goals as goal
 
 pub end_visiting-end-requires-clause-layout : goal.end_visiting-end-requires-clause-layout
 end_visiting-end-requires-clause-layout c = c.layout_of-layout.ensures.known c.requires.known
