@@ -21,7 +21,7 @@ use Rattle.jfr_chunk.specs.Metas.{rebuilt, stays_in}
 use Rattle.jfr_chunk.specs.Parts.{EventAt, Parts}
 use Rattle.jfr_chunk.specs.Reach.{reached_marks, remain}
 use Rattle.jfr_chunk.specs.Refusal.{read_parts}
-use Rattle.jfr_chunk.proofs.Chunks.{edited, event_a, header, metadata, metadata_b, record_a, record_b, rings, rings_parts}
+use Rattle.jfr_chunk.proofs.Chunks.{edited, header, metadata, metadata_b, record_a, record_b, rings, rings_parts}
 use Rattle.jfr_renumber.specs.Keys.{count_below, group_number}
 use Rattle.jfr_renumber.specs.Renumber.{firsts, new_key, new_key_of, renumber_of, together, used_keys}
 
