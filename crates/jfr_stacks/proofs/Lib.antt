@@ -5,5 +5,5 @@ mod FoldLaws
 mod ItemLaws
 mod MapLaws
 mod MethodLaws
-mod OwedLaws
+mod PendingLaws
 mod TextLaws

@@ -9,7 +9,7 @@ use Rattle.jfr_pool.specs.declared.entry.EntryAt.{EntryAt}
 use Rattle.jfr_chunk.specs.Parts.{Parts}
 use Rattle.jfr_chunk.specs.Paths.{is_reference, named_field, named_node, text_of}
 use Rattle.jfr_path.proofs.FollowLaws.{followed}
-use Rattle.jfr_stacks.specs.Frames.{after_references, entry_of}
+use Rattle.jfr_stacks.specs.Frames.{after_references, entry_number}
 use Rattle.jfr_stacks.specs.Methods.{HasText, IsMethodText, method_of}
 use Rattle.jfr_stacks.specs.Texts.{escaped, frame_text, method_names, name_text, type_names}
 use Rattle.jfr_stacks.proofs.TextLaws.{entry_followed, leads_to, there}
@@ -19,16 +19,16 @@ record Method (p : Parts) (frame : NodeAt) (number : ℕ) : Type 0 where
   node : NodeAt
   field : named_field p (codes "method") (after_references 16 p frame) ≡ Some node
   reference : is_reference node ≡ true
-  entry : entry_of p node ≡ Some number
+  entry : entry_number p node ≡ Some number
 
 method_in : (p : Parts) (frame : NodeAt) (number : ℕ) → method_of p frame ≡ Some number → Method p frame number
 method_in p frame number e = by_field (named_field p (codes "method") (after_references 16 p frame)) refl e
   where
-    by_test : (m : NodeAt) (b : Bool) → named_field p (codes "method") (after_references 16 p frame) ≡ Some m → is_reference m ≡ b → (if b then entry_of p m else None) ≡ Some number → Method p frame number
+    by_test : (m : NodeAt) (b : Bool) → named_field p (codes "method") (after_references 16 p frame) ≡ Some m → is_reference m ≡ b → (if b then entry_number p m else None) ≡ Some number → Method p frame number
     by_test m true f t e = record { node = m; field = f; reference = t; entry = e }
     by_test m false f t e = cc
 
-    by_field : (o : Option NodeAt) → named_field p (codes "method") (after_references 16 p frame) ≡ o → option_and_then (λ m. if is_reference m then entry_of p m else None) o ≡ Some number → Method p frame number
+    by_field : (o : Option NodeAt) → named_field p (codes "method") (after_references 16 p frame) ≡ o → option_and_then (λ m. if is_reference m then entry_number p m else None) o ≡ Some number → Method p frame number
     by_field None f e = cc
     by_field (Some m) f e = by_test m (is_reference m) f refl e
 

@@ -20,7 +20,7 @@ use Rattle.jfr_pool.proofs.ForceLaws.{force_within}
 use Rattle.jfr_chunk.specs.Parts.{EventAt, Parts}
 use Rattle.jfr_chunk.specs.Paths.{follow, is_reference, named_field, named_node}
 use Rattle.jfr_path.proofs.FollowLaws.{ends, followed}
-use Rattle.jfr_stacks.specs.Frames.{IsOf, after_references, entry_of, field_numbers, frames_in, frames_of, items_of, trace_of}
+use Rattle.jfr_stacks.specs.Frames.{IsChunkValue, after_references, entry_number, field_numbers, frames_in, frames_of, items_of, trace_of}
 use Rattle.jfr_stacks.specs.Texts.{LeadsTo, entry_text, frame_text, joined, stack_of, stack_text, trace_text}
 
 -- The text of an event's stack is that of its trace.
@@ -72,7 +72,7 @@ there (x ∷ xs) zero h = (x, refl)
 there (x ∷ xs) (suc i) h = there xs i (omega arith)
 
 -- The entry to which a value refers is the one that is followed to.
-pub entry_followed : (p : Parts) (n : NodeAt) (number : ℕ) (x : EntryAt) → entry_of p n ≡ Some number → slice_get p.entries number ≡ Some x → follow p n ≡ Some (entry_node x)
+pub entry_followed : (p : Parts) (n : NodeAt) (number : ℕ) (x : EntryAt) → entry_number p n ≡ Some number → slice_get p.entries number ≡ Some x → follow p n ≡ Some (entry_node x)
 entry_followed p n number x e g = by_target (target p.classes p.bytes n) e
   where
     by_target : (o : Option (ℕ × ℕ)) → option_and_then (number_in_force p.entries) o ≡ Some number → option_and_then (λ t. option_map entry_node (option_and_then (λ n. slice_get p.entries n) (number_in_force p.entries t))) o ≡ Some (entry_node x)
@@ -80,7 +80,7 @@ entry_followed p n number x e g = by_target (target p.classes p.bytes n) e
     by_target (Some t) e = ap (λ z. option_map entry_node (option_and_then (λ n. slice_get p.entries n) z)) e ∙ ap (option_map entry_node) g
 
 -- A reference to an entry has the stack of the entry.
-pub leads_to : (p : Parts) (n : NodeAt) (number : ℕ) → is_reference n ≡ true → entry_of p n ≡ Some number → LeadsTo p n number
+pub leads_to : (p : Parts) (n : NodeAt) (number : ℕ) → is_reference n ≡ true → entry_number p n ≡ Some number → LeadsTo p n number
 unfolding entry_text
 leads_to p n number r e =
     let l = within_entries p (target p.classes p.bytes n) number e in
@@ -115,7 +115,7 @@ no_field p n v name s i a o = by_class (find_class p.classes n.shape.class)
     by_class (Some c) = by_number (field_number c.fields name)
 
 -- A reference without an entry is followed nowhere, and has no frames.
-pub no_trace : (p : Parts) (n : NodeAt) (v : Value) → Sound p.classes → IsNode p.classes p.bytes n v → is_reference n ≡ true → entry_of p n ≡ None → trace_text p (after_references 16 p n) ≡ None
+pub no_trace : (p : Parts) (n : NodeAt) (v : Value) → Sound p.classes → IsNode p.classes p.bytes n v → is_reference n ≡ true → entry_number p n ≡ None → trace_text p (after_references 16 p n) ≡ None
 unfolding trace_text
 no_trace p n v s i r e =
     let k = shape_of_reference n.shape.array n.shape.constant r in
@@ -159,10 +159,10 @@ module _ (p : Parts) where
       ap (λ z. z ++ rest_text p items) (n ∙ ap (λ z. z ++ f) c) ∙ (append_assoc (before ++ codes ";") f (rest_text p items) ∙ (g ∙ (ap (λ z. before ++ z) (sym (rest_first all items x e)) ∙ h)))
 
 -- The last of the nodes, and those before it.
-pub all_last : (p : Parts) (all items : List Node) (x : Node) → all ≡ items ++ x ∷ [] → AllByRecursion (IsOf p) all → AllByRecursion (IsOf p) items × IsOf p x
-all_last p all items x e a = split items (subst (AllByRecursion (IsOf p)) e a)
+pub all_last : (p : Parts) (all items : List Node) (x : Node) → all ≡ items ++ x ∷ [] → AllByRecursion (IsChunkValue p) all → AllByRecursion (IsChunkValue p) items × IsChunkValue p x
+all_last p all items x e a = split items (subst (AllByRecursion (IsChunkValue p)) e a)
   where
-    split : (items : List Node) → AllByRecursion (IsOf p) (items ++ x ∷ []) → AllByRecursion (IsOf p) items × IsOf p x
+    split : (items : List Node) → AllByRecursion (IsChunkValue p) (items ++ x ∷ []) → AllByRecursion (IsChunkValue p) items × IsChunkValue p x
     split [] a = (tt, a.0)
     split (y ∷ items) a = let h = split items a.1 in ((a.0, h.0), h.1)
 

@@ -6,12 +6,12 @@ use Rattle.jfr_chunk.specs.Parts.{Parts}
 use Rattle.jfr_chunk.specs.Paths.{is_reference, named_field}
 use Rattle.jfr_stacks.specs.declared.frame_writer.FrameWriter.{FrameWriter}
 use Rattle.jfr_stacks.specs.declared.methods.MethodTexts.{MethodTexts}
-use Rattle.jfr_stacks.specs.Frames.{after_references, entry_of, field_numbers}
+use Rattle.jfr_stacks.specs.Frames.{after_references, entry_number, field_numbers}
 use Rattle.jfr_stacks.specs.Texts.{frame_text, method_names, type_names}
 
 -- The number of the entry to which the method of a frame refers, if there is one.
 abbrev pub method_of : Parts → NodeAt → Option ℕ
-method_of p frame = option_and_then (λ m. if is_reference m then entry_of p m else None) (named_field p (codes "method") (after_references 16 p frame))
+method_of p frame = option_and_then (λ m. if is_reference m then entry_number p m else None) (named_field p (codes "method") (after_references 16 p frame))
 
 -- Each frame whose method is the entry with this number has this text.
 pub record IsMethodText (p : Parts) (number : ℕ) (text : List ℕ) : Type 0 where

@@ -13,16 +13,16 @@
 //! `specs/Frames.antt`.
 #![tactic(auto)]
 
+mod adding;
 mod counting;
 mod counts;
-mod entries;
+mod entry;
 mod fields;
 mod frame_writer;
 mod frames;
 mod methods;
 mod names;
 mod stacks;
-mod steps;
 mod trace;
 mod writer;
 

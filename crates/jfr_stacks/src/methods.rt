@@ -5,11 +5,11 @@
 ghost use Rattle.std.specs.Prelude.{◌≡◌, IfOk, IfSome, OnOk, codes, string_bytes};
 ghost use Rattle.jfr_chunk.specs.Parts.{Parts};
 ghost use Rattle.jfr_value.specs.Nodes.{node_of};
-ghost use Rattle.jfr_stacks.specs.Frames.{IsOf, field_numbers};
+ghost use Rattle.jfr_stacks.specs.Frames.{IsChunkValue, field_numbers};
 ghost use Rattle.jfr_stacks.specs.Methods.{AreMethodTexts, IsMethodText, method_of};
 
+use crate::entry::entry_number;
 use crate::fields::FieldNumbers;
-use crate::steps::entry_of;
 use jfr_base::NoMemory;
 use jfr_chunk::Chunk;
 use jfr_path::is_reference;
@@ -65,12 +65,12 @@ pub(crate) fn method_of<'a>(
     frame: &Node<'a>,
 ) -> Option<usize>
     requires fields { fields.now ≡ field_numbers (codes "method") chunk.now.classes }
-    requires frame { IsOf chunk.now frame.now }
+    requires frame { IsChunkValue chunk.now frame.now }
     ensures { result ≡ method_of chunk.now (node_of frame.now) }
 {
     let method = fields.find(chunk, frame)?;
     if !is_reference(&method) {
         return None;
     }
-    entry_of(chunk, &method)
+    entry_number(chunk, &method)
 }
