@@ -21,7 +21,8 @@ use Rattle.jfr_chunk.specs.Parts.{EventAt, Parts}
 use Rattle.jfr_chunk.specs.Paths.{follow, is_reference, named_field, named_node}
 use Rattle.jfr_path.proofs.FollowLaws.{ends, followed}
 use Rattle.jfr_stacks.specs.Frames.{IsChunkValue, after_references, entry_number, field_numbers, frames_in, frames_of, items_of, trace_of}
-use Rattle.jfr_stacks.specs.Texts.{LeadsTo, entry_text, frame_text, joined, stack_of, stack_text, trace_text}
+use Rattle.jfr_stacks.specs.Texts.{entry_text, frame_text, joined, stack_of, stack_text, trace_text}
+use Rattle.jfr_stacks.specs.Trace.{LeadsNowhere, LeadsTo}
 
 -- The text of an event's stack is that of its trace.
 pub traced : (p : Parts) (e : EventAt) → stack_of p e ≡ option_and_then (λ t. trace_text p (after_references 16 p t)) (trace_of p e.node)
@@ -86,6 +87,8 @@ leads_to p n number r e =
     let l = within_entries p (target p.classes p.bytes n) number e in
     let g = there p.entries number l in
     record {
+      reference = r;
+      entry = e;
       within = l;
       same = ap (trace_text p) (followed is_reference p 15 n (entry_node g.0) r (entry_followed p n number g.0 e g.1)) ∙ sym (ap (option_and_then (λ e. trace_text p (after_references 15 p (entry_node e)))) g.1);
     }
@@ -129,6 +132,9 @@ no_trace p n v s i r e =
     not_followed : (o : Option (ℕ × ℕ)) → option_and_then (number_in_force p.entries) o ≡ None → option_and_then (λ t. option_map entry_node (in_force p.entries t)) o ≡ None
     not_followed None e = refl
     not_followed (Some t) e = ap (λ z. option_map entry_node (option_and_then (λ n. slice_get p.entries n) z)) e
+
+pub leads_nowhere : (p : Parts) (n : NodeAt) (v : Value) → Sound p.classes → IsNode p.classes p.bytes n v → is_reference n ≡ true → entry_number p n ≡ None → LeadsNowhere p n
+leads_nowhere p n v s i r e = record { reference = r; missing = e; none = no_trace p n v s i r e }
 
 -- The frames that are left, from the last to the first, each after a semicolon.
 abbrev pub rest_text : Parts → List Node → List ℕ

@@ -1,5 +1,6 @@
 pub mod Frames
 pub mod Texts
+pub mod Trace
 pub mod Methods
 pub mod Folded
 pub mod Held

@@ -1,7 +1,7 @@
 //! Where the stack traces of events are.
 ghost use Rattle.std.specs.Prelude.{◌≡◌};
 ghost use Rattle.jfr_value.specs.Nodes.{IsValue, node_of};
-ghost use Rattle.jfr_stacks.specs.Texts.{IsLocation};
+ghost use Rattle.jfr_stacks.specs.Trace.{IsLocation};
 
 use crate::entry::entry_number;
 use jfr_chunk::Chunk;

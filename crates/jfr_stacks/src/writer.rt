@@ -22,7 +22,7 @@ pub(crate) struct StackWriter {
 }
 
 impl StackWriter {
-    /// A writer for the stacks of this chunk. It has written nothing yet.
+    /// A writer for the stacks of this chunk.
     pub(crate) fn new(alloc: Global, chunk: &Chunk<'_>) -> Result<StackWriter, NoMemory>
         ensures ready { IfOk result (λ writer. WritesFor chunk.now writer.frames) }
     {
