@@ -5,6 +5,7 @@ use Rattle.std.specs.List.{AllByRecursion}
 use Rattle.std.proofs.Common.{ap, arith, refl, subst, sym, ◌∙◌}
 use Rattle.std.proofs.lemmas.List.{append_assoc, map-append, reverse-append}
 use Rattle.std.proofs.lemmas.List.Concat.{flat_map-cons}
+use Rattle.std.proofs.lemmas.Option.{slice_get-map}
 use Rattle.jfr_layout.specs.declared.class.ClassInfo.{ClassInfo}
 use Rattle.jfr_layout.specs.declared.shape.Shape.{Shape}
 use Rattle.jfr_layout.specs.Classes.{Sound, field_number, find_class}
@@ -42,11 +43,6 @@ pub traced_all : (p : Parts) (o : Option EventAt) → option_and_then (stack_of 
 traced_all p None = refl
 traced_all p (Some e) = traced p e
 
-get_map : {X Y : Type 0} (f : X → Y) (xs : List X) (n : ℕ) → slice_get (map f xs) n ≡ option_map f (slice_get xs n)
-get_map f [] n = refl
-get_map f (x ∷ xs) zero = refl
-get_map f (x ∷ xs) (suc n) = get_map f xs n
-
 module _ (p : Parts) (n : NodeAt) (name : List ℕ) where
   -- The field of a class.
   abbrev field_in : Option ClassInfo → Option NodeAt
@@ -54,14 +50,14 @@ module _ (p : Parts) (n : NodeAt) (name : List ℕ) where
 
   -- The field with the number that is listed for its class, and with none.
   pub field_found : (index number : ℕ) → option_and_then (slice_get p.classes) (Some index) ≡ find_class p.classes n.shape.class → option_and_then (λ x. x) (slice_get (field_numbers name p.classes) index) ≡ Some number → named_field p name n ≡ child p.classes p.bytes n (steps.Field number)
-  field_found index number c e = ap field_in (sym c) ∙ by_class (slice_get p.classes index) (ap (option_and_then (λ x. x)) (sym (get_map (λ (c : ClassInfo). field_number c.fields name) p.classes index)) ∙ e)
+  field_found index number c e = ap field_in (sym c) ∙ by_class (slice_get p.classes index) (ap (option_and_then (λ x. x)) (sym (slice_get-map (λ (c : ClassInfo). field_number c.fields name) p.classes index)) ∙ e)
     where
       by_class : (o : Option ClassInfo) → option_and_then (λ x. x) (option_map (λ (c : ClassInfo). field_number c.fields name) o) ≡ Some number → field_in o ≡ child p.classes p.bytes n (steps.Field number)
       by_class None e = cc
       by_class (Some c) e = ap (option_and_then (λ i. child p.classes p.bytes n (steps.Field i))) e
 
   pub field_missing : (index : ℕ) → option_and_then (slice_get p.classes) (Some index) ≡ find_class p.classes n.shape.class → option_and_then (λ x. x) (slice_get (field_numbers name p.classes) index) ≡ None → named_field p name n ≡ None
-  field_missing index c e = ap field_in (sym c) ∙ by_class (slice_get p.classes index) (ap (option_and_then (λ x. x)) (sym (get_map (λ (c : ClassInfo). field_number c.fields name) p.classes index)) ∙ e)
+  field_missing index c e = ap field_in (sym c) ∙ by_class (slice_get p.classes index) (ap (option_and_then (λ x. x)) (sym (slice_get-map (λ (c : ClassInfo). field_number c.fields name) p.classes index)) ∙ e)
     where
       by_class : (o : Option ClassInfo) → option_and_then (λ x. x) (option_map (λ (c : ClassInfo). field_number c.fields name) o) ≡ None → field_in o ≡ None
       by_class None e = refl
@@ -118,7 +114,7 @@ no_field p n v name s i a o = by_class (find_class p.classes n.shape.class)
     by_class (Some c) = by_number (field_number c.fields name)
 
 -- A reference without an entry is followed nowhere, and has no frames.
-pub no_trace : (p : Parts) (n : NodeAt) (v : Value) → Sound p.classes → IsNode p.classes p.bytes n v → is_reference n ≡ true → entry_number p n ≡ None → trace_text p (after_references 16 p n) ≡ None
+no_trace : (p : Parts) (n : NodeAt) (v : Value) → Sound p.classes → IsNode p.classes p.bytes n v → is_reference n ≡ true → entry_number p n ≡ None → trace_text p (after_references 16 p n) ≡ None
 unfolding trace_text
 no_trace p n v s i r e =
     let k = shape_of_reference n.shape.array n.shape.constant r in

@@ -1,5 +1,5 @@
 //! The texts of frames.
-ghost use Rattle.std.specs.Prelude.{◌≡◌, ◌++◌, IfOk, OnOk, Some, string_bytes};
+ghost use Rattle.std.specs.Prelude.{◌≡◌, ◌++◌, IfOk, OnOk, Some, slice_get, string_bytes};
 ghost use Rattle.jfr_value.specs.Nodes.{node_of};
 ghost use Rattle.jfr_stacks.specs.Frames.{IsChunkValue};
 ghost use Rattle.jfr_stacks.specs.Methods.{WritesFor, method_of};
@@ -75,6 +75,7 @@ impl FrameWriter {
         requires frame { IsChunkValue chunk.now frame.now }
         requires method { method_of chunk.now (node_of frame.now) ≡ Some number }
         ensures ok { OnOk result (string_bytes out.new ≡ string_bytes out.old ++ frame_text chunk.now (node_of frame.now)) }
+        ensures kept { OnOk result (slice_get self.new.texts number ≡ Some (Some (frame_text chunk.now (node_of frame.now)))) }
         ensures ready { OnOk result (WritesFor chunk.now self.new) }
     {
         let mut text = String::new(self.alloc);
