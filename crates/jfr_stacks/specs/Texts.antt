@@ -1,7 +1,7 @@
 -- The texts of call stacks, in UTF-8.
-use Rattle.std.specs.Prelude.{ℕ, ◌+◌, ◌/◌, ◌%◌, ◌||◌, ◌==◌, Bool, List, [], ◌∷◌, ◌++◌, codes, flat_map, map, nat_lt, reverse, Option, Some, None, option_and_then, slice_get, if◌then◌else◌}
+use Rattle.std.specs.Prelude.{ℕ, ◌/◌, ◌%◌, ◌||◌, ◌==◌, Bool, List, [], ◌∷◌, ◌++◌, codes, flat_map, map, nat_lt, reverse, Option, Some, None, option_and_then, slice_get, if◌then◌else◌}
 use Rattle.std.specs.Option.{option_map, option_map_or}
-use Rattle.std.specs.Char.{encode_utf8}
+use Rattle.std.specs.Char.{digit_char, encode_utf8}
 use Rattle.jfr_value.specs.Nodes.{NodeAt}
 use Rattle.jfr_pool.specs.Entries.{entry_node}
 use Rattle.jfr_chunk.specs.Parts.{EventAt, Parts}
@@ -14,13 +14,9 @@ use Rattle.jfr_stacks.specs.Frames.{after_references, frames_in, frames_of}
 abbrev pub is_special : ℕ → Bool
 is_special c = nat_lt c 33 || (c == 59) || (c == 92) || (c == 127)
 
--- A hexadecimal digit in lower case, of a value below 16.
-abbrev pub hex_digit : ℕ → ℕ
-hex_digit n = if nat_lt n 10 then 48 + n else 87 + n
-
 -- A special character is \u and its number in four hexadecimal digits; every other one is unchanged.
 abbrev pub escaped : ℕ → List ℕ
-escaped c = if is_special c then codes "\\u00" ++ hex_digit (c / 16) ∷ hex_digit (c % 16) ∷ [] else encode_utf8 c
+escaped c = if is_special c then codes "\\u00" ++ digit_char (c / 16) ∷ digit_char (c % 16) ∷ [] else encode_utf8 c
 
 -- The text to which names lead, with its special characters escaped; a question mark if there is none.
 unfoldable pub name_text : Parts → NodeAt → List (List ℕ) → List ℕ
