@@ -6,4 +6,5 @@ mod ItemLaws
 mod MapLaws
 mod MethodLaws
 mod PendingLaws
+mod Rows
 mod TextLaws
