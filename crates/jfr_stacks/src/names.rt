@@ -49,7 +49,7 @@ pub(crate) fn push_name(
     requires of_chunk { frame.now.bytes.now ≡ chunk.now.bytes }
     ensures ok { OnOk result (string_bytes out.new ≡ string_bytes out.old ++ name_text chunk.now (node_of frame.now) names.now) }
 {
-    match named_text(alloc, chunk, frame, names)? {
+    match text_at_names(alloc, chunk, frame, names)? {
         Some(text) => push_escaped(text.as_str(), out),
         None => {
             out.push_str("?")?;
@@ -59,7 +59,7 @@ pub(crate) fn push_name(
 }
 
 /// The text at these fields of a frame, if there is one.
-fn named_text(
+fn text_at_names(
     alloc: Global,
     chunk: &Chunk<'_>,
     frame: &Node<'_>,
