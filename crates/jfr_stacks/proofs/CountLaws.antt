@@ -57,8 +57,8 @@ kept_below k w c most top (Some n) h e l =
     omega arith
 
 -- Counts that with others are those before and at most `top` events more.
-pub below_by : (old now : Counts) (owed count : List ℕ → ℕ) (most top : ℕ) → ((q : List ℕ) → plus (fin.get now q) (owed q) ≡ plus (fin.get old q) (count q)) → ((q : List ℕ) → count q ≤ top) → AreBelow most old → AreBelow (most + top) now
-below_by old now owed count most top e l b = record { each = λ q n is. kept_below n (owed q) (count q) most top (fin.get old q) (b.each q) (ap (λ o. plus o (owed q)) (sym is) ∙ e q) (l q) }
+pub below_by : (old now : Counts) (others count : List ℕ → ℕ) (most top : ℕ) → ((q : List ℕ) → plus (fin.get now q) (others q) ≡ plus (fin.get old q) (count q)) → ((q : List ℕ) → count q ≤ top) → AreBelow most old → AreBelow (most + top) now
+below_by old now others count most top e l b = record { each = λ q n is. kept_below n (others q) (count q) most top (fin.get old q) (b.each q) (ap (λ o. plus o (others q)) (sym is) ∙ e q) (l q) }
 
 -- A larger bound.
 pub below_more : (m n : ℕ) (c : Counts) → m ≤ n → AreBelow m c → AreBelow n c

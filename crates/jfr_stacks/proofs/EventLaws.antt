@@ -8,7 +8,7 @@ use Rattle.jfr_chunk.specs.Parts.{AreParts, EventAt, Parts, events_of}
 use Rattle.jfr_chunk.specs.Reach.{kept_by, marked}
 use Rattle.jfr_chunk.proofs.CountLaws as count_laws
 use Rattle.jfr_chunk.proofs.CountLaws.{filter_map_most, whole_small}
-use Rattle.jfr_stacks.specs.Adding.{kept_at}
+use Rattle.jfr_stacks.specs.Adding.{kept_at, most_events}
 
 -- The first of the members that are left, if it is marked.
 marked_next : {X : Type 0} (flags : List Bool) (xs : List X) (i : ℕ) → i < length xs → length flags ≡ length xs → marked (drop i flags) (drop i xs) ≡ cons_option (cond (unwrap_or (slice_get flags i) false) (slice_get xs i) None) (marked (drop (i + 1) flags) (drop (i + 1) xs))
@@ -57,7 +57,7 @@ length_more [] (Some y) = omega arith
 length_more (x ∷ xs) o = let h = length_more xs o in omega arith
 
 -- The number of events is below a power of 2.
-pub events_few : (p : Parts) → Whole p.bytes → AreParts p → length (events_of p) ≤ 1073741823
+pub events_few : (p : Parts) → Whole p.bytes → AreParts p → length (events_of p) ≤ most_events
 events_few p w a = let s = whole_small p.bytes w in let e = count_laws.events_few p a in omega arith
 
 pub kept_few : (p : Parts) (flags : List Bool) → length (kept_by p flags) ≤ length (events_of p)
@@ -69,5 +69,5 @@ kept_few p flags = few flags (events_of p)
     few (true ∷ flags) (x ∷ xs) = let h = few flags xs in omega arith
     few (false ∷ flags) (x ∷ xs) = let h = few flags xs in omega arith
 
-pub texts_few : {Y : Type 0} (h : EventAt → Option Y) (p : Parts) (flags : List Bool) → length (events_of p) ≤ 1073741823 → length (filter_map h (kept_by p flags)) ≤ 1073741823
+pub texts_few : {Y : Type 0} (h : EventAt → Option Y) (p : Parts) (flags : List Bool) → length (events_of p) ≤ most_events → length (filter_map h (kept_by p flags)) ≤ most_events
 texts_few h p flags l = let m = filter_map_most h (kept_by p flags) in let k = kept_few p flags in omega arith

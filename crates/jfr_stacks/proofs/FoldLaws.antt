@@ -45,7 +45,7 @@ found all (t ∷ ts) q =
     by_text false is h = let z : count_of q ts ≡ 0 + count_of q ts = omega arith in h ∙ ap (λ n. cond (n == 0) None (Some (count_of q all))) z
 
 -- Under each text its number is added to nothing.
-get-counted : (ts : List (List ℕ)) (q : List ℕ) → fin.get (counted ts) q ≡ plus None (count_of q ts)
+pub get-counted : (ts : List (List ℕ)) (q : List ℕ) → fin.get (counted ts) q ≡ plus None (count_of q ts)
 get-counted ts q =
     let z : count_of q ts ≡ 0 + count_of q ts = omega arith in
     get-from_entries nat_list_cmp_total (map (entry ts) ts) q ∙ (found ts ts q ∙ ap (λ n. cond (count_of q ts == 0) None (Some n)) z)

@@ -12,14 +12,14 @@ use Rattle.jfr_value.specs.Laws.{Cover, ItemsCover}
 use Rattle.jfr_value.specs.Nodes.{EndsAt, IsNode, NodeAt, children, node_at, node_of}
 use Rattle.jfr_chunk.specs.Parts.{Parts}
 use Rattle.jfr_chunk.proofs.AllLaws.{all_append}
-use Rattle.jfr_stacks.specs.Frames.{IsOf}
+use Rattle.jfr_stacks.specs.Frames.{IsChunkValue}
 
 -- The items so far, and those that are left, which cover the bytes from `at` up to `end`.
 pub record Going (p : Parts) (s : Shape) (end : ℕ) (all : List NodeAt) (left at : ℕ) (items : List Node) : Type 0 where
   pub rest : List NodeAt
   pub cover : Cover p.classes p.bytes at end (replicate left s) rest
   pub so_far : map node_of items ++ rest ≡ all
-  pub values : AllByRecursion (IsOf p) items
+  pub values : AllByRecursion (IsChunkValue p) items
 
 -- The first of the items that are left.
 pub record First (p : Parts) (s : Shape) (end at : ℕ) : Type 0 where
@@ -65,7 +65,7 @@ module _ (p : Parts) (s : Shape) (end : ℕ) (all : List NodeAt) where
             rest = ns;
             cover = subst (λ z. Cover p.classes p.bytes z end (replicate m s) ns) (sym q) h.3;
             so_far = ap (λ z. z ++ ns) (map-append node_of items (x ∷ [])) ∙ (append_assoc (map node_of items) (node_of x ∷ []) ns ∙ (ap (λ z. map node_of items ++ z ∷ ns) same ∙ w));
-            values = all_append (IsOf p) items (x ∷ []) g.values (record { bytes = b; value = (h.2.0, subst (λ z. IsNode p.classes z (node_of x) h.2.0) (sym b) j) }, tt);
+            values = all_append (IsChunkValue p) items (x ∷ []) g.values (record { bytes = b; value = (h.2.0, subst (λ z. IsNode p.classes z (node_of x) h.2.0) (sym b) j) }, tt);
           }
 
   pub items_end : (left at : ℕ) (items : List Node) → left ≡ 0 → Going p s end all left at items → map node_of items ≡ all

@@ -5,5 +5,6 @@ mod FoldLaws
 mod ItemLaws
 mod MapLaws
 mod MethodLaws
-mod OwedLaws
+mod PendingLaws
+mod Rows
 mod TextLaws

@@ -5,6 +5,7 @@ use Rattle.std.specs.List.{AllByRecursion}
 use Rattle.std.proofs.Common.{ap, arith, refl, subst, sym, ◌∙◌}
 use Rattle.std.proofs.lemmas.List.{append_assoc, map-append, reverse-append}
 use Rattle.std.proofs.lemmas.List.Concat.{flat_map-cons}
+use Rattle.std.proofs.lemmas.Option.{slice_get-map}
 use Rattle.jfr_layout.specs.declared.class.ClassInfo.{ClassInfo}
 use Rattle.jfr_layout.specs.declared.shape.Shape.{Shape}
 use Rattle.jfr_layout.specs.Classes.{Sound, field_number, find_class}
@@ -20,8 +21,9 @@ use Rattle.jfr_pool.proofs.ForceLaws.{force_within}
 use Rattle.jfr_chunk.specs.Parts.{EventAt, Parts}
 use Rattle.jfr_chunk.specs.Paths.{follow, is_reference, named_field, named_node}
 use Rattle.jfr_path.proofs.FollowLaws.{ends, followed}
-use Rattle.jfr_stacks.specs.Frames.{IsOf, after_references, entry_of, field_numbers, frames_in, frames_of, items_of, trace_of}
-use Rattle.jfr_stacks.specs.Texts.{LeadsTo, entry_text, frame_text, joined, stack_of, stack_text, trace_text}
+use Rattle.jfr_stacks.specs.Frames.{IsChunkValue, after_references, entry_number, field_numbers, frames_in, frames_of, items_of, trace_of}
+use Rattle.jfr_stacks.specs.Texts.{entry_text, frame_text, joined, stack_of, stack_text, trace_text}
+use Rattle.jfr_stacks.specs.Trace.{LeadsNowhere, LeadsTo}
 
 -- The text of an event's stack is that of its trace.
 pub traced : (p : Parts) (e : EventAt) → stack_of p e ≡ option_and_then (λ t. trace_text p (after_references 16 p t)) (trace_of p e.node)
@@ -41,11 +43,6 @@ pub traced_all : (p : Parts) (o : Option EventAt) → option_and_then (stack_of 
 traced_all p None = refl
 traced_all p (Some e) = traced p e
 
-get_map : {X Y : Type 0} (f : X → Y) (xs : List X) (n : ℕ) → slice_get (map f xs) n ≡ option_map f (slice_get xs n)
-get_map f [] n = refl
-get_map f (x ∷ xs) zero = refl
-get_map f (x ∷ xs) (suc n) = get_map f xs n
-
 module _ (p : Parts) (n : NodeAt) (name : List ℕ) where
   -- The field of a class.
   abbrev field_in : Option ClassInfo → Option NodeAt
@@ -53,14 +50,14 @@ module _ (p : Parts) (n : NodeAt) (name : List ℕ) where
 
   -- The field with the number that is listed for its class, and with none.
   pub field_found : (index number : ℕ) → option_and_then (slice_get p.classes) (Some index) ≡ find_class p.classes n.shape.class → option_and_then (λ x. x) (slice_get (field_numbers name p.classes) index) ≡ Some number → named_field p name n ≡ child p.classes p.bytes n (steps.Field number)
-  field_found index number c e = ap field_in (sym c) ∙ by_class (slice_get p.classes index) (ap (option_and_then (λ x. x)) (sym (get_map (λ (c : ClassInfo). field_number c.fields name) p.classes index)) ∙ e)
+  field_found index number c e = ap field_in (sym c) ∙ by_class (slice_get p.classes index) (ap (option_and_then (λ x. x)) (sym (slice_get-map (λ (c : ClassInfo). field_number c.fields name) p.classes index)) ∙ e)
     where
       by_class : (o : Option ClassInfo) → option_and_then (λ x. x) (option_map (λ (c : ClassInfo). field_number c.fields name) o) ≡ Some number → field_in o ≡ child p.classes p.bytes n (steps.Field number)
       by_class None e = cc
       by_class (Some c) e = ap (option_and_then (λ i. child p.classes p.bytes n (steps.Field i))) e
 
   pub field_missing : (index : ℕ) → option_and_then (slice_get p.classes) (Some index) ≡ find_class p.classes n.shape.class → option_and_then (λ x. x) (slice_get (field_numbers name p.classes) index) ≡ None → named_field p name n ≡ None
-  field_missing index c e = ap field_in (sym c) ∙ by_class (slice_get p.classes index) (ap (option_and_then (λ x. x)) (sym (get_map (λ (c : ClassInfo). field_number c.fields name) p.classes index)) ∙ e)
+  field_missing index c e = ap field_in (sym c) ∙ by_class (slice_get p.classes index) (ap (option_and_then (λ x. x)) (sym (slice_get-map (λ (c : ClassInfo). field_number c.fields name) p.classes index)) ∙ e)
     where
       by_class : (o : Option ClassInfo) → option_and_then (λ x. x) (option_map (λ (c : ClassInfo). field_number c.fields name) o) ≡ None → field_in o ≡ None
       by_class None e = refl
@@ -72,7 +69,7 @@ there (x ∷ xs) zero h = (x, refl)
 there (x ∷ xs) (suc i) h = there xs i (omega arith)
 
 -- The entry to which a value refers is the one that is followed to.
-pub entry_followed : (p : Parts) (n : NodeAt) (number : ℕ) (x : EntryAt) → entry_of p n ≡ Some number → slice_get p.entries number ≡ Some x → follow p n ≡ Some (entry_node x)
+pub entry_followed : (p : Parts) (n : NodeAt) (number : ℕ) (x : EntryAt) → entry_number p n ≡ Some number → slice_get p.entries number ≡ Some x → follow p n ≡ Some (entry_node x)
 entry_followed p n number x e g = by_target (target p.classes p.bytes n) e
   where
     by_target : (o : Option (ℕ × ℕ)) → option_and_then (number_in_force p.entries) o ≡ Some number → option_and_then (λ t. option_map entry_node (option_and_then (λ n. slice_get p.entries n) (number_in_force p.entries t))) o ≡ Some (entry_node x)
@@ -80,12 +77,14 @@ entry_followed p n number x e g = by_target (target p.classes p.bytes n) e
     by_target (Some t) e = ap (λ z. option_map entry_node (option_and_then (λ n. slice_get p.entries n) z)) e ∙ ap (option_map entry_node) g
 
 -- A reference to an entry has the stack of the entry.
-pub leads_to : (p : Parts) (n : NodeAt) (number : ℕ) → is_reference n ≡ true → entry_of p n ≡ Some number → LeadsTo p n number
+pub leads_to : (p : Parts) (n : NodeAt) (number : ℕ) → is_reference n ≡ true → entry_number p n ≡ Some number → LeadsTo p n number
 unfolding entry_text
 leads_to p n number r e =
     let l = within_entries p (target p.classes p.bytes n) number e in
     let g = there p.entries number l in
     record {
+      reference = r;
+      entry = e;
       within = l;
       same = ap (trace_text p) (followed is_reference p 15 n (entry_node g.0) r (entry_followed p n number g.0 e g.1)) ∙ sym (ap (option_and_then (λ e. trace_text p (after_references 15 p (entry_node e)))) g.1);
     }
@@ -115,7 +114,7 @@ no_field p n v name s i a o = by_class (find_class p.classes n.shape.class)
     by_class (Some c) = by_number (field_number c.fields name)
 
 -- A reference without an entry is followed nowhere, and has no frames.
-pub no_trace : (p : Parts) (n : NodeAt) (v : Value) → Sound p.classes → IsNode p.classes p.bytes n v → is_reference n ≡ true → entry_of p n ≡ None → trace_text p (after_references 16 p n) ≡ None
+no_trace : (p : Parts) (n : NodeAt) (v : Value) → Sound p.classes → IsNode p.classes p.bytes n v → is_reference n ≡ true → entry_number p n ≡ None → trace_text p (after_references 16 p n) ≡ None
 unfolding trace_text
 no_trace p n v s i r e =
     let k = shape_of_reference n.shape.array n.shape.constant r in
@@ -129,6 +128,9 @@ no_trace p n v s i r e =
     not_followed : (o : Option (ℕ × ℕ)) → option_and_then (number_in_force p.entries) o ≡ None → option_and_then (λ t. option_map entry_node (in_force p.entries t)) o ≡ None
     not_followed None e = refl
     not_followed (Some t) e = ap (λ z. option_map entry_node (option_and_then (λ n. slice_get p.entries n) z)) e
+
+pub leads_nowhere : (p : Parts) (n : NodeAt) (v : Value) → Sound p.classes → IsNode p.classes p.bytes n v → is_reference n ≡ true → entry_number p n ≡ None → LeadsNowhere p n
+leads_nowhere p n v s i r e = record { reference = r; missing = e; none = no_trace p n v s i r e }
 
 -- The frames that are left, from the last to the first, each after a semicolon.
 abbrev pub rest_text : Parts → List Node → List ℕ
@@ -159,10 +161,10 @@ module _ (p : Parts) where
       ap (λ z. z ++ rest_text p items) (n ∙ ap (λ z. z ++ f) c) ∙ (append_assoc (before ++ codes ";") f (rest_text p items) ∙ (g ∙ (ap (λ z. before ++ z) (sym (rest_first all items x e)) ∙ h)))
 
 -- The last of the nodes, and those before it.
-pub all_last : (p : Parts) (all items : List Node) (x : Node) → all ≡ items ++ x ∷ [] → AllByRecursion (IsOf p) all → AllByRecursion (IsOf p) items × IsOf p x
-all_last p all items x e a = split items (subst (AllByRecursion (IsOf p)) e a)
+pub all_last : (p : Parts) (all items : List Node) (x : Node) → all ≡ items ++ x ∷ [] → AllByRecursion (IsChunkValue p) all → AllByRecursion (IsChunkValue p) items × IsChunkValue p x
+all_last p all items x e a = split items (subst (AllByRecursion (IsChunkValue p)) e a)
   where
-    split : (items : List Node) → AllByRecursion (IsOf p) (items ++ x ∷ []) → AllByRecursion (IsOf p) items × IsOf p x
+    split : (items : List Node) → AllByRecursion (IsChunkValue p) (items ++ x ∷ []) → AllByRecursion (IsChunkValue p) items × IsChunkValue p x
     split [] a = (tt, a.0)
     split (y ∷ items) a = let h = split items a.1 in ((a.0, h.0), h.1)
 

@@ -1,10 +1,18 @@
 -- How events are added to the counts: one by one, or all those of an entry at once.
-use Rattle.std.specs.Prelude.{◌≡◌, ℕ, ◌+◌, ◌^◌, ◌<◌, ◌≤◌, ◌==◌, Bool, false, List, [], ◌∷◌, Option, Some, None, slice_get, unwrap_or, if◌then◌else◌}
+use Rattle.std.specs.Prelude.{◌≡◌, ℕ, ◌+◌, ◌-◌, ◌*◌, ◌^◌, ◌<◌, ◌≤◌, ◌==◌, Bool, false, List, [], ◌∷◌, Option, Some, None, slice_get, unwrap_or, if◌then◌else◌}
 use Rattle.std.specs.Option.{option_map_or}
 use Rattle.std.specs.Str.{bytes_eq}
 use Rattle.std.specs.FinMap as fin
 use Rattle.jfr_chunk.specs.Parts.{EventAt, Parts, events_of}
 use Rattle.jfr_stacks.specs.Folded.{Counts, count_of}
+
+-- The most events of a chunk, which has fewer than 2^30 bytes.
+abbrev pub most_events : ℕ
+most_events = 2 ^ 30 - 1
+
+-- The largest count before the last of 2^34 chunks is added.
+abbrev pub most_counted : ℕ
+most_counted = most_events * (2 ^ 34 - 1)
 
 -- A count after n more events; unchanged if n is 0.
 abbrev pub plus : Option ℕ → ℕ → Option ℕ

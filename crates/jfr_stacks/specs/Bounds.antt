@@ -1,7 +1,7 @@
 -- The counts in a Stacks, and how large they can be.
 use Rattle.std.specs.Prelude.{◌*◌, ◌^◌, ◌≤◌}
 use Rattle.jfr_stacks.specs.declared.stacks.Stacks.TheInside.{Inside}
-use Rattle.jfr_stacks.specs.Adding.{AreBelow}
+use Rattle.jfr_stacks.specs.Adding.{AreBelow, most_events}
 use Rattle.jfr_stacks.specs.Held.{counts_in}
 use Rattle.jfr_stacks.specs.Folded.{Folded}
 
@@ -13,4 +13,4 @@ folded_in s = record { chunks = s.chunks; stacks = counts_in s.counts }
 -- than 64 bits.
 pub record IsBounded (f : Folded) : Type 0 where
   pub chunks : f.chunks ≤ 2 ^ 34
-  pub counts : AreBelow (1073741823 * f.chunks) f.stacks
+  pub counts : AreBelow (most_events * f.chunks) f.stacks

@@ -35,10 +35,10 @@ abbrev pub frames_in : Parts → NodeAt → Option (List NodeAt)
 frames_in p n = option_and_then (items_of p) (option_map (after_references 16 p) (named_field p (codes "frames") n))
 
 -- The number of the entry in force to which a value refers, if there is one.
-abbrev pub entry_of : Parts → NodeAt → Option ℕ
-entry_of p n = option_and_then (number_in_force p.entries) (target p.classes p.bytes n)
+abbrev pub entry_number : Parts → NodeAt → Option ℕ
+entry_number p n = option_and_then (number_in_force p.entries) (target p.classes p.bytes n)
 
 -- The code's `Node` is a value of the chunk.
-pub record IsOf (p : Parts) (n : Node) : Type 0 where
+pub record IsChunkValue (p : Parts) (n : Node) : Type 0 where
   pub bytes : n.bytes.now ≡ p.bytes
   pub value : IsValue p.classes n

@@ -1,5 +1,7 @@
 pub mod Frames
 pub mod Texts
+pub mod Trace
+pub mod Cached
 pub mod Methods
 pub mod Folded
 pub mod Held

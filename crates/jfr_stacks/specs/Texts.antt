@@ -1,14 +1,12 @@
 -- The texts of call stacks, in UTF-8.
-use Rattle.std.specs.Prelude.{◌≡◌, ◌<◌, ℕ, ◌+◌, ◌/◌, ◌%◌, ◌||◌, ◌==◌, Bool, List, [], ◌∷◌, ◌++◌, codes, flat_map, length, map, nat_lt, reverse, Option, Some, None, option_and_then, slice_get, ⊤, if◌then◌else◌}
+use Rattle.std.specs.Prelude.{ℕ, ◌/◌, ◌%◌, ◌||◌, ◌==◌, Bool, List, [], ◌∷◌, ◌++◌, codes, flat_map, map, nat_lt, reverse, Option, Some, None, option_and_then, slice_get, if◌then◌else◌}
 use Rattle.std.specs.Option.{option_map, option_map_or}
-use Rattle.std.specs.Char.{encode_utf8}
+use Rattle.std.specs.Char.{digit_char, encode_utf8}
 use Rattle.jfr_value.specs.Nodes.{NodeAt}
 use Rattle.jfr_pool.specs.Entries.{entry_node}
 use Rattle.jfr_chunk.specs.Parts.{EventAt, Parts}
 use Rattle.jfr_chunk.specs.Paths.{text_of}
 use Rattle.jfr_path.specs.Places.{node_at}
-use Rattle.jfr_stacks.specs.declared.trace.TraceLocation.{TraceLocation}
-use Rattle.jfr_stacks.specs.declared.trace.TraceLocation.TheVariants.{Entry, Missing, Inline}
 use Rattle.jfr_stacks.specs.Frames.{after_references, frames_in, frames_of}
 
 -- A character that has a meaning in a folded stack or doesn't print: the space, a semicolon, a backslash, a
@@ -16,13 +14,9 @@ use Rattle.jfr_stacks.specs.Frames.{after_references, frames_in, frames_of}
 abbrev pub is_special : ℕ → Bool
 is_special c = nat_lt c 33 || (c == 59) || (c == 92) || (c == 127)
 
--- A hexadecimal digit in lower case, of a value below 16.
-abbrev pub hex_digit : ℕ → ℕ
-hex_digit n = if nat_lt n 10 then 48 + n else 87 + n
-
 -- A special character is \u and its number in four hexadecimal digits; every other one is unchanged.
 abbrev pub escaped : ℕ → List ℕ
-escaped c = if is_special c then codes "\\u00" ++ hex_digit (c / 16) ∷ hex_digit (c % 16) ∷ [] else encode_utf8 c
+escaped c = if is_special c then codes "\\u00" ++ digit_char (c / 16) ∷ digit_char (c % 16) ∷ [] else encode_utf8 c
 
 -- The text to which names lead, with its special characters escaped; a question mark if there is none.
 unfoldable pub name_text : Parts → NodeAt → List (List ℕ) → List ℕ
@@ -61,17 +55,6 @@ trace_text p n = option_map (stack_text p) (frames_in p n)
 -- the entry, so at most 15 more are.
 unfoldable pub entry_text : Parts → ℕ → Option (List ℕ)
 entry_text p number = option_and_then (λ e. trace_text p (after_references 15 p (entry_node e))) (slice_get p.entries number)
-
--- The entry with this number exists, and has the same stack as this value.
-pub record LeadsTo (p : Parts) (n : NodeAt) (number : ℕ) : Type 0 where
-  pub within : number < length p.entries
-  pub same : trace_text p (after_references 16 p n) ≡ entry_text p number
-
--- This is the location of the stack trace in this field. For an inline trace this says nothing.
-abbrev pub IsLocation : Parts → NodeAt → TraceLocation → Type 0
-IsLocation p n (Entry number) = LeadsTo p n number
-IsLocation p n Missing = trace_text p (after_references 16 p n) ≡ None
-IsLocation p n Inline = ⊤
 
 -- The text, if `is` says that one was written.
 abbrev pub written : Bool → List ℕ → Option (List ℕ)

@@ -1,18 +1,18 @@
 //! Counts the events of a chunk by their stacks.
-ghost use Rattle.std.specs.Prelude.{◌≡◌, ◌*◌, ℕ, ◌+◌, ◌-◌, ◌^◌, ◌<◌, ◌≤◌, List, ◌++◌, codes, length, IfOk, IfSome, OnErr, OnOk, option_and_then, option_map, option_to_list};
+ghost use Rattle.std.specs.Prelude.{◌≡◌, ℕ, ◌+◌, ◌≤◌, List, ◌++◌, codes, length, IfOk, IfSome, OnErr, OnOk, option_and_then, option_map, option_to_list};
 ghost use Rattle.std.specs.List.{filter_map};
 ghost use Rattle.jfr_chunk.specs.Parts.{events_of};
 ghost use Rattle.jfr_chunk.specs.Reach.{kept_by};
 ghost use Rattle.jfr_value.specs.Nodes.{IsValue, node_of};
-ghost use Rattle.jfr_stacks.specs.Adding.{AddsText, AddsTexts, AreAtMost, AreBelow, Fits, HasPending, kept_at};
+ghost use Rattle.jfr_stacks.specs.Adding.{AddsTexts, AreAtMost, AreBelow, Fits, HasPending, kept_at, most_counted, most_events};
 ghost use Rattle.jfr_stacks.specs.Folded.{Counts, texts_of};
 ghost use Rattle.jfr_stacks.specs.Frames.{after_references, field_numbers, trace_of};
 ghost use Rattle.jfr_stacks.specs.Held.{counts_in};
 ghost use Rattle.jfr_stacks.specs.Methods.{WritesFor};
 ghost use Rattle.jfr_stacks.specs.Texts.{entry_text, stack_of, trace_text};
 
-use crate::counts::{CountMap, add_count};
-use crate::entries::add_entries;
+use crate::adding::{add_entries, add_trace};
+use crate::counts::CountMap;
 use crate::fields::FieldNumbers;
 use crate::trace::{TraceLocation, location_of};
 use crate::writer::StackWriter;
@@ -32,9 +32,9 @@ pub(crate) fn add_events(
     filter: &Filter,
     counts: &mut CountMap,
 ) -> Result<(), NoMemory>
-    requires below { AreBelow (1073741823 * (2 ^ 34 - 1)) (counts_in counts.old) }
+    requires below { AreBelow most_counted (counts_in counts.old) }
     ensures ok { OnOk result (AddsTexts (counts_in counts.old) (texts_of filter.now chunk.now) (counts_in counts.new)) }
-    ensures below { (most : ℕ) → AreBelow most (counts_in counts.old) → AreBelow (most + 1073741823) (counts_in counts.new) }
+    ensures below { (most : ℕ) → AreBelow most (counts_in counts.old) → AreBelow (most + most_events) (counts_in counts.new) }
 {
     // By the clauses of this call, a chunk has fewer than 2^30 events.
     let _ = chunk.bytes();
@@ -44,8 +44,8 @@ pub(crate) fn add_events(
     add_entries(&mut writer, chunk, &by_entry, counts)
 }
 
-// The number of kept events for each entry that is their stack trace. Events whose trace is inline are added to
-// the counts. Those that refer to an entry that doesn't exist have no stack, and aren't counted.
+/// The number of kept events for each entry that is their stack trace. Events whose trace is inline are added to
+/// the counts. Those that refer to an entry that doesn't exist have no stack, and aren't counted.
 fn count_events(
     writer: &mut StackWriter,
     chunk: &Chunk<'_>,
@@ -54,12 +54,12 @@ fn count_events(
 ) -> Result<Vec<u64>, NoMemory>
     requires ready { WritesFor chunk.now writer.old.frames }
     requires each { length kept.now ≡ length (events_of chunk.now) }
-    requires few { length (events_of chunk.now) ≤ 1073741823 }
-    requires below { AreBelow (1073741823 * (2 ^ 34 - 1)) (counts_in counts.old) }
+    requires few { length (events_of chunk.now) ≤ most_events }
+    requires below { AreBelow most_counted (counts_in counts.old) }
     ensures ok { IfOk result (λ by_entry. HasPending (entry_text chunk.now) (counts_in counts.old) (filter_map (stack_of chunk.now) (kept_by chunk.now kept.now)) (counts_in counts.new) 0 by_entry.items) }
     ensures each { IfOk result (λ by_entry. length by_entry.items ≡ length chunk.now.entries) }
-    ensures small { IfOk result (λ by_entry. AreAtMost 1073741823 by_entry.items) }
-    ensures below { (most : ℕ) → AreBelow most (counts_in counts.old) → AreBelow (most + 1073741823) (counts_in counts.new) }
+    ensures small { IfOk result (λ by_entry. AreAtMost most_events by_entry.items) }
+    ensures below { (most : ℕ) → AreBelow most (counts_in counts.old) → AreBelow (most + most_events) (counts_in counts.new) }
     ensures ready { OnOk result (WritesFor chunk.now writer.new.frames) }
 {
     let fields = FieldNumbers::of(writer.alloc(), chunk.classes(), "stackTrace")?;
@@ -72,7 +72,7 @@ fn count_events(
     Ok(by_entry)
 }
 
-// The field `stackTrace` of the event with this number, if the event is kept and has the field.
+/// The field `stackTrace` of the event with this number, if the event is kept and has the field.
 fn kept_trace<'a>(
     chunk: &Chunk<'a>,
     kept: &Kept,
@@ -90,8 +90,8 @@ fn kept_trace<'a>(
     }
 }
 
-// Counts an event with this stack trace in `by_entry`, for the entry that is the trace, or adds it to the
-// counts by text if the trace is inline. An event that refers to an entry that doesn't exist isn't counted.
+/// Counts an event with this stack trace in `by_entry`, for the entry that is the trace, or adds it to the
+/// counts by text if the trace is inline. An event that refers to an entry that doesn't exist isn't counted.
 fn count_trace<'a>(
     writer: &mut StackWriter,
     chunk: &Chunk<'a>,
@@ -103,7 +103,7 @@ fn count_trace<'a>(
     requires value { IsValue chunk.now.classes trace.now }
     requires of_chunk { trace.now.bytes.now ≡ chunk.now.bytes }
     requires each { length by_entry.old ≡ length chunk.now.entries }
-    requires small { AreAtMost 1073741823 by_entry.old }
+    requires small { AreAtMost most_events by_entry.old }
     requires fits { Fits 1 (counts_in counts.old) }
     ensures ok { OnOk result ((old : Counts) (done : List (List ℕ)) → HasPending (entry_text chunk.now) old done (counts_in counts.old) 0 by_entry.old
         → HasPending (entry_text chunk.now) old (done ++ option_to_list (trace_text chunk.now (after_references 16 chunk.now (node_of trace.now)))) (counts_in counts.new) 0 by_entry.new) }
@@ -122,26 +122,4 @@ fn count_trace<'a>(
             add_trace(writer, chunk, &value, 1, counts)
         }
     }
-}
-
-/// Adds `count` events with this stack trace to the counts, unless the trace has no stack.
-pub(crate) fn add_trace<'a>(
-    writer: &mut StackWriter,
-    chunk: &Chunk<'a>,
-    trace: &Node<'a>,
-    count: u64,
-    counts: &mut CountMap,
-) -> Result<(), NoMemory>
-    requires ready { WritesFor chunk.now writer.old.frames }
-    requires value { IsValue chunk.now.classes trace.now }
-    requires of_chunk { trace.now.bytes.now ≡ chunk.now.bytes }
-    requires fits { Fits count (counts_in counts.old) }
-    ensures ok { OnOk result (AddsText (counts_in counts.old) (trace_text chunk.now (node_of trace.now)) count (counts_in counts.new)) }
-    ensures unchanged { OnErr result (counts_in counts.new ≡ counts_in counts.old) }
-    ensures ready { OnOk result (WritesFor chunk.now writer.new.frames) }
-{
-    if !writer.write(chunk, trace)? {
-        return Ok(());
-    }
-    add_count(writer.alloc(), counts, writer.as_str(), count)
 }

@@ -45,7 +45,7 @@ pub(crate) fn push_lines(counts: &CountMap, out: &mut String) -> Result<(), NoMe
     Ok(())
 }
 
-// Adds the line with a text and its count.
+/// Adds the line with a text and its count.
 fn push_line(text: &str, count: u64, out: &mut String) -> Result<(), NoMemory>
     ensures ok { OnOk result (string_bytes out.new ≡ string_bytes out.old ++ line (text.now, count)) }
 {

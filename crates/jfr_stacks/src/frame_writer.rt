@@ -1,7 +1,7 @@
 //! The texts of frames.
-ghost use Rattle.std.specs.Prelude.{◌≡◌, ◌++◌, IfOk, OnOk, Some, string_bytes};
+ghost use Rattle.std.specs.Prelude.{◌≡◌, ◌++◌, IfOk, OnOk, Some, slice_get, string_bytes};
 ghost use Rattle.jfr_value.specs.Nodes.{node_of};
-ghost use Rattle.jfr_stacks.specs.Frames.{IsOf};
+ghost use Rattle.jfr_stacks.specs.Frames.{IsChunkValue};
 ghost use Rattle.jfr_stacks.specs.Methods.{WritesFor, method_of};
 ghost use Rattle.jfr_stacks.specs.Texts.{frame_text};
 
@@ -49,7 +49,7 @@ impl FrameWriter {
         out: &mut String,
     ) -> Result<(), NoMemory>
         requires ready { WritesFor chunk.now self.old }
-        requires frame { IsOf chunk.now frame.now }
+        requires frame { IsChunkValue chunk.now frame.now }
         ensures ok { OnOk result (string_bytes out.new ≡ string_bytes out.old ++ frame_text chunk.now (node_of frame.now)) }
         ensures ready { OnOk result (WritesFor chunk.now self.new) }
     {
@@ -72,9 +72,10 @@ impl FrameWriter {
         out: &mut String,
     ) -> Result<(), NoMemory>
         requires ready { WritesFor chunk.now self.old }
-        requires frame { IsOf chunk.now frame.now }
+        requires frame { IsChunkValue chunk.now frame.now }
         requires method { method_of chunk.now (node_of frame.now) ≡ Some number }
         ensures ok { OnOk result (string_bytes out.new ≡ string_bytes out.old ++ frame_text chunk.now (node_of frame.now)) }
+        ensures kept { OnOk result (slice_get self.new.texts number ≡ Some (Some (frame_text chunk.now (node_of frame.now)))) }
         ensures ready { OnOk result (WritesFor chunk.now self.new) }
     {
         let mut text = String::new(self.alloc);
@@ -91,7 +92,7 @@ impl FrameWriter {
         out: &mut String,
     ) -> Result<(), NoMemory>
         requires ready { WritesFor chunk.now self.now }
-        requires frame { IsOf chunk.now frame.now }
+        requires frame { IsChunkValue chunk.now frame.now }
         ensures ok { OnOk result (string_bytes out.new ≡ string_bytes out.old ++ frame_text chunk.now (node_of frame.now)) }
     {
         push_name(self.alloc, chunk, frame, &self.types, out)?;

@@ -4,7 +4,7 @@ ghost use Rattle.std.specs.List.{AllByRecursion};
 ghost use Rattle.jfr_base.specs.Formats.{int_at};
 ghost use Rattle.jfr_layout.specs.Classes.{Sound};
 ghost use Rattle.jfr_value.specs.Nodes.{EndsAt, IsValue, children, node_of};
-ghost use Rattle.jfr_stacks.specs.Frames.{IsOf, frames_in};
+ghost use Rattle.jfr_stacks.specs.Frames.{IsChunkValue, frames_in};
 
 use jfr_base::{NoMemory, Var, read_within};
 use jfr_chunk::Chunk;
@@ -23,7 +23,7 @@ pub(crate) fn frames_in<'a>(
     requires value { IsValue chunk.now.classes trace.now }
     requires of_chunk { trace.now.bytes.now ≡ chunk.now.bytes }
     ensures ok { IfOk result (λ frames. option_map (λ f. map node_of f.items) frames ≡ frames_in chunk.now (node_of trace.now)) }
-    ensures values { IfOk result (λ frames. IfSome frames (λ f. AllByRecursion (IsOf chunk.now) f.items)) }
+    ensures values { IfOk result (λ frames. IfSome frames (λ f. AllByRecursion (IsChunkValue chunk.now) f.items)) }
 {
     let Some(field) = named_field(chunk, trace, "frames") else {
         return Ok(None);
@@ -46,7 +46,7 @@ fn items_of<'a>(
     requires of_chunk { array.now.bytes.now ≡ chunk.now.bytes }
     requires array { array.now.shape.array ≡ true }
     ensures ok { IfOk result (λ items. map node_of items.items ≡ children chunk.now.classes chunk.now.bytes (node_of array.now)) }
-    ensures values { IfOk result (λ items. AllByRecursion (IsOf chunk.now) items.items) }
+    ensures values { IfOk result (λ items. AllByRecursion (IsChunkValue chunk.now) items.items) }
 {
     children_are_parts();
     chunk.parts_are_valid();
@@ -80,6 +80,7 @@ fn item_end(chunk: &Chunk<'_>, shape: Shape, at: usize, limit: usize) -> usize
     requires holds { (to : ℕ) × EndsAt chunk.now.classes chunk.now.bytes shape at to × (to ≤ limit) }
     ensures { (to : ℕ) → EndsAt chunk.now.classes chunk.now.bytes shape at to → to ≤ limit → result ≡ to }
 {
+    // `end_of` requires a known class, which that of a reference needn't be.
     if shape.constant {
         return key_end(chunk, shape, at, limit);
     }

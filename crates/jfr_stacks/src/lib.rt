@@ -8,21 +8,23 @@
 //! java/lang/Thread.run;app/Main.work;java/util/HashMap.get 17
 //! ```
 //!
+//! docs/SCRUBBING.md, 'The stacks', has the rules.
+//!
 //! `Stacks::new` starts without events, `Stacks::add` adds the events of a chunk that a filter keeps, and
 //! `Stacks::text` returns the lines. Read `specs/Folded.antt` first, then `specs/Texts.antt` and
 //! `specs/Frames.antt`.
 #![tactic(auto)]
 
+mod adding;
 mod counting;
 mod counts;
-mod entries;
+mod entry;
 mod fields;
 mod frame_writer;
 mod frames;
 mod methods;
 mod names;
 mod stacks;
-mod steps;
 mod trace;
 mod writer;
 

@@ -2,32 +2,45 @@
 //!
 //! Many frames refer to the same few methods. The text of a frame depends only on the chunk and on the value of
 //! its field `method`. So all frames that refer to the same entry have the same text, which is made only once.
-ghost use Rattle.std.specs.Prelude.{◌≡◌, IfOk, IfSome, OnOk, codes, string_bytes};
-ghost use Rattle.jfr_chunk.specs.Parts.{Parts};
+ghost use Rattle.std.specs.Prelude.{◌≡◌, ◌<◌, IfOk, OnErr, OnOk, codes, length, option_and_then, replicate, slice_get, slice_set, string_bytes};
+ghost use Rattle.std.specs.Option.{option_copied};
 ghost use Rattle.jfr_value.specs.Nodes.{node_of};
-ghost use Rattle.jfr_stacks.specs.Frames.{IsOf, field_numbers};
-ghost use Rattle.jfr_stacks.specs.Methods.{AreMethodTexts, IsMethodText, method_of};
+ghost use Rattle.jfr_stacks.specs.Frames.{IsChunkValue, field_numbers};
+ghost use Rattle.jfr_stacks.specs.Methods.{method_of};
 
+use crate::entry::entry_number;
 use crate::fields::FieldNumbers;
-use crate::steps::entry_of;
 use jfr_base::NoMemory;
 use jfr_chunk::Chunk;
 use jfr_path::is_reference;
 use jfr_value::Node;
 use std::alloc::Global;
+use std::marker::Model;
 
-/// The texts of the frames of one chunk, by the number of the entry that is their method.
+/// The texts of the frames of one chunk, by the number of the entry that is their method. Contracts see, for
+/// each entry, its text if the cache has it.
 #[derive(Drop)]
 pub(crate) struct MethodTexts {
     // For each entry, the index of its text, if it has one.
-    pub(crate) indices: Vec<Option<usize>>,
-    pub(crate) texts: Vec<String>,
+    indices: Vec<Option<usize>>,
+    texts: Vec<String>,
+}
+
+impl Model for MethodTexts {
+    ghost use Rattle.std.specs.Prelude.{ℕ, List, Option};
+    ghost use Rattle.jfr_stacks.specs.Cached.{AreIndices, texts_at};
+
+    ghost Value = { List (Option (List ℕ)) };
+
+    ghost view = { λ m. texts_at m.texts.items m.indices.items };
+
+    ghost invariant = { λ m. AreIndices m.texts.items m.indices.items };
 }
 
 impl MethodTexts {
-    /// An empty cache, for any chunk with this number of entries.
+    /// A cache without texts, for a chunk with this number of entries.
     pub(crate) fn new(alloc: Global, entries: usize) -> Result<MethodTexts, NoMemory>
-        ensures none { IfOk result (λ texts. (p : Parts) → AreMethodTexts p texts) }
+        ensures { IfOk result (λ texts. texts ≡ replicate entries None) }
     {
         let indices = vec![in alloc; None; entries]?;
         Ok(MethodTexts {
@@ -36,23 +49,23 @@ impl MethodTexts {
         })
     }
 
-    /// The text of each frame whose method is the entry with this number, if the cache has it.
+    /// The text for the entry with this number, if the cache has it.
     pub(crate) fn get(&self, number: usize) -> Option<&str>
-        ensures { (p : Parts) → AreMethodTexts p self.now → IfSome result (λ text. IsMethodText p number text.now) }
+        ensures { option_copied result ≡ option_and_then (λ text. text) (slice_get self.now number) }
     {
         let index = (*self.indices.get(number)?)?;
         Some(self.texts.get(index)?.as_str())
     }
 
-    /// Keeps the text of each frame whose method is the entry with this number.
+    /// Keeps the text for the entry with this number.
     pub(crate) fn keep(&mut self, number: usize, text: String) -> Result<(), NoMemory>
-        ensures { OnOk result ((p : Parts) → AreMethodTexts p self.old → IsMethodText p number (string_bytes text) → AreMethodTexts p self.new) }
+        requires { number < length self.old }
+        ensures ok { OnOk result (self.new ≡ slice_set self.old number (Some (string_bytes text))) }
+        ensures unchanged { OnErr result (self.new ≡ self.old) }
     {
         let index = self.texts.len();
         self.texts.push(text)?;
-        if number < self.indices.len() {
-            self.indices[number] = Some(index);
-        }
+        self.indices[number] = Some(index);
         Ok(())
     }
 }
@@ -65,12 +78,12 @@ pub(crate) fn method_of<'a>(
     frame: &Node<'a>,
 ) -> Option<usize>
     requires fields { fields.now ≡ field_numbers (codes "method") chunk.now.classes }
-    requires frame { IsOf chunk.now frame.now }
+    requires frame { IsChunkValue chunk.now frame.now }
     ensures { result ≡ method_of chunk.now (node_of frame.now) }
 {
     let method = fields.find(chunk, frame)?;
     if !is_reference(&method) {
         return None;
     }
-    entry_of(chunk, &method)
+    entry_number(chunk, &method)
 }

@@ -1,10 +1,11 @@
 //! The names of classes and methods in frames.
-ghost use Rattle.std.specs.Prelude.{◌≡◌, ◌<◌, [], ◌∷◌, ◌++◌, IfOk, OnOk, flat_map, string_bytes, option_and_then};
+ghost use Rattle.std.specs.Prelude.{◌≡◌, ◌<◌, ◌++◌, IfOk, OnOk, flat_map, string_bytes, option_and_then};
+ghost use Rattle.std.specs.Char.{digit_char};
 ghost use Rattle.std.specs.Str.{chars};
 ghost use Rattle.jfr_chunk.specs.Paths.{text_of};
 ghost use Rattle.jfr_value.specs.Nodes.{IsValue, node_of};
 ghost use Rattle.jfr_path.specs.Places.{node_at};
-ghost use Rattle.jfr_stacks.specs.Texts.{escaped, hex_digit, method_names, name_text, type_names};
+ghost use Rattle.jfr_stacks.specs.Texts.{escaped, method_names, name_text, type_names};
 
 use jfr_base::{NoMemory, Text, Words};
 use jfr_chunk::Chunk;
@@ -48,7 +49,7 @@ pub(crate) fn push_name(
     requires of_chunk { frame.now.bytes.now ≡ chunk.now.bytes }
     ensures ok { OnOk result (string_bytes out.new ≡ string_bytes out.old ++ name_text chunk.now (node_of frame.now) names.now) }
 {
-    match named_text(alloc, chunk, frame, names)? {
+    match text_at_names(alloc, chunk, frame, names)? {
         Some(text) => push_escaped(text.as_str(), out),
         None => {
             out.push_str("?")?;
@@ -58,7 +59,7 @@ pub(crate) fn push_name(
 }
 
 /// The text at these fields of a frame, if there is one.
-fn named_text(
+fn text_at_names(
     alloc: Global,
     chunk: &Chunk<'_>,
     frame: &Node<'_>,
@@ -91,8 +92,8 @@ fn push_character(character: char, out: &mut String) -> Result<(), NoMemory>
     if character <= ' ' || character == ';' || character == '\\' || character == '\u{7F}' {
         let byte = character as u8;
         out.push_str("\\u00")?;
-        out.push_str(hex_digit(byte / 16))?;
-        out.push_str(hex_digit(byte % 16))?;
+        out.push(hex_digit(byte / 16))?;
+        out.push(hex_digit(byte % 16))?;
         return Ok(());
     }
     out.push(character)?;
@@ -100,26 +101,13 @@ fn push_character(character: char, out: &mut String) -> Result<(), NoMemory>
 }
 
 /// A hexadecimal digit in lower case, of a value below 16.
-fn hex_digit(number: u8) -> &'static str
+fn hex_digit(number: u8) -> char
     requires { number < 16 }
-    ensures { result.now ≡ hex_digit number ∷ [] }
+    ensures digit { result ≡ digit_char number }
+    ensures ascii { result < 128 }
 {
-    match number {
-        0 => "0",
-        1 => "1",
-        2 => "2",
-        3 => "3",
-        4 => "4",
-        5 => "5",
-        6 => "6",
-        7 => "7",
-        8 => "8",
-        9 => "9",
-        10 => "a",
-        11 => "b",
-        12 => "c",
-        13 => "d",
-        14 => "e",
-        _ => "f",
+    match char::from_digit(u32::from(number), 16) {
+        Some(digit) => digit,
+        None => unreachable!(),
     }
 }

@@ -14,8 +14,8 @@ use std::alloc::Global;
 use std::collections::BTreeMap;
 use std::marker::Model;
 
-/// The folded stacks of the chunks that were added: for each distinct call stack of their events, its text and
-/// the number of events that have it. Contracts see these stacks and the number of chunks.
+/// The folded stacks of the chunks that were added: for each distinct call stack of their kept events, its
+/// text and the number of events that have it. Contracts see these stacks and the number of chunks.
 #[derive(Drop)]
 pub struct Stacks {
     alloc: Global,
@@ -52,13 +52,14 @@ impl Stacks {
         }
     }
 
-    /// Adds the events of a chunk that the filter keeps. If memory runs out, nothing is known about the
-    /// counts.
+    /// Adds the events of a chunk that the filter keeps. If memory runs out, nothing is known about the counts
+    /// and the number of chunks.
     pub fn add(&mut self, chunk: &Chunk<'_>, filter: &Filter) -> Result<(), NoMemory>
         requires { self.old.chunks < 2 ^ 34 }
         ensures chunks { OnOk result (self.new.chunks ≡ self.old.chunks + 1) }
         ensures stacks { OnOk result ((ps : List Parts) → length ps ≡ self.old.chunks → self.old.stacks ≡ stacks_of filter.now ps → self.new.stacks ≡ stacks_of filter.now (ps ++ chunk.now ∷ [])) }
     {
+        // First, so that the bound of the counts holds even if memory runs out.
         self.chunks += 1;
         add_events(self.alloc, chunk, filter, &mut self.counts)
     }

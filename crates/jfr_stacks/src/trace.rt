@@ -1,9 +1,9 @@
 //! Where the stack traces of events are.
 ghost use Rattle.std.specs.Prelude.{◌≡◌};
 ghost use Rattle.jfr_value.specs.Nodes.{IsValue, node_of};
-ghost use Rattle.jfr_stacks.specs.Texts.{IsLocation};
+ghost use Rattle.jfr_stacks.specs.Trace.{IsLocation};
 
-use crate::steps::entry_of;
+use crate::entry::entry_number;
 use jfr_chunk::Chunk;
 use jfr_path::is_reference;
 use jfr_value::Node;
@@ -30,7 +30,7 @@ pub(crate) fn location_of(chunk: &Chunk<'_>, trace: &Node<'_>) -> TraceLocation
     if !is_reference(trace) {
         return TraceLocation::Inline;
     }
-    match entry_of(chunk, trace) {
+    match entry_number(chunk, trace) {
         Some(number) => TraceLocation::Entry(number),
         None => TraceLocation::Missing,
     }

@@ -2,7 +2,7 @@
 ghost use Rattle.std.specs.Prelude.{◌≡◌, ◌++◌, IfOk, OnOk, map, string_bytes};
 ghost use Rattle.std.specs.List.{AllByRecursion};
 ghost use Rattle.jfr_value.specs.Nodes.{IsValue, node_of};
-ghost use Rattle.jfr_stacks.specs.Frames.{IsOf};
+ghost use Rattle.jfr_stacks.specs.Frames.{IsChunkValue};
 ghost use Rattle.jfr_stacks.specs.Methods.{WritesFor};
 ghost use Rattle.jfr_stacks.specs.Texts.{stack_text, trace_text, written};
 
@@ -22,7 +22,7 @@ pub(crate) struct StackWriter {
 }
 
 impl StackWriter {
-    /// A writer for the stacks of this chunk. It has written nothing yet.
+    /// A writer for the stacks of this chunk.
     pub(crate) fn new(alloc: Global, chunk: &Chunk<'_>) -> Result<StackWriter, NoMemory>
         ensures ready { IfOk result (λ writer. WritesFor chunk.now writer.frames) }
     {
@@ -74,7 +74,7 @@ impl StackWriter {
         frames: &mut Vec<Node<'a>>,
     ) -> Result<(), NoMemory>
         requires ready { WritesFor chunk.now self.old.frames }
-        requires frames { AllByRecursion (IsOf chunk.now) frames.old.items }
+        requires frames { AllByRecursion (IsChunkValue chunk.now) frames.old.items }
         ensures ok { OnOk result (string_bytes self.new.text ≡ string_bytes self.old.text ++ stack_text chunk.now (map node_of frames.old.items)) }
         ensures ready { OnOk result (WritesFor chunk.now self.new.frames) }
     {

@@ -14,7 +14,7 @@ invariant-loop-number l = record {
   done : List (List ℕ);
   rest : done ++ left (stack_of l.chunk) l.chunk l.kept l.number ≡ filter_map (stack_of l.chunk) (kept_by l.chunk l.kept);
   few : length done ≤ l.number;
-  owes : HasPending (entry_text l.chunk) (counts_in l.initial.counts) done (counts_in l.counts) 0 l.by_entry.items;
+  pending : HasPending (entry_text l.chunk) (counts_in l.initial.counts) done (counts_in l.counts) 0 l.by_entry.items;
   each : length l.by_entry.items ≡ length l.chunk.entries;
   small : AreAtMost l.number l.by_entry.items;
   ready : WritesFor l.chunk l.writer.frames;

@@ -1,17 +1,17 @@
-use Rattle.std.proofs.Common.{rules, ◌≡◌, ◌++◌, ◌∷◌, [], length, subst, sym}
-use Rattle.std.specs.Prelude.{Some, slice_set}
-use Rattle.jfr_stacks.proofs.MethodLaws.{Each, kept_more, kept_set}
+use Rattle.std.proofs.Common.{rules, ◌≡◌, [], ◌∷◌, ◌++◌, Some, ap, length, string_bytes, ◌∙◌}
+use Rattle.std.specs.Prelude.{slice_set}
+use Rattle.jfr_stacks.specs.Cached.{texts_at}
+use Rattle.jfr_stacks.proofs.MethodLaws.{texts_kept}
 use Rattle.jfr_stacks.proofs.methods.MethodTexts.keep.Goals as goal
 
-pub returns-then-number-len : goal.returns-then-number-len
-returns-then-number-len c = λ p a m.
-    (let s = c.args.self.now in
+pub returns-clause-ok : goal.returns-clause-ok
+returns-clause-ok c =
+    let texts = c.self.inside.texts.items in
+    let indices = c.self.inside.indices.items in
     let n = c.args.number in
     let t = c.args.text in
-    let l : c.len-index.result ≡ length s.texts.items = search rules in
-    record { each = subst (Each p (slice_set s.indices.items n (Some c.len-index.result))) (sym c.in_ok-push.ensures.items) (subst (λ k. Each p (slice_set s.indices.items n (Some k)) (s.texts.items ++ t ∷ [])) (sym l) (kept_set p s.indices.items s.texts.items t n m a.each)) })
-
-pub returns-else-number-len : goal.returns-else-number-len
-returns-else-number-len c = λ p a m.
-    (let s = c.args.self.now in
-    record { each = subst (Each p s.indices.items) (sym c.in_ok-push.ensures.items) (kept_more p s.indices.items s.texts.items c.args.text a.each) })
+    let l : c.len-index.result ≡ length texts = search rules in
+    ap (λ z. texts_at z (slice_set indices n (Some c.len-index.result))) c.in_ok-push.ensures.items
+    ∙ (ap (λ k. texts_at (texts ++ t ∷ []) (slice_set indices n (Some k))) l
+    ∙ (texts_kept texts t indices n c.self.invariant
+    ∙ ap (λ z. slice_set z n (Some (string_bytes t))) c.self.view_is))

@@ -8,18 +8,18 @@ use Rattle.jfr_stacks.proofs.CountLaws.{below_by, count_more, count_most, one, p
 
 module _ (text : ℕ → Option (List ℕ)) where
   -- No events.
-  none_owed : (q : List ℕ) (number n : ℕ) → pending text q number (replicate n 0) ≡ 0
-  none_owed q number zero = refl
-  none_owed q number (suc n) = by_text (is_text q (text number)) (none_owed q (number + 1) n)
+  pending-replicate : (q : List ℕ) (number n : ℕ) → pending text q number (replicate n 0) ≡ 0
+  pending-replicate q number zero = refl
+  pending-replicate q number (suc n) = by_text (is_text q (text number)) (pending-replicate q (number + 1) n)
     where
       by_text : (b : Bool) → pending text q (number + 1) (replicate n 0) ≡ 0 → cond b 0 0 + pending text q (number + 1) (replicate n 0) ≡ 0
       by_text true h = omega arith
       by_text false h = omega arith
 
   -- An event more at one entry.
-  more_owed : (q : List ℕ) (number : ℕ) (ns : List ℕ) (j n : ℕ) → slice_get ns j ≡ Some n → pending text q number (slice_set ns j (n + 1)) ≡ pending text q number ns + one (is_text q (text (number + j)))
-  more_owed q number [] j n e = cc
-  more_owed q number (m ∷ ns) zero n e =
+  pending-slice_set : (q : List ℕ) (number : ℕ) (ns : List ℕ) (j n : ℕ) → slice_get ns j ≡ Some n → pending text q number (slice_set ns j (n + 1)) ≡ pending text q number ns + one (is_text q (text (number + j)))
+  pending-slice_set q number [] j n e = cc
+  pending-slice_set q number (m ∷ ns) zero n e =
       let s : m ≡ n = cc in
       let z : number + 0 ≡ number = omega arith in
       ap (λ x. cond (is_text q (text number)) (n + 1) 0 + x) refl ∙ (by_text (is_text q (text number)) s ∙ ap (λ x. cond (is_text q (text number)) m 0 + pending text q (number + 1) ns + one (is_text q (text x))) (sym z))
@@ -27,8 +27,8 @@ module _ (text : ℕ → Option (List ℕ)) where
       by_text : (b : Bool) → m ≡ n → cond b (n + 1) 0 + pending text q (number + 1) ns ≡ cond b m 0 + pending text q (number + 1) ns + one b
       by_text true s = omega arith
       by_text false s = omega arith
-  more_owed q number (m ∷ ns) (suc j) n e =
-      let i = more_owed q (number + 1) ns j n e in
+  pending-slice_set q number (m ∷ ns) (suc j) n e =
+      let i = pending-slice_set q (number + 1) ns j n e in
       let z : number + 1 + j ≡ number + suc j = omega arith in
       let h : pending text q (number + 1) (slice_set ns j (n + 1)) ≡ pending text q (number + 1) ns + one (is_text q (text (number + suc j))) = i ∙ ap (λ x. pending text q (number + 1) ns + one (is_text q (text x))) z in
       let a : ℕ = cond (is_text q (text number)) m 0 in
@@ -38,8 +38,8 @@ module _ (text : ℕ → Option (List ℕ)) where
       ap (λ x. a + x) h ∙ g
 
   -- Nothing is counted yet.
-  pub owes_none : (old : Counts) (n : ℕ) → HasPending text old [] old 0 (replicate n 0)
-  owes_none old n = record { each = λ q. ap (plus (fin.get old q)) (none_owed q 0 n) }
+  pub pending_none : (old : Counts) (n : ℕ) → HasPending text old [] old 0 (replicate n 0)
+  pending_none old n = record { each = λ q. ap (plus (fin.get old q)) (pending-replicate q 0 n) }
 
   module _ (old : Counts) (ts : List (List ℕ)) (now : Counts) where
     -- An event more, of whose text it is known whether it is q.
@@ -47,40 +47,40 @@ module _ (text : ℕ → Option (List ℕ)) where
     done_more q w o e = ap (λ x. plus x (one (is_text q o))) e ∙ (plus_plus (fin.get old q) (count_of q ts) (one (is_text q o)) ∙ ap (plus (fin.get old q)) (sym (count_more q ts o)))
 
     -- It is counted at an entry that has its text.
-    pub owes_more : (ns : List ℕ) (j n : ℕ) (o : Option (List ℕ)) → slice_get ns j ≡ Some n → o ≡ text j → HasPending text old ts now 0 ns → HasPending text old (ts ++ option_to_list o) now 0 (slice_set ns j (n + 1))
-    owes_more ns j n o e same h = record {
+    pub pending_more : (ns : List ℕ) (j n : ℕ) (o : Option (List ℕ)) → slice_get ns j ≡ Some n → o ≡ text j → HasPending text old ts now 0 ns → HasPending text old (ts ++ option_to_list o) now 0 (slice_set ns j (n + 1))
+    pending_more ns j n o e same h = record {
       each = λ q.
           (let z : 0 + j ≡ j = omega arith in
-          ap (plus (fin.get now q)) (more_owed q 0 ns j n e ∙ ap (λ x. pending text q 0 ns + one (is_text q x)) (ap text z ∙ sym same))
+          ap (plus (fin.get now q)) (pending-slice_set q 0 ns j n e ∙ ap (λ x. pending text q 0 ns + one (is_text q x)) (ap text z ∙ sym same))
           ∙ (sym (plus_plus (fin.get now q) (pending text q 0 ns) (one (is_text q o))) ∙ done_more q (pending text q 0 ns) o (h.each q)));
     }
 
     -- Its text is added to the counts.
-    pub owes_added : (ns : List ℕ) (o : Option (List ℕ)) (new : Counts) → AddsText now o 1 new → HasPending text old ts now 0 ns → HasPending text old (ts ++ option_to_list o) new 0 ns
-    owes_added ns o new a h = record {
+    pub pending_added : (ns : List ℕ) (o : Option (List ℕ)) (new : Counts) → AddsText now o 1 new → HasPending text old ts now 0 ns → HasPending text old (ts ++ option_to_list o) new 0 ns
+    pending_added ns o new a h = record {
       each = λ q.
           ap (λ x. plus x (pending text q 0 ns)) (a.each q ∙ plus_if (is_text q o) (fin.get now q) 1)
           ∙ (plus_swap (fin.get now q) (one (is_text q o)) (pending text q 0 ns) ∙ done_more q (pending text q 0 ns) o (h.each q));
     }
 
     -- It has no text.
-    pub owes_same : (ns : List ℕ) (o : Option (List ℕ)) → o ≡ None → HasPending text old ts now 0 ns → HasPending text old (ts ++ option_to_list o) now 0 ns
-    owes_same ns o n h = subst (λ z. HasPending text old (ts ++ option_to_list z) now 0 ns) (sym n) (subst (λ z. HasPending text old z now 0 ns) (sym (append-nil ts)) h)
+    pub pending_same : (ns : List ℕ) (o : Option (List ℕ)) → o ≡ None → HasPending text old ts now 0 ns → HasPending text old (ts ++ option_to_list o) now 0 ns
+    pending_same ns o n h = subst (λ z. HasPending text old (ts ++ option_to_list z) now 0 ns) (sym n) (subst (λ z. HasPending text old z now 0 ns) (sym (append-nil ts)) h)
 
     -- The events of one entry are added to the counts.
-    pub owes_next : (number n : ℕ) (ns : List ℕ) (new : Counts) → AddsText now (text number) n new → HasPending text old ts now number (n ∷ ns) → HasPending text old ts new (number + 1) ns
-    owes_next number n ns new a h = record {
+    pub pending_next : (number n : ℕ) (ns : List ℕ) (new : Counts) → AddsText now (text number) n new → HasPending text old ts now number (n ∷ ns) → HasPending text old ts new (number + 1) ns
+    pending_next number n ns new a h = record {
       each = λ q.
           ap (λ x. plus x (pending text q (number + 1) ns)) (a.each q ∙ plus_if (is_text q (text number)) (fin.get now q) n)
           ∙ (plus_plus (fin.get now q) (cond (is_text q (text number)) n 0) (pending text q (number + 1) ns) ∙ h.each q);
     }
 
     -- The events of all entries are added.
-    pub owes_end : (number : ℕ) (ns : List ℕ) → ns ≡ [] → HasPending text old ts now number ns → AddsTexts old ts now
-    owes_end number ns e h = record { each = λ q. ap (λ z. plus (fin.get now q) (pending text q number z)) (sym e) ∙ h.each q }
+    pub pending_end : (number : ℕ) (ns : List ℕ) → ns ≡ [] → HasPending text old ts now number ns → AddsTexts old ts now
+    pending_end number ns e h = record { each = λ q. ap (λ z. plus (fin.get now q) (pending text q number z)) (sym e) ∙ h.each q }
 
-    pub owes_below : (number most : ℕ) (ns : List ℕ) → HasPending text old ts now number ns → AreBelow most old → AreBelow (most + length ts) now
-    owes_below number most ns h b = below_by old now (λ q. pending text q number ns) (λ q. count_of q ts) most (length ts) h.each (λ q. count_most q ts) b
+    pub pending_below : (number most : ℕ) (ns : List ℕ) → HasPending text old ts now number ns → AreBelow most old → AreBelow (most + length ts) now
+    pending_below number most ns h b = below_by old now (λ q. pending text q number ns) (λ q. count_of q ts) most (length ts) h.each (λ q. count_most q ts) b
 
 -- No counts, and a count more.
 pub zeros_small : (most n : ℕ) → AreAtMost most (replicate n 0)

@@ -1,16 +1,16 @@
 //! The entry to which a value refers.
 ghost use Rattle.std.specs.Prelude.{◌≡◌};
 ghost use Rattle.jfr_value.specs.Nodes.{IsValue, node_of};
-ghost use Rattle.jfr_stacks.specs.Frames.{entry_of};
+ghost use Rattle.jfr_stacks.specs.Frames.{entry_number};
 
 use jfr_chunk::Chunk;
 use jfr_value::{Node, target};
 
 /// The number of the entry in force to which a value refers, if there is one.
-pub(crate) fn entry_of(chunk: &Chunk<'_>, node: &Node<'_>) -> Option<usize>
+pub(crate) fn entry_number(chunk: &Chunk<'_>, node: &Node<'_>) -> Option<usize>
     requires value { IsValue chunk.now.classes node.now }
     requires of_chunk { node.now.bytes.now ≡ chunk.now.bytes }
-    ensures { result ≡ entry_of chunk.now (node_of node.now) }
+    ensures { result ≡ entry_number chunk.now (node_of node.now) }
 {
     let (class, key) = target(chunk.classes(), node)?;
     chunk.pools().entry(class, key)
