@@ -16,7 +16,7 @@ pub record Pooled (k : Classes) (lines left : List NumberedLine) (pools : Pools)
   pub classes : with_classes [] lines ≡ with_classes pools.classes.items left
   pub counts : (id : ℕ) → entry_count lines id ≡ count_in (pool_in pools id) + entry_count left id
   pub entries : (id : ℕ) → entries_of k lines id ≡ entries_in (pool_in pools id) ++ entries_of k left id
-  pub ordered : AreListed pools
+  pub listed : AreListed pools
   pub good : first_bad_value k left ≡ None
 
 drop_past : {X : Type 0} (xs : List X) (i : ℕ) → length xs ≤ i → drop i xs ≡ []

@@ -3,8 +3,9 @@ use Rattle.std.specs.Prelude.{◌≡◌, ℕ, List, None, option_map}
 use Rattle.std.proofs.Common.{ap}
 use Rattle.jfr_layout.specs.Classes.{Classes, find_class}
 use Rattle.jfr_value.specs.Values.{bytes_of}
+use Rattle.jfr_pool.specs.Entries.{inline}
 use Rattle.jfr_build.specs.Taking.{class_taken, inline_taken, value_taken}
-use Rattle.jfr_build.specs.LineValues.{inline, spelled_value, whole}
+use Rattle.jfr_build.specs.LineValues.{spelled_value, whole}
 
 pub unknown_none : (k : Classes) (class : ℕ) (words : List (List ℕ)) → find_class k class ≡ None → spelled_value k class words ≡ None
 unfolding value_taken class_taken

@@ -13,10 +13,11 @@ use Rattle.jfr_value.specs.Nodes.{got_value, node_at, value_of}
 use Rattle.jfr_value.specs.Leaves.{leaves_at}
 use Rattle.jfr_value.proofs.DepthLaws.{fits_good}
 use Rattle.jfr_laws.proofs.Values.{exact_reads}
+use Rattle.jfr_pool.specs.Entries.{inline}
 use Rattle.jfr_chunk.specs.Parts.{Parts}
 use Rattle.jfr_build.specs.LeafWords.{AreWordsOf}
 use Rattle.jfr_build.specs.Taking.{Taken, took, value_taken}
-use Rattle.jfr_build.specs.LineValues.{inline, spelled_value, whole}
+use Rattle.jfr_build.specs.LineValues.{spelled_value, whole}
 use Rattle.jfr_build.specs.Accepted.{HasWords}
 use Rattle.jfr_build.proofs.TakenLaws.{taken_exactly}
 

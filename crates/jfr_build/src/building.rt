@@ -1,10 +1,9 @@
 //! Building a chunk.
 ghost use Rattle.std.specs.Prelude.{◌≡◌, ◌∷◌, ◌+◌, ◌<◌, ◌^◌, [], nat_lt, IfOk, MatchResult, None, Some, Ok, option_map, if◌then◌else◌};
 ghost use Rattle.jfr_build.specs.Accepted.{IsBuiltOf};
-ghost use Rattle.jfr_build.specs.Built.{chunk_with};
+ghost use Rattle.jfr_build.specs.Built.{checkpoint_with, chunk_with};
 ghost use Rattle.jfr_build.specs.Builds.{IsFault, build_lines, build_of, chunk_of, if_small, line_count};
 ghost use Rattle.jfr_build.specs.LineValues.{first_bad_value};
-ghost use Rattle.jfr_frame.specs.Written.{record_in};
 ghost use Rattle.jfr_header.specs.Headers.{header_bytes};
 ghost use Rattle.jfr_header.specs.Made.{made_header};
 
@@ -44,10 +43,8 @@ pub fn build(alloc: Global, text: &[u8]) -> Result<Vec<u8>, BuildFault>
     if text.len() >= TEXT_LIMIT {
         return Err(too_large(0));
     }
-    match read_lines(alloc, text) {
-        Ok(lines) => build_lines(alloc, &lines, line_count(text)),
-        Err(fault) => Err(fault),
-    }
+    let lines = read_lines(alloc, text)?;
+    build_lines(alloc, &lines, line_count(text))
 }
 
 /// The refusal, at this line, of a text, metadata or a chunk that is too large.
@@ -111,7 +108,7 @@ fn chunk_with(
     events: &[u8],
     pools: &[u8],
 ) -> Result<Option<Vec<u8>>, NoMemory>
-    ensures exact { IfOk result (λ found. option_map (λ v. v.items) found ≡ if_small (chunk_with metadata.now events.now (record_in 5 (1 ∷ 0 ∷ 0 ∷ 0 ∷ 0 ∷ pools.now)))) }
+    ensures exact { IfOk result (λ found. option_map (λ v. v.items) found ≡ if_small (chunk_with metadata.now events.now (checkpoint_with pools.now))) }
 {
     let Some(last) = last_of(metadata.len(), events.len()) else {
         return Ok(None);

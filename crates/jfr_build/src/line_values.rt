@@ -17,7 +17,8 @@ use jfr_value::layout_of;
 use std::alloc::Global;
 
 /// Checks the values of all constants and events. Refused for the first line that is a constant of an unknown
-/// class, is a record of a class that isn't an event class, or has words that aren't those of one value.
+/// class, is a record of a class that isn't an event class, or has words that aren't those of one value. The
+/// bytes of the values aren't kept: they are made again when the chunk is written.
 pub fn check_values(
     alloc: Global,
     classes: &Classes,
