@@ -1,5 +1,5 @@
 //! The pools of constants.
-ghost use Rattle.std.specs.Prelude.{◌≡◌, ◌==◌, ◌+◌, ◌<◌, ◌^◌, ◌++◌, ℕ, [], false, true, IfOk, OnOk, None};
+ghost use Rattle.std.specs.Prelude.{◌≡◌, ◌==◌, ◌+◌, ◌<◌, ◌^◌, ◌++◌, ℕ, [], false, true, IfOk, IsSome, OnOk, None};
 ghost use Rattle.jfr_base.specs.Integer.{spell};
 ghost use Rattle.jfr_build.specs.Built.{is_constant_of, pools_of, with_class};
 ghost use Rattle.jfr_build.specs.LineValues.{first_bad_value, is_bad_value};
@@ -76,6 +76,7 @@ impl Pools {
 
     /// The pools, in the order of their classes.
     fn to_bytes(&self) -> Result<Vec<u8>, NoMemory>
+        requires { AreListed self.now }
         ensures ok { IfOk result (λ bytes. bytes.items ≡ pools_bytes self.now) }
     {
         let mut bytes = Vec::new(self.alloc);
@@ -88,16 +89,15 @@ impl Pools {
 
     /// Appends the pool of a class.
     fn push_pool(&self, bytes: &mut Vec<u8>, class: u64) -> Result<(), NoMemory>
+        requires { IsSome (pool_in self.now class) }
         ensures ok { OnOk result (bytes.new.items ≡ bytes.old.items ++ pool_bytes self.now class) }
     {
+        let Some(pool) = self.by_class.get(&class) else {
+            unreachable!();
+        };
         push_integer(bytes, class)?;
-        match self.by_class.get(&class) {
-            Some(pool) => {
-                push_integer(bytes, pool.count)?;
-                bytes.extend_from_slice(&pool.entries)?;
-            }
-            None => push_integer(bytes, 0)?,
-        }
+        push_integer(bytes, pool.count)?;
+        bytes.extend_from_slice(&pool.entries)?;
         Ok(())
     }
 }
