@@ -28,6 +28,10 @@ bad_value : build_of (codes "class 5 long" ++ 10 ∷ codes "event 8 t.A" ++ 10 �
 unfolding build_of chunk_of metadata_record class_taken value_taken read_lines line_of slim_in slim_body retabled table_of slim_root id_of decimal_number class_faults is_event_class kind_of spell spell_in chars is_utf8 encode digits
 bad_value = refl
 
+record_of_no_event : build_of (codes "class 5 x" ++ 10 ∷ codes "record 5") ≡ refused 2 (ValueBad)
+unfolding build_of chunk_of metadata_record class_taken value_taken read_lines line_of slim_in slim_body retabled table_of slim_root id_of decimal_number class_faults is_event_class kind_of spell spell_in chars is_utf8 encode digits
+record_of_no_event = refl
+
 unknown_type : build_of (codes "class 5 long" ++ 10 ∷ codes "event 8 t.A" ++ 10 ∷ codes "field n 6 -" ++ 10 ∷ codes "record 8 300") ≡ refused 3 (Class UnknownType)
 unfolding build_of chunk_of metadata_record class_taken value_taken read_lines line_of slim_in slim_body retabled table_of slim_root id_of decimal_number class_faults is_event_class kind_of spell spell_in chars is_utf8 encode digits
 unknown_type = refl

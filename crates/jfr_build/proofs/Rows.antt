@@ -47,6 +47,10 @@ field_before_a_class : read_lines (10 ∷ codes "field n 5 -") ≡ Err 2
 unfolding read_lines line_of id_of decimal_number chars is_utf8 encode
 field_before_a_class = refl
 
+class_after_a_value : read_lines (codes "constant 5 1" ++ 10 ∷ codes "class 5 x") ≡ Err 2
+unfolding read_lines line_of id_of decimal_number chars is_utf8 encode
+class_after_a_value = refl
+
 -- Numbers.
 minus_zero : base_of kinds.Long (codes "-0") ≡ Some (0 ∷ [])
 unfolding decimal_number spell
