@@ -32,8 +32,9 @@ const CHECKPOINT_HEAD: [u8; 5] = [CHECKPOINT_TYPE as u8, 0, 0, 0, 0];
 /// Refused for the first of these reasons that applies: `TooLarge` if the text has 2^30 bytes or more;
 /// `LineBad` for the first line that isn't UTF-8, has no known form or isn't allowed at its position; a
 /// reason of [`jfr_layout::Classes::make`], for the line of the class or field with the flaw; `ValueBad` for
-/// the first constant or event whose words aren't those of the leaves of one value of its class; `TooLarge`
-/// if the strings and the tree of the metadata take 2^29 bytes or more, or the chunk 2^30 or more.
+/// the first constant of an unknown class, event of a class that isn't an event class, or line whose words
+/// aren't those of the leaves of one value; `TooLarge` if the strings and the tree of the metadata take 2^29
+/// bytes or more, or the chunk 2^30 or more.
 ///
 /// What is built is accepted, and has exactly the classes, the events and the constants of the lines.
 pub fn build(alloc: Global, text: &[u8]) -> Result<Vec<u8>, BuildFault>

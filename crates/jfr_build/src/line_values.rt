@@ -2,7 +2,7 @@
 ghost use Rattle.std.specs.Prelude.{◌≡◌, [], IfErr, IfOk, OnOk, None, Some, option_map, if◌then◌else◌};
 ghost use Rattle.jfr_layout.specs.Classes.{IsFieldLayout};
 ghost use Rattle.jfr_value.specs.Values.{bytes_of};
-ghost use Rattle.jfr_build.specs.LineValues.{IsBadValue, first_bad_value, is_bad_value, line_value, whole};
+ghost use Rattle.jfr_build.specs.LineValues.{IsBadValue, all_taken, first_bad_value, is_bad_value, line_value};
 ghost use Rattle.jfr_build.specs.Taking.{value_taken};
 
 use crate::line::Line;
@@ -78,7 +78,7 @@ fn spelled_value(
     out: &mut Output,
 ) -> Result<bool, NoMemory>
     requires layout { IsFieldLayout classes.now layout.now }
-    ensures ok { IfOk result (λ good. option_map bytes_of (whole (value_taken classes.now layout.now.shape words.entry)) ≡ (if good then Some out.new else None)) }
+    ensures ok { IfOk result (λ good. option_map bytes_of (all_taken (value_taken classes.now layout.now.shape words.entry)) ≡ (if good then Some out.new else None)) }
 {
     out.clear();
     match push_value(classes, layout, &mut words, out) {

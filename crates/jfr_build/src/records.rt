@@ -63,11 +63,11 @@ fn push_event(
     if !line_value(classes, line, value)? {
         unreachable!();
     }
-    push_value(events, *class, value.as_slice())
+    push_record(events, *class, value.as_slice())
 }
 
 /// Appends the record of an event. `false` only if it takes 2^30 bytes or more.
-fn push_value(events: &mut Vec<u8>, class: u64, value: &[u8]) -> Result<bool, NoMemory>
+fn push_record(events: &mut Vec<u8>, class: u64, value: &[u8]) -> Result<bool, NoMemory>
     ensures exact { IfOk result (λ fits. AppendsIf fits (event_record class value.now) events.old.items events.new.items) }
 {
     if value.len() >= CHUNK_LIMIT {
