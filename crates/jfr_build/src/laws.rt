@@ -12,8 +12,8 @@ pub fn words_are_taken()
     ensures { (k : Classes) (s : Shape) (words : List (List ℕ)) (v : Value) → Sound k → TakesExactly k s words v }
 {}
 
-/// A word is a quoted text exactly if it is this text between two quotes, with each byte written as
-/// `specs/Laws.antt` says.
+/// A word is read as a quoted text exactly if it is this text between two quotes. In it, a quote and a backslash
+/// have a backslash before them, and a space, the characters below it and U+007F are `\u` and four digits.
 pub fn texts_are_unquoted()
     ensures { (word text : List ℕ) → UnquotesExactly word text }
 {}
