@@ -16,7 +16,7 @@ use Rattle.jfr_build.specs.declared.reason.BuildFault.TheVariants.{Refused, Memo
 use Rattle.jfr_build.specs.declared.reason.BuildReason.TheVariants.{TooLarge}
 use Rattle.jfr_build.specs.Lines.{IsBadLine, read_lines}
 use Rattle.jfr_build.specs.Described.{metadata_record}
-use Rattle.jfr_build.specs.Built.{chunk_with, events_of, checkpoint_of, pools_of}
+use Rattle.jfr_build.specs.Built.{chunk_with, events_of, checkpoint_of, checkpoint_with, pools_of}
 use Rattle.jfr_build.specs.Builds.{IsFault, build_lines, build_of, chunk_of, if_small, line_count, refused}
 
 -- What follows the size of the checkpoint.
@@ -24,7 +24,7 @@ abbrev head_and : List ℕ → List ℕ
 head_and pools = 1 ∷ 0 ∷ 0 ∷ 0 ∷ 0 ∷ pools
 
 abbrev parts : List ℕ → List ℕ → List ℕ → List ℕ
-parts metadata events pools = chunk_with metadata events (record_in 5 (head_and pools))
+parts metadata events pools = chunk_with metadata events (checkpoint_with pools)
 
 pub chunk_length : (m e p : List ℕ) → length (parts m e p) ≡ 68 + length m + length e + (10 + length p)
 chunk_length m e p =

@@ -13,12 +13,12 @@ use Rattle.jfr_frame.proofs.WrittenRecords.{spelled_int}
 use Rattle.jfr_layout.specs.Classes.{Classes, Sound}
 use Rattle.jfr_value.specs.Values.{Value, bytes_of}
 use Rattle.jfr_value.specs.Reading.{value_format}
-use Rattle.jfr_pool.specs.Entries.{Constant as ConstantAt, constant_format, entry_of}
+use Rattle.jfr_pool.specs.Entries.{Constant as ConstantAt, constant_format, entry_of, inline}
 use Rattle.jfr_chunk.specs.Parts.{Parts}
 use Rattle.jfr_build.specs.declared.line.Line.{Line}
 use Rattle.jfr_build.specs.declared.line.Line.TheVariants.{Class, Field, Constant, Record}
 use Rattle.jfr_build.specs.declared.lines.NumberedLine.{NumberedLine}
-use Rattle.jfr_build.specs.LineValues.{inline, line_value, spelled_value}
+use Rattle.jfr_build.specs.LineValues.{line_value, spelled_value}
 use Rattle.jfr_build.specs.Built.{entries_of, entry_count, is_constant_of, line_entry}
 use Rattle.jfr_build.specs.Accepted.{IsEntryOf, plain_lines}
 use Rattle.jfr_build.proofs.ValuesRead.{spelled, value_there}

@@ -36,11 +36,10 @@ pub record GoodClass (c : Class) : Type 0 where
   pub fields : AllByRecursion GoodField c.fields
   pub categories : c.categories ≡ []
 
--- Texts, by their characters. COPY of jfr_laws.proofs.AnewLaws.text_of
+-- Scalar values are the characters of a text.
 text_of : (cs : List ℕ) → scalars cs ≡ true → IsText cs
 text_of cs e = (encode_utf8_all cs, (cs, (e, refl)), chars-encodes cs e)
 
--- Each a text. COPY of jfr_laws.proofs.AnewLaws.texts_of
 texts_of : (xs : List (List ℕ)) → list_all scalars xs ≡ true → AllByRecursion IsText xs
 texts_of [] e = tt
 texts_of (x ∷ xs) e = let h = and_parts (scalars x) (list_all scalars xs) e in (text_of x h.0, texts_of xs h.1)

@@ -16,6 +16,7 @@ mod MetadataRead
 mod PieceLaws
 mod PoolLaws
 mod PoolsRead
+mod QuotedLaws
 mod Rows
 mod SoundLaws
 mod Streaming

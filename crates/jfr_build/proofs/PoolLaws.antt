@@ -1,11 +1,13 @@
 -- The pools, one line after another.
-use Rattle.std.specs.Prelude.{◌≡◌, ℕ, zero, suc, ◌+◌, ◌≤◌, List, [], ◌∷◌, ◌++◌, length, drop, None}
-use Rattle.std.specs.List.{flat_map}
-use Rattle.std.proofs.Common.{ap, arith, refl, subst, sym, ◌∙◌}
+use Rattle.std.specs.Prelude.{◌≡◌, ℕ, zero, suc, ◌+◌, ◌<◌, ◌≤◌, ◌==◌, ◌||◌, Bool, true, false, List, [], ◌∷◌, ◌++◌, length, drop, Option, Some, None, IsSome, is_some}
+use Rattle.std.specs.List.{flat_map, list_any}
+use Rattle.std.proofs.Common.{ap, arith, get_or, refl, subst, sym, ◌∙◌}
+use Rattle.std.proofs.lemmas.Bool.Decides.{nat_tests}
 use Rattle.std.proofs.lemmas.List.{append-nil}
 use Rattle.jfr_base.specs.Integer.{spell}
 use Rattle.jfr_layout.specs.Classes.{Classes}
 use Rattle.jfr_build.specs.declared.lines.NumberedLine.{NumberedLine}
+use Rattle.jfr_build.specs.declared.pools.Pool.{Pool}
 use Rattle.jfr_build.specs.declared.pools.Pools.{Pools}
 use Rattle.jfr_build.specs.Built.{entries_of, entry_count, pool_of, pools_of, with_classes}
 use Rattle.jfr_build.specs.LineValues.{first_bad_value}
@@ -16,8 +18,27 @@ pub record Pooled (k : Classes) (lines left : List NumberedLine) (pools : Pools)
   pub classes : with_classes [] lines ≡ with_classes pools.classes.items left
   pub counts : (id : ℕ) → entry_count lines id ≡ count_in (pool_in pools id) + entry_count left id
   pub entries : (id : ℕ) → entries_of k lines id ≡ entries_in (pool_in pools id) ++ entries_of k left id
-  pub ordered : AreListed pools
+  pub listed : AreListed pools
   pub good : first_bad_value k left ≡ None
+
+-- Each class in the list has a pool.
+or_true : (t u : Bool) → u ≡ true → (t || u) ≡ true
+or_true true u e = refl
+or_true false u e = e
+
+element_listed : (xs : List ℕ) (i : ℕ) → i < length xs → list_any (λ c. c == get_or xs i 0) xs ≡ true
+element_listed [] i l = absurd (omega arith)
+element_listed (x ∷ xs) zero l = let e : (x == x) ≡ true = grind (arith, nat_tests) in rw e refl
+element_listed (x ∷ xs) (suc i) l = or_true (x == get_or xs i 0) (list_any (λ c. c == get_or xs i 0) xs) (element_listed xs i (omega arith))
+
+pub pool_listed : (pools : Pools) (classes : List ℕ) (i : ℕ) → classes ≡ pools.classes.items → AreListed pools → i < length classes → IsSome (pool_in pools (get_or classes i 0))
+pool_listed pools classes i e listed l =
+    let here : list_any (λ c. c == get_or classes i 0) pools.classes.items ≡ true = subst (λ z. list_any (λ c. c == get_or classes i 0) z ≡ true) e (element_listed classes i l) in
+    by_option (pool_in pools (get_or classes i 0)) (sym (listed (get_or classes i 0)) ∙ here)
+  where
+    by_option : (o : Option Pool) → is_some o ≡ true → IsSome o
+    by_option None q = cc
+    by_option (Some pool) q = refl
 
 drop_past : {X : Type 0} (xs : List X) (i : ℕ) → length xs ≤ i → drop i xs ≡ []
 drop_past [] zero l = refl

@@ -13,17 +13,18 @@ use Rattle.jfr_value.specs.Nodes.{got_value, node_at, value_of}
 use Rattle.jfr_value.specs.Leaves.{leaves_at}
 use Rattle.jfr_value.proofs.DepthLaws.{fits_good}
 use Rattle.jfr_laws.proofs.Values.{exact_reads}
+use Rattle.jfr_pool.specs.Entries.{inline}
 use Rattle.jfr_chunk.specs.Parts.{Parts}
 use Rattle.jfr_build.specs.LeafWords.{AreWordsOf}
 use Rattle.jfr_build.specs.Taking.{Taken, took, value_taken}
-use Rattle.jfr_build.specs.LineValues.{inline, spelled_value, whole}
+use Rattle.jfr_build.specs.LineValues.{all_taken, spelled_value}
 use Rattle.jfr_build.specs.Accepted.{HasWords}
 use Rattle.jfr_build.proofs.TakenLaws.{taken_exactly}
 
--- What was taken whole leaves no word.
-whole_took : (o : Option (Taken Value)) (v : Value) → whole o ≡ Some v → o ≡ took v []
-whole_took None v e = cc
-whole_took (Some t) v e = by_rest t.value t.rest e
+-- A value for which all words were taken leaves none.
+all_took : (o : Option (Taken Value)) (v : Value) → all_taken o ≡ Some v → o ≡ took v []
+all_took None v e = cc
+all_took (Some t) v e = by_rest t.value t.rest e
   where
     by_rest : (w : Value) (rest : List (List ℕ)) → (if length rest == 0 then Some w else None) ≡ Some v → took w rest ≡ took v []
     by_rest w [] e = let h : w ≡ v = cc in ap (λ z. took z []) h
@@ -37,7 +38,7 @@ pub record Spelled (k : Classes) (class : ℕ) (words : List (List ℕ)) (v : Va
 -- The words that are taken as a value spell it.
 pub spelled : (k : Classes) (class : ℕ) (words : List (List ℕ)) (v : Value) → Sound k → spelled_value k class words ≡ Some v → Spelled k class words v
 spelled k class words v sound e =
-    let t = (taken_exactly k (inline class) words v sound).0 (whole_took (value_taken k (inline class) words) v e) in
+    let t = (taken_exactly k (inline class) words v sound).0 (all_took (value_taken k (inline class) words) v e) in
     record { exact = subst (λ z. Exactly (value_format k z) (bytes_of v) v) t.shape (fits_good k v sound t.fits); words_are = t.leaves }
 
 -- The value is read at an offset, and its node there has the words.

@@ -5,7 +5,7 @@ use Rattle.jfr_header.specs.Fronts.{Whole}
 use Rattle.jfr_value.specs.Nodes.{NodeAt}
 use Rattle.jfr_value.specs.Leaves.{leaves}
 use Rattle.jfr_pool.specs.declared.entry.EntryAt.{EntryAt}
-use Rattle.jfr_pool.specs.Entries.{entry_node}
+use Rattle.jfr_pool.specs.Entries.{entry_node, inline}
 use Rattle.jfr_chunk.specs.Parts.{Parts, AreParts, EventAt, events_of}
 use Rattle.jfr_build.specs.declared.line.Line.{Line}
 use Rattle.jfr_build.specs.declared.line.Line.TheVariants.{Class, Field, Constant, Record}
@@ -13,7 +13,6 @@ use Rattle.jfr_build.specs.declared.lines.NumberedLine.{NumberedLine}
 use Rattle.jfr_build.specs.Lines.{read_lines}
 use Rattle.jfr_build.specs.ClassLines.{classes_in}
 use Rattle.jfr_build.specs.LeafWords.{AreWordsOf}
-use Rattle.jfr_build.specs.LineValues.{inline}
 use Rattle.jfr_build.specs.Built.{is_constant_of, with_classes}
 
 -- The node is a value of the class, and the words are those of its leaves, one for each, in order.

@@ -35,6 +35,7 @@ pub record Refusal : Type 0 where
 abbrev pub Build : Type 0
 Build = Result (List ℕ) Refusal
 
+-- The refusal for this line and reason.
 abbrev pub refused : ℕ → BuildReason → Build
 refused line reason = Err (record { line = line; reason = reason })
 

@@ -76,9 +76,14 @@ pool_of k lines id = spell id ++ (spell (entry_count lines id) ++ entries_of k l
 abbrev pub pools_of : Classes → List NumberedLine → List ℕ
 pools_of k lines = let classes = with_classes [] lines in spell (length classes) ++ flat_map (pool_of k lines) classes
 
--- The checkpoint, whose size is spelled in five bytes: type 1; start, duration, delta and type byte 0; the pools.
+-- The checkpoint with these pools, whose size is spelled in five bytes: type 1; start, duration, delta and type
+-- byte 0; the pools.
+abbrev pub checkpoint_with : List ℕ → List ℕ
+checkpoint_with pools = record_in 5 (1 ∷ 0 ∷ 0 ∷ 0 ∷ 0 ∷ pools)
+
+-- The checkpoint with the pools of these lines.
 abbrev pub checkpoint_of : Classes → List NumberedLine → List ℕ
-checkpoint_of k lines = record_in 5 (1 ∷ 0 ∷ 0 ∷ 0 ∷ 0 ∷ pools_of k lines)
+checkpoint_of k lines = checkpoint_with (pools_of k lines)
 
 -- The chunk of these parts: the metadata record, the events, the checkpoint.
 abbrev pub chunk_with : List ℕ → List ℕ → List ℕ → List ℕ

@@ -45,7 +45,8 @@ from_class i [] = []
 from_class zero (l ∷ ls) = if is_class l.line then l ∷ ls else from_class zero ls
 from_class (suc i) (l ∷ ls) = if is_class l.line then from_class i ls else from_class (suc i) ls
 
--- The number of the line of the class with this index, or of its field with this number.
+-- The number of the line of the class with this index, or of its field with this number; 0 if there is no such
+-- line.
 abbrev pub line_at : List NumberedLine → ℕ → Option ℕ → ℕ
 line_at ls class field = option_map_or (λ l. l.number) (slice_get (from_class class ls) (option_map_or (λ n. suc n) field 0)) 0
 

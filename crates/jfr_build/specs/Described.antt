@@ -25,6 +25,7 @@ mark_pairs constant array = (if constant then (8, 9) ∷ [] else []) ++ (if arra
 abbrev pub field_tree : ℕ → Field → Tree
 field_tree n f = tree 0 7 ((3, n) ∷ (2, n + 1) ∷ mark_pairs f.shape.constant f.shape.array) []
 
+-- The elements of fields, whose texts have the indices from n on, two for each.
 abbrev pub field_trees : ℕ → List Field → List Tree
 field_trees n [] = []
 field_trees n (f ∷ fs) = field_tree n f ∷ field_trees (n + 2) fs
@@ -43,6 +44,7 @@ super_pairs (Some name) = (5, 6) ∷ []
 abbrev pub class_tree : ℕ → Class → Tree
 class_tree n c = tree 0 2 ((3, n) ∷ (4, n + 1) ∷ super_pairs c.super_name) (field_trees (n + 2) c.fields)
 
+-- The elements of classes, whose texts have the indices from n on.
 abbrev pub class_trees : ℕ → Classes → List Tree
 class_trees n [] = []
 class_trees n (c ∷ cs) = class_tree n c ∷ class_trees (n + length (class_texts c)) cs
@@ -58,6 +60,7 @@ body_of k = record {
 }
 
 -- The metadata record: the tree of all classes, and a table of the texts that it uses, each once, in the
--- order of their first use. None if the table and the tree take 2 ^ 29 bytes or more.
+-- order of their first use. None if the table and the tree take 2 ^ 29 bytes or more; if they take fewer, the
+-- record has fewer than 2 ^ 30.
 unfoldable pub metadata_record : Classes → Option (List ℕ)
 metadata_record k = slim_in (body_of k) (has_id k) (2 ^ 30)

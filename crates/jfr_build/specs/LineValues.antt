@@ -1,8 +1,8 @@
 -- The values of constants and events, and the first line whose value is bad.
-use Rattle.std.specs.Prelude.{◌≡◌, ⊤, ℕ, Bool, false, not, ◌&&◌, ◌==◌, List, length, find, Option, Some, None, is_some, option_map, if◌then◌else◌}
+use Rattle.std.specs.Prelude.{◌≡◌, ⊤, ℕ, Bool, not, ◌&&◌, ◌==◌, List, length, find, Option, Some, None, is_some, option_map, if◌then◌else◌}
 use Rattle.jfr_layout.specs.Classes.{Classes, is_event_class}
-use Rattle.jfr_layout.specs.declared.shape.Shape.{Shape}
 use Rattle.jfr_value.specs.Values.{Value}
+use Rattle.jfr_pool.specs.Entries.{inline}
 use Rattle.jfr_build.specs.declared.line.Line.{Line}
 use Rattle.jfr_build.specs.declared.line.Line.TheVariants.{Class, Field, Constant, Record}
 use Rattle.jfr_build.specs.declared.lines.NumberedLine.{NumberedLine}
@@ -12,18 +12,14 @@ use Rattle.jfr_build.specs.declared.reason.BuildReason.TheVariants.{ValueBad}
 use Rattle.jfr_build.specs.Lines.{has_value}
 use Rattle.jfr_build.specs.Taking.{Taken, value_taken}
 
--- The shape of an inline value of a class.
-abbrev pub inline : ℕ → Shape
-inline class = record { class = class; constant = false; array = false }
-
--- What was taken, if no word is left.
-abbrev pub whole : Option (Taken Value) → Option Value
-whole None = None
-whole (Some t) = if length t.rest == 0 then Some t.value else None
+-- The value that was taken, if all words were taken.
+abbrev pub all_taken : Option (Taken Value) → Option Value
+all_taken None = None
+all_taken (Some t) = if length t.rest == 0 then Some t.value else None
 
 -- The value of a class that the words spell, all of them.
 abbrev pub spelled_value : Classes → ℕ → List (List ℕ) → Option Value
-spelled_value k class words = whole (value_taken k (inline class) words)
+spelled_value k class words = all_taken (value_taken k (inline class) words)
 
 -- The value of a line that is a constant or an event. The class of an event must be an event class.
 abbrev pub line_value : Classes → Line → Option Value

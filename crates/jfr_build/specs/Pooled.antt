@@ -34,7 +34,7 @@ pub record Grown (old new : Pools) (class : ℕ) (entry : List ℕ) : Type 0 whe
   pub classes : new.classes.items ≡ with_class old.classes.items class
   pub counts : (id : ℕ) → count_in (pool_in new id) ≡ (if class == id then count_in (pool_in old id) + 1 else count_in (pool_in old id))
   pub entries : (id : ℕ) → entries_in (pool_in new id) ≡ (if class == id then entries_in (pool_in old id) ++ entry else entries_in (pool_in old id))
-  pub ordered : AreListed new
+  pub listed : AreListed new
 
 -- The pool of a class, as it is written.
 abbrev pub pool_bytes : Pools → ℕ → List ℕ
@@ -49,4 +49,4 @@ pub record Added (k : Classes) (old new : Pools) (line : Line) : Type 0 where
   pub classes : new.classes.items ≡ option_map_or (with_class old.classes.items) (constant_class line) old.classes.items
   pub counts : (id : ℕ) → count_in (pool_in new id) ≡ (if is_constant_of id line then count_in (pool_in old id) + 1 else count_in (pool_in old id))
   pub entries : (id : ℕ) → entries_in (pool_in new id) ≡ entries_in (pool_in old id) ++ (if is_constant_of id line then line_entry k line else [])
-  pub ordered : AreListed new
+  pub listed : AreListed new

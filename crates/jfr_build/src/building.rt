@@ -1,10 +1,9 @@
 //! Building a chunk.
 ghost use Rattle.std.specs.Prelude.{◌≡◌, ◌∷◌, ◌+◌, ◌<◌, ◌^◌, [], nat_lt, IfOk, MatchResult, None, Some, Ok, option_map, if◌then◌else◌};
 ghost use Rattle.jfr_build.specs.Accepted.{IsBuiltOf};
-ghost use Rattle.jfr_build.specs.Built.{chunk_with};
+ghost use Rattle.jfr_build.specs.Built.{checkpoint_with, chunk_with};
 ghost use Rattle.jfr_build.specs.Builds.{IsFault, build_lines, build_of, chunk_of, if_small, line_count};
 ghost use Rattle.jfr_build.specs.LineValues.{first_bad_value};
-ghost use Rattle.jfr_frame.specs.Written.{record_in};
 ghost use Rattle.jfr_header.specs.Headers.{header_bytes};
 ghost use Rattle.jfr_header.specs.Made.{made_header};
 
@@ -33,8 +32,9 @@ const CHECKPOINT_HEAD: [u8; 5] = [CHECKPOINT_TYPE as u8, 0, 0, 0, 0];
 /// Refused for the first of these reasons that applies: `TooLarge` if the text has 2^30 bytes or more;
 /// `LineBad` for the first line that isn't UTF-8, has no known form or isn't allowed at its position; a
 /// reason of [`jfr_layout::Classes::make`], for the line of the class or field with the flaw; `ValueBad` for
-/// the first constant or event whose words aren't those of the leaves of one value of its class; `TooLarge`
-/// if the strings and the tree of the metadata take 2^29 bytes or more, or the chunk 2^30 or more.
+/// the first constant of an unknown class, event of a class that isn't an event class, or line whose words
+/// aren't those of the leaves of one value; `TooLarge` if the strings and the tree of the metadata take 2^29
+/// bytes or more, or the chunk 2^30 or more.
 ///
 /// What is built is accepted, and has exactly the classes, the events and the constants of the lines.
 pub fn build(alloc: Global, text: &[u8]) -> Result<Vec<u8>, BuildFault>
@@ -44,10 +44,8 @@ pub fn build(alloc: Global, text: &[u8]) -> Result<Vec<u8>, BuildFault>
     if text.len() >= TEXT_LIMIT {
         return Err(too_large(0));
     }
-    match read_lines(alloc, text) {
-        Ok(lines) => build_lines(alloc, &lines, line_count(text)),
-        Err(fault) => Err(fault),
-    }
+    let lines = read_lines(alloc, text)?;
+    build_lines(alloc, &lines, line_count(text))
 }
 
 /// The refusal, at this line, of a text, metadata or a chunk that is too large.
@@ -111,7 +109,7 @@ fn chunk_with(
     events: &[u8],
     pools: &[u8],
 ) -> Result<Option<Vec<u8>>, NoMemory>
-    ensures exact { IfOk result (λ found. option_map (λ v. v.items) found ≡ if_small (chunk_with metadata.now events.now (record_in 5 (1 ∷ 0 ∷ 0 ∷ 0 ∷ 0 ∷ pools.now)))) }
+    ensures exact { IfOk result (λ found. option_map (λ v. v.items) found ≡ if_small (chunk_with metadata.now events.now (checkpoint_with pools.now))) }
 {
     let Some(last) = last_of(metadata.len(), events.len()) else {
         return Ok(None);

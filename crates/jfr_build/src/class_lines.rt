@@ -82,23 +82,25 @@ fn fields_from(alloc: Global, lines: &[NumberedLine<'_>], from: usize) -> Result
     Ok(fields)
 }
 
-/// The line number of the class with this index or, with `field`, of that field of the class.
+/// The line number of the class with this index or, with `field`, of that field of the class; 0 if there is no
+/// such line.
 fn line_at(lines: &[NumberedLine<'_>], class: usize, field: Option<usize>) -> u64
     ensures { result ≡ line_at lines.now class field }
 {
-    let mut left = class;
+    let mut before = class;
     for at in 0..lines.len() {
         if is_class(&lines[at].line) {
-            if left == 0 {
+            if before == 0 {
                 return number_after(lines, at, field);
             }
-            left -= 1;
+            before -= 1;
         }
     }
     0
 }
 
-/// The number of the line with this index or, with `field`, of that field's line after it.
+/// The number of the line with this index or, with `field`, of that field's line after it; 0 if there is no such
+/// line.
 fn number_after(lines: &[NumberedLine<'_>], at: usize, field: Option<usize>) -> u64
     requires { at < length lines.now }
     ensures { result ≡ option_map_or (λ l. l.number) (slice_get (drop at lines.now) (option_map_or (λ n. suc n) field 0)) 0 }

@@ -37,7 +37,7 @@ const DIMENSION: u64 = 10;
 
 const ONE: u64 = 11;
 
-/// A metadata record has at most this many bytes.
+/// The most bytes of a metadata record. No record has more, since its strings and tree take fewer than 2^29.
 const RECORD_LIMIT: usize = 1 << 30;
 
 /// Makes the metadata record of the classes, and gives the classes back. `None` if its strings and its tree take

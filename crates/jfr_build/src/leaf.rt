@@ -185,7 +185,7 @@ fn byte_of(word: &str) -> Option<u8>
 }
 
 /// Appends the value of this kind that a word spells. `text` is scratch memory for a quoted word.
-pub fn push_base(
+pub fn push_leaf(
     out: &mut Vec<u8>,
     kind: Kind,
     word: &str,

@@ -5,8 +5,8 @@
 //! `specs/Streams.antt`: what is done with the files. What the lines mean is in `specs/Pieces.antt`,
 //! `specs/Lines.antt` and `specs/ClassLines.antt`; the words of leaves in `specs/LeafWords.antt`; the values of
 //! words and lines in `specs/Taking.antt` and `specs/LineValues.antt`; and the bytes of the chunk in
-//! `specs/Described.antt` and `specs/Built.antt`. The laws are about the values that words spell, and about
-//! the chunk.
+//! `specs/Described.antt` and `specs/Built.antt`. The laws are about quoted texts, the values that words spell,
+//! and the chunk.
 #![tactic(auto)]
 
 mod building;
@@ -29,6 +29,6 @@ mod value;
 
 pub use building::build;
 pub use ending::BuildEnding;
-pub use laws::{built_is_accepted, taken_values_are_read, words_are_taken};
+pub use laws::{built_is_accepted, taken_values_are_read, texts_are_unquoted, words_are_taken};
 pub use reason::{BuildFault, BuildReason};
 pub use stream::build_stream;

@@ -2,7 +2,7 @@
 ghost use Rattle.std.specs.Prelude.{◌≡◌, [], IfErr, IfOk, OnOk, None, Some, option_map, if◌then◌else◌};
 ghost use Rattle.jfr_layout.specs.Classes.{IsFieldLayout};
 ghost use Rattle.jfr_value.specs.Values.{bytes_of};
-ghost use Rattle.jfr_build.specs.LineValues.{IsBadValue, first_bad_value, is_bad_value, line_value, whole};
+ghost use Rattle.jfr_build.specs.LineValues.{IsBadValue, all_taken, first_bad_value, is_bad_value, line_value};
 ghost use Rattle.jfr_build.specs.Taking.{value_taken};
 
 use crate::line::Line;
@@ -17,7 +17,8 @@ use jfr_value::layout_of;
 use std::alloc::Global;
 
 /// Checks the values of all constants and events. Refused for the first line that is a constant of an unknown
-/// class, is a record of a class that isn't an event class, or has words that aren't those of one value.
+/// class, is a record of a class that isn't an event class, or has words that aren't those of one value. The
+/// bytes of the values aren't kept: they are made again when the chunk is written.
 pub fn check_values(
     alloc: Global,
     classes: &Classes,
@@ -77,7 +78,7 @@ fn spelled_value(
     out: &mut Output,
 ) -> Result<bool, NoMemory>
     requires layout { IsFieldLayout classes.now layout.now }
-    ensures ok { IfOk result (λ good. option_map bytes_of (whole (value_taken classes.now layout.now.shape words.entry)) ≡ (if good then Some out.new else None)) }
+    ensures ok { IfOk result (λ good. option_map bytes_of (all_taken (value_taken classes.now layout.now.shape words.entry)) ≡ (if good then Some out.new else None)) }
 {
     out.clear();
     match push_value(classes, layout, &mut words, out) {

@@ -22,20 +22,14 @@ const MIN_LEN: usize = 9;
 pub fn is_class(line: &Line<'_>) -> bool
     ensures { result ≡ is_class line.now }
 {
-    match line {
-        Line::Class { .. } => true,
-        _ => false,
-    }
+    matches!(line, Line::Class { .. })
 }
 
 /// Whether the line is a `constant` or a `record`.
 pub fn has_value(line: &Line<'_>) -> bool
     ensures { result ≡ has_value line.now }
 {
-    match line {
-        Line::Constant { .. } | Line::Record { .. } => true,
-        _ => false,
-    }
+    matches!(line, Line::Constant { .. } | Line::Record { .. })
 }
 
 /// Whether a class was described before, and whether a `constant` or a `record` came before.
@@ -79,9 +73,9 @@ pub fn read_lines(alloc: Global, text: &[u8]) -> Result<Vec<NumberedLine<'_>>, B
         class: false,
         value: false,
     };
-    let mut left = RestOfText::of(text);
+    let mut unread = RestOfText::of(text);
     let mut number: u64 = 0;
-    'lines: while let Some(bytes) = left.next() {
+    'lines: while let Some(bytes) = unread.next() {
         number += 1;
         if bytes.is_empty() {
             continue;

@@ -4,7 +4,7 @@ ghost use Rattle.jfr_base.specs.Integer.{spell};
 ghost use Rattle.jfr_build.specs.LeafWords.{base_of};
 ghost use Rattle.jfr_build.specs.Writing.{Appends};
 
-use crate::leaf::push_base;
+use crate::leaf::push_leaf;
 use jfr_base::{NoMemory, write_var};
 use jfr_layout::Kind;
 use std::alloc::{AllocError, AllocFailed, Global};
@@ -101,7 +101,7 @@ impl Output {
     pub fn push_word(&mut self, kind: Kind, word: &str) -> Result<(), ValueFault>
         ensures exact { Appends (base_of kind word.now) result self.old self.new }
     {
-        push_base(&mut self.bytes, kind, word, &mut self.text)
+        push_leaf(&mut self.bytes, kind, word, &mut self.text)
     }
 }
 

@@ -1,5 +1,6 @@
 //! The lines of a text, and the words of a line.
-ghost use Rattle.std.specs.Prelude.{◌≡◌, ◌∷◌, [], MatchOption, OnSome, IfNone};
+ghost use Rattle.std.specs.Prelude.{◌≡◌, ◌==◌, ◌<◌, ◌∷◌, [], length, IfNone, IfSome, MatchOption, OnSome};
+ghost use Rattle.std.specs.List.{position};
 ghost use Rattle.jfr_build.specs.Pieces.{lines_of, rest_pieces, words_of};
 
 use std::marker::Model;
@@ -37,18 +38,26 @@ impl<'a> RestOfText<'a> {
     }
 }
 
+/// The index of the first newline, if there is one.
+fn newline_in(text: &[u8]) -> Option<usize>
+    ensures exact { result ≡ position (λ b. b == 10) text.now }
+    ensures bound { IfSome result (λ at. at < length text.now) }
+{
+    text.iter().position(|byte| *byte == b'\n')
+}
+
 /// The bytes before the first newline, and those after it, if there is one.
 fn first_line(text: &[u8]) -> (&[u8], Option<&[u8]>)
     ensures { lines_of text.now ≡ result.0.now ∷ rest_pieces 10 result.1 }
 {
-    for at in 0..text.len() {
-        if text[at] == b'\n' {
+    match newline_in(text) {
+        Some(at) => {
             let (line, rest) = text.split_at(at);
             let (_, rest) = rest.split_at(1);
-            return (line, Some(rest));
+            (line, Some(rest))
         }
+        None => (text, None),
     }
-    (text, None)
 }
 
 /// The words that have not been taken yet. Contracts see them as a list.
@@ -100,8 +109,8 @@ impl<'a> RestOfLine<'a> {
 
     /// `Some` exactly if no word is left.
     pub fn end(&self) -> Option<()>
-        ensures none { OnSome result (self.now ≡ []) }
-        ensures some { IfNone result (self.now ≡ [] → ⊥) }
+        ensures ended { OnSome result (self.now ≡ []) }
+        ensures unread { IfNone result (self.now ≡ [] → ⊥) }
     {
         match self.rest {
             None => Some(()),

@@ -1,5 +1,5 @@
 //! The pools of constants.
-ghost use Rattle.std.specs.Prelude.{◌≡◌, ◌==◌, ◌+◌, ◌<◌, ◌^◌, ◌++◌, ℕ, [], false, true, IfOk, OnOk, None};
+ghost use Rattle.std.specs.Prelude.{◌≡◌, ◌==◌, ◌+◌, ◌<◌, ◌^◌, ◌++◌, ℕ, [], false, true, IfOk, IsSome, OnOk, None};
 ghost use Rattle.jfr_base.specs.Integer.{spell};
 ghost use Rattle.jfr_build.specs.Built.{is_constant_of, pools_of, with_class};
 ghost use Rattle.jfr_build.specs.LineValues.{first_bad_value, is_bad_value};
@@ -44,7 +44,7 @@ impl Pools {
 
     /// Takes the pool of a class; an empty one if there is none yet.
     fn take(&mut self, class: u64) -> Result<Pool, NoMemory>
-        requires ordered { AreListed self.old }
+        requires listed { AreListed self.old }
         ensures count { IfOk result (λ pool. pool.count ≡ count_in (pool_in self.old class)) }
         ensures entries { IfOk result (λ pool. pool.entries.items ≡ entries_in (pool_in self.old class)) }
         ensures classes { OnOk result (self.new.classes.items ≡ with_class self.old.classes.items class) }
@@ -62,7 +62,7 @@ impl Pools {
 
     /// Adds an entry to the pool of a class.
     fn push(&mut self, class: u64, key: u64, value: &[u8]) -> Result<(), NoMemory>
-        requires ordered { AreListed self.old }
+        requires listed { AreListed self.old }
         requires few { count_in (pool_in self.old class) + 1 < 2 ^ 64 }
         ensures ok { OnOk result (Grown self.old self.new class (spell key ++ value.now)) }
     {
@@ -75,10 +75,11 @@ impl Pools {
     }
 
     /// The pools, in the order of their classes.
-    fn to_bytes(&self, alloc: Global) -> Result<Vec<u8>, NoMemory>
+    fn to_bytes(&self) -> Result<Vec<u8>, NoMemory>
+        requires { AreListed self.now }
         ensures ok { IfOk result (λ bytes. bytes.items ≡ pools_bytes self.now) }
     {
-        let mut bytes = Vec::new(alloc);
+        let mut bytes = Vec::new(self.alloc);
         push_integer(&mut bytes, self.classes.len() as u64)?;
         for class in &self.classes {
             self.push_pool(&mut bytes, *class)?;
@@ -88,16 +89,15 @@ impl Pools {
 
     /// Appends the pool of a class.
     fn push_pool(&self, bytes: &mut Vec<u8>, class: u64) -> Result<(), NoMemory>
+        requires { IsSome (pool_in self.now class) }
         ensures ok { OnOk result (bytes.new.items ≡ bytes.old.items ++ pool_bytes self.now class) }
     {
+        let Some(pool) = self.by_class.get(&class) else {
+            unreachable!();
+        };
         push_integer(bytes, class)?;
-        match self.by_class.get(&class) {
-            Some(pool) => {
-                push_integer(bytes, pool.count)?;
-                bytes.extend_from_slice(&pool.entries)?;
-            }
-            None => push_integer(bytes, 0)?,
-        }
+        push_integer(bytes, pool.count)?;
+        bytes.extend_from_slice(&pool.entries)?;
         Ok(())
     }
 }
@@ -118,7 +118,7 @@ pub fn pools_of(
     for line in lines {
         push_line(&mut pools, classes, &line.line, &mut value)?;
     }
-    pools.to_bytes(alloc)
+    pools.to_bytes()
 }
 
 /// Adds the entry of the line, if it is a constant.
@@ -128,7 +128,7 @@ fn push_line(
     line: &Line<'_>,
     value: &mut Output,
 ) -> Result<(), NoMemory>
-    requires ordered { AreListed pools.old }
+    requires listed { AreListed pools.old }
     requires few { (id : ℕ) → is_constant_of id line.now ≡ true → count_in (pool_in pools.old id) + 1 < 2 ^ 64 }
     requires good { is_bad_value classes.now line.now ≡ false }
     ensures ok { OnOk result (Added classes.now pools.old pools.new line.now) }

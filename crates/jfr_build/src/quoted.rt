@@ -56,10 +56,7 @@ impl Quoted {
     fn is_closed(self) -> bool
         ensures { result ≡ is_closed self }
     {
-        match self {
-            Quoted::Closed => true,
-            _ => false,
-        }
+        matches!(self, Quoted::Closed)
     }
 
     /// The state after a byte, and the byte of the text if one is complete; `None` if the byte is wrong.
@@ -129,7 +126,7 @@ fn push_if_some(text: &mut Vec<u8>, byte: Option<u8>) -> Result<(), AllocError>
     Ok(())
 }
 
-/// Whether the word is a quoted text; its bytes replace those of `text`.
+/// Whether the word is a quoted text. If so, the bytes of the text replace those of `text`.
 pub fn unquote(word: &str, text: &mut Vec<u8>) -> Result<bool, AllocError>
     ensures ok { IfOk result (λ found. unquoted word.now ≡ (if found then Some text.new.items else None)) }
 {

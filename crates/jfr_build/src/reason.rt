@@ -11,7 +11,8 @@ pub enum BuildReason {
     TooLarge,
     /// A line isn't UTF-8, has no known form, or isn't allowed at its position.
     LineBad,
-    /// The words of a constant or a record aren't those of a value of its class.
+    /// The class of a constant is unknown, that of a record isn't an event class, or the words aren't those of one
+    /// value of the class.
     ValueBad,
     /// The classes aren't sound.
     Class(Reason),

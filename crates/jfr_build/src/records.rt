@@ -1,7 +1,8 @@
 //! The records of events.
-ghost use Rattle.std.specs.Prelude.{◌≡◌, ◌≤◌, ◌<◌, ◌^◌, ◌++◌, length, IfOk, MatchOption, OnOk};
+ghost use Rattle.std.specs.Prelude.{◌≡◌, ◌≤◌, ◌<◌, ◌^◌, ◌++◌, false, length, IfOk, MatchOption, None, OnOk};
 ghost use Rattle.jfr_base.specs.Integer.{FitsIn, spell_in};
 ghost use Rattle.jfr_build.specs.Built.{AppendsIf, event_record, events_of, line_event};
+ghost use Rattle.jfr_build.specs.LineValues.{first_bad_value, is_bad_value};
 
 use crate::line::Line;
 use crate::line_values::line_value;
@@ -33,6 +34,7 @@ pub fn events_of(
     classes: &Classes,
     lines: &[NumberedLine<'_>],
 ) -> Result<Option<Vec<u8>>, NoMemory>
+    requires good { first_bad_value classes.now lines.now ≡ None }
     ensures exact { IfOk result (λ found. MatchOption found (2 ^ 30 ≤ length (events_of classes.now lines.now)) (λ events. events.items ≡ events_of classes.now lines.now)) }
 {
     let mut events = Vec::new(alloc);
@@ -52,19 +54,20 @@ fn push_event(
     line: &Line<'_>,
     value: &mut Output,
 ) -> Result<bool, NoMemory>
+    requires good { is_bad_value classes.now line.now ≡ false }
     ensures exact { IfOk result (λ fits. AppendsIf fits (line_event classes.now line.now) events.old.items events.new.items) }
 {
     let Line::Record { class, .. } = line else {
         return Ok(true);
     };
     if !line_value(classes, line, value)? {
-        return Ok(true);
+        unreachable!();
     }
-    push_value(events, *class, value.as_slice())
+    push_record(events, *class, value.as_slice())
 }
 
 /// Appends the record of an event. `false` only if it takes 2^30 bytes or more.
-fn push_value(events: &mut Vec<u8>, class: u64, value: &[u8]) -> Result<bool, NoMemory>
+fn push_record(events: &mut Vec<u8>, class: u64, value: &[u8]) -> Result<bool, NoMemory>
     ensures exact { IfOk result (λ fits. AppendsIf fits (event_record class value.now) events.old.items events.new.items) }
 {
     if value.len() >= CHUNK_LIMIT {

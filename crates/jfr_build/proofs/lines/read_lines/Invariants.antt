@@ -4,11 +4,11 @@ use Rattle.jfr_build.proofs.lines.read_lines.Given as goal
 
 abbrev pub invariant-lines : goal.invariant-lines
 invariant-lines l = record {
-  same : read_from (l.number + 1) l.lines.items l.left ≡ read_lines l.text;
+  same : read_from (l.number + 1) l.lines.items l.unread ≡ read_lines l.text;
   class : any_class l.lines.items ≡ l.before.class;
   value : any_value l.lines.items ≡ l.before.value;
-  few : l.number + length l.left ≤ 2 ^ 30;
+  few : l.number + length l.unread ≤ 2 ^ 30;
 }
 
 abbrev pub decreases-lines : goal.decreases-lines
-decreases-lines l = length l.left
+decreases-lines l = length l.unread

@@ -1,13 +1,13 @@
-use Rattle.std.proofs.Common.{◌∷◌, ap, arith, drop, sym, ◌∙◌}
+use Rattle.std.proofs.Common.{◌∷◌, Some, None, ap, drop, sym, ◌∙◌}
 use Rattle.jfr_build.specs.Pieces.{pieces}
-use Rattle.jfr_build.proofs.PieceLaws.{first_at, one_piece}
+use Rattle.jfr_build.proofs.PieceLaws.{line_cut}
 use Rattle.jfr_build.proofs.pieces.first_line.Goals as goal
 
-pub returns-then-text-at-eq10 : goal.returns-then-text-at-eq10
-returns-then-text-at-eq10 c =
-    first_at 10 c.args.text.now c.loop-at.at c.loop-at-test.true c.loop-at.invariant c.if-text-at-eq10.true
-    ∙ (ap (λ z. z ∷ pieces 10 (drop 1 (drop c.loop-at.at c.args.text.now))) (sym c.split_at.ensures.front)
-    ∙ ap (λ z. c.split_at.result.0.now ∷ pieces 10 z) (sym (c.split_at-then-text-at-eq10.ensures.back ∙ ap (drop 1) c.split_at.ensures.back)))
+pub returns-in-Some : goal.returns-in-Some
+returns-in-Some c =
+    line_cut c.args.text.now (Some c.in-Some.at) (sym c.in-Some.is ∙ c.newline_in.ensures.exact)
+    ∙ (ap (λ z. z ∷ pieces 10 (drop 1 (drop c.in-Some.at c.args.text.now))) (sym c.split_at.ensures.front)
+    ∙ ap (λ z. c.split_at.result.0.now ∷ pieces 10 z) (sym (c.split_at-in-Some.ensures.back ∙ ap (drop 1) c.split_at.ensures.back)))
 
-pub returns : goal.returns
-returns c = one_piece 10 c.args.text.now (λ k l e. c.loop-at.invariant k (omega (arith, l, c.loop-at-test.false)) e)
+pub returns-in-None : goal.returns-in-None
+returns-in-None c = line_cut c.args.text.now None (sym c.in-None.is ∙ c.newline_in.ensures.exact)
