@@ -14,6 +14,7 @@ use Rattle.jfr_chunk.specs.Parts.{Parts, EventAt, events_of}
 use Rattle.jfr_worklist.specs.Marks.{is_marked, IsMarked, those}
 use Rattle.jfr_chunk.specs.Reach.{marked, kept_by, roots, node_entries, next_entries}
 use Rattle.jfr_verify.specs.declared.closed.ClosedCheck.{ClosedCheck}
+use Rattle.jfr_verify.specs.Decided.{Decided}
 use Rattle.jfr_verify.specs.Closed.{are_marked, ChecksMarks, events_closed, kept_refs, marked_refs, entries_closed}
 use Rattle.jfr_layout.proofs.Lists.{present}
 use Rattle.jfr_chunk.proofs.RootLaws.{roots_append, roots_one, takes_those}
@@ -189,3 +190,8 @@ module _ (p : Parts) where
 
   pub is_closed : (kept : List EventAt) (ms : List Bool) → AreClosed p kept ms → (events_closed p ms kept && entries_closed p ms (length p.entries)) ≡ true
   is_closed kept ms c = ap (λ z. z && entries_closed p ms (length p.entries)) (marked_each ms (roots p kept) c.events) ∙ each_entries ms (length p.entries) c.entries
+
+  -- The computation decides the fact.
+  pub closed_decided : (kept : List EventAt) (ms : List Bool) → length ms ≡ length p.entries → (b : Bool) → b ≡ (events_closed p ms kept && entries_closed p ms (length p.entries)) → Decided (AreClosed p kept ms) b
+  closed_decided kept ms l true e = closed_is kept ms l (sym e)
+  closed_decided kept ms l false e = λ c. (let h = is_closed kept ms c in let z : false ≡ true = e ∙ h in cc)

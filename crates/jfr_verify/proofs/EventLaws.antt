@@ -14,8 +14,9 @@ use Rattle.jfr_chunk.proofs.AllLaws.{all_in}
 use Rattle.jfr_chunk.proofs.CountLaws.{whole_small}
 use Rattle.jfr_worklist.proofs.Members.{get_in}
 use Rattle.jfr_chunk.proofs.HasNodesLaws.{event_is, tiles_each}
-use Rattle.jfr_verify.specs.Checks.{contents}
-use Rattle.jfr_verify.specs.SameEvents.{content, is_same, both_same, same_event, next_event, SameEvents}
+use Rattle.jfr_verify.specs.Checks.{content, contents}
+use Rattle.jfr_verify.specs.Decided.{Decided}
+use Rattle.jfr_verify.specs.SameEvents.{same_content, same_contents, same_event, next_event}
 use Rattle.jfr_layout.proofs.Lists.{present, take_next}
 
 -- The record lies in the chunk.
@@ -43,7 +44,7 @@ record_stands p n at r w a h g = by_event (slice_get (events_of p) n) refl h
         let x : e.record_of ≡ r = cc in
         subst (Stands p) x (event_stands p n e w a q)
 
-same_is : (x y : ℕ × List ℕ) → is_same x y ≡ true → x ≡ y
+same_is : (x y : ℕ × List ℕ) → same_content x y ≡ true → x ≡ y
 same_is x y e = by_parts (x.0 == y.0) refl (bytes_eq x.1 y.1) refl e
   where
     as_one : ℕ → List ℕ → ℕ × List ℕ
@@ -57,7 +58,7 @@ same_is x y e = by_parts (x.0 == y.0) refl (bytes_eq x.1 y.1) refl e
     by_parts true s false t h = cc
     by_parts false s t u h = cc
 
-is_self : (x : ℕ × List ℕ) → is_same x x ≡ true
+is_self : (x : ℕ × List ℕ) → same_content x x ≡ true
 is_self x = (let h : (x.0 == x.0) ≡ true = grind arith in ap (λ z. z && bytes_eq x.1 x.1) h) ∙ (bytes_eq-Decides x.1 x.1).1 refl
 
 module _ (p q : Parts) (flags : List Bool) where
@@ -131,7 +132,7 @@ module _ (p q : Parts) (flags : List Bool) where
   wanted_at : (at : ℕ) → slice_get wanted at ≡ option_map (content q) (slice_get (events_of q) at)
   wanted_at at = slice_get-map (content q) (events_of q) at
 
-  both_is : (x : ℕ × List ℕ) (o : Option (ℕ × List ℕ)) → both_same (Some x) o ≡ true → o ≡ Some x
+  both_is : (x : ℕ × List ℕ) (o : Option (ℕ × List ℕ)) → same_contents (Some x) o ≡ true → o ≡ Some x
   both_is x None e = cc
   both_is x (Some y) e = ap (λ z. Some z) (sym (same_is x y e))
 
@@ -141,7 +142,7 @@ module _ (p q : Parts) (flags : List Bool) where
       by_same : (x : EventAt) (b : Bool) → slice_get (events_of p) n ≡ Some x → slice_get flags n ≡ Some true → same_event p q n at ≡ b → (if b then Some (at + 1) else None) ≡ Some next → InSame (n + 1) next
       by_same x false g f b e = cc
       by_same x true g f b e =
-          let o : slice_get wanted at ≡ Some (content p x) = wanted_at at ∙ both_is (content p x) (option_map (content q) (slice_get (events_of q) at)) (sym (ap (λ z. both_same (option_map (content p) z) (option_map (content q) (slice_get (events_of q) at))) g) ∙ b) in
+          let o : slice_get wanted at ≡ Some (content p x) = wanted_at at ∙ both_is (content p x) (option_map (content q) (slice_get (events_of q) at)) (sym (ap (λ z. same_contents (option_map (content p) z) (option_map (content q) (slice_get (events_of q) at))) g) ∙ b) in
           let k : contents p (first (suc n)) ≡ take (at + 1) wanted = ap (contents p) (marked_one flags (events_of p) n x f g) ∙ (contents_more (first n) x [] ∙ (ap (λ z. z ++ content p x ∷ []) i.same ∙ sym (take_next wanted at (content p x) o))) in
           let l : at + 1 ≡ next = cc in
           let w : at < length wanted = slice_get_within wanted at (content p x) o in
@@ -160,7 +161,7 @@ module _ (p q : Parts) (flags : List Bool) where
           }
       by_flag (Some true) f e = let x = present (events_of p) n (omega arith) in by_same x.0 (same_event p q n at) x.1 f refl e
 
-  pub same_differs : (n at : ℕ) → n < length flags → length flags ≡ length (events_of p) → InSame n at → next_event p q flags n at ≡ None → SameEvents p q (kept_by p flags) false
+  pub same_differs : (n at : ℕ) → n < length flags → length flags ≡ length (events_of p) → InSame n at → next_event p q flags n at ≡ None → contents p (kept_by p flags) ≡ wanted → ⊥
   same_differs n at h s i e all = by_flag (slice_get flags n) refl e
     where
       by_same : (x : EventAt) (b : Bool) → slice_get (events_of p) n ≡ Some x → slice_get flags n ≡ Some true → same_event p q n at ≡ b → (if b then Some (at + 1) else None) ≡ None → ⊥
@@ -169,7 +170,7 @@ module _ (p q : Parts) (flags : List Bool) where
           let r = marked_after flags (events_of p) n x f g in
           let k : take at wanted ++ content p x ∷ contents p r.0 ≡ wanted = ap (λ z. z ++ content p x ∷ contents p r.0) (sym i.same) ∙ (sym (contents_more (first n) x r.0) ∙ (sym (ap (contents p) r.1) ∙ all)) in
           let o : slice_get wanted at ≡ Some (content p x) = ap (λ z. slice_get z at) (sym k) ∙ get_after wanted at (content p x) (contents p r.0) i.within in
-          let t : same_event p q n at ≡ true = ap (λ z. both_same (option_map (content p) z) (option_map (content q) (slice_get (events_of q) at))) g ∙ (ap (both_same (Some (content p x))) (sym (wanted_at at) ∙ o) ∙ is_self (content p x)) in
+          let t : same_event p q n at ≡ true = ap (λ z. same_contents (option_map (content p) z) (option_map (content q) (slice_get (events_of q) at))) g ∙ (ap (same_contents (Some (content p x))) (sym (wanted_at at) ∙ o) ∙ is_self (content p x)) in
           (let z : false ≡ true = sym b ∙ t in cc)
 
       by_flag : (o : Option Bool) → slice_get flags n ≡ o → (if option_map_or (λ flag. flag) o false then (if same_event p q n at then Some (at + 1) else None) else Some at) ≡ None → ⊥
@@ -184,7 +185,7 @@ module _ (p q : Parts) (flags : List Bool) where
   whole_first : (n : ℕ) → length flags ≤ n → length flags ≡ length (events_of p) → first n ≡ kept_by p flags
   whole_first n h s = ap (λ z. marked z (take n (events_of p))) (all_of flags n h) ∙ ap (marked flags) (all_of (events_of p) n (omega arith))
 
-  pub same_end : (n at : ℕ) → length flags ≤ n → length flags ≡ length (events_of p) → InSame n at → (b : Bool) → (at == length (events_of q)) ≡ b → SameEvents p q (kept_by p flags) b
+  pub same_end : (n at : ℕ) → length flags ≤ n → length flags ≡ length (events_of p) → InSame n at → (b : Bool) → (at == length (events_of q)) ≡ b → Decided (contents p (kept_by p flags) ≡ wanted) b
   same_end n at h s i true e =
       let l : at ≡ length (events_of q) = grind (arith, e) in
       let m = map_size (events_of q) in
@@ -200,7 +201,7 @@ module _ (p q : Parts) (flags : List Bool) where
 pub same_within : (p q : Parts) (n m : ℕ) → same_event p q n m ≡ true → m < length (events_of q)
 same_within p q n m e = by_other (option_map (content p) (slice_get (events_of p) n)) (slice_get (events_of q) m) refl e
   where
-    by_other : (a : Option (ℕ × List ℕ)) (b : Option EventAt) → slice_get (events_of q) m ≡ b → both_same a (option_map (content q) b) ≡ true → m < length (events_of q)
+    by_other : (a : Option (ℕ × List ℕ)) (b : Option EventAt) → slice_get (events_of q) m ≡ b → same_contents a (option_map (content q) b) ≡ true → m < length (events_of q)
     by_other None b g e = cc
     by_other (Some x) None g e = cc
     by_other (Some x) (Some y) g e = slice_get_within (events_of q) m y g
