@@ -17,7 +17,7 @@ use Rattle.jfr_worklist.proofs.Members.{get_in}
 use Rattle.jfr_chunk.proofs.HasNodesLaws.{event_is, tiles_each}
 use Rattle.jfr_verify.specs.Checks.{content, contents}
 use Rattle.jfr_verify.specs.Decided.{Decided}
-use Rattle.jfr_verify.specs.SameEvents.{same_content, same_contents, same_event, next_event}
+use Rattle.jfr_verify.specs.SameEvents.{same_content, both_same, same_event, next_event}
 use Rattle.jfr_verify.proofs.RankLaws.{marked_one}
 use Rattle.jfr_layout.proofs.Lists.{present, take_next}
 
@@ -116,7 +116,7 @@ module _ (p q : Parts) (flags : List Bool) where
   wanted_at : (at : ℕ) → slice_get wanted at ≡ option_map (content q) (slice_get (events_of q) at)
   wanted_at at = slice_get-map (content q) (events_of q) at
 
-  both_is : (x : ℕ × List ℕ) (o : Option (ℕ × List ℕ)) → same_contents (Some x) o ≡ true → o ≡ Some x
+  both_is : (x : ℕ × List ℕ) (o : Option (ℕ × List ℕ)) → both_same (Some x) o ≡ true → o ≡ Some x
   both_is x None e = cc
   both_is x (Some y) e = ap (λ z. Some z) (sym (same_is x y e))
 
@@ -126,7 +126,7 @@ module _ (p q : Parts) (flags : List Bool) where
       by_same : (x : EventAt) (b : Bool) → slice_get (events_of p) n ≡ Some x → slice_get flags n ≡ Some true → same_event p q n at ≡ b → (if b then Some (at + 1) else None) ≡ Some next → InSame (n + 1) next
       by_same x false g f b e = cc
       by_same x true g f b e =
-          let o : slice_get wanted at ≡ Some (content p x) = wanted_at at ∙ both_is (content p x) (option_map (content q) (slice_get (events_of q) at)) (sym (ap (λ z. same_contents (option_map (content p) z) (option_map (content q) (slice_get (events_of q) at))) g) ∙ b) in
+          let o : slice_get wanted at ≡ Some (content p x) = wanted_at at ∙ both_is (content p x) (option_map (content q) (slice_get (events_of q) at)) (sym (ap (λ z. both_same (option_map (content p) z) (option_map (content q) (slice_get (events_of q) at))) g) ∙ b) in
           let k : contents p (first (suc n)) ≡ take (at + 1) wanted = ap (contents p) (marked_one flags (events_of p) n true x f g) ∙ (contents_more (first n) x [] ∙ (ap (λ z. z ++ content p x ∷ []) i.same ∙ sym (take_next wanted at (content p x) o))) in
           let l : at + 1 ≡ next = cc in
           let w : at < length wanted = slice_get_within wanted at (content p x) o in
@@ -155,7 +155,7 @@ module _ (p q : Parts) (flags : List Bool) where
           let r = marked_after flags (events_of p) n x f g in
           let k : take at wanted ++ content p x ∷ contents p r.0 ≡ wanted = ap (λ z. z ++ content p x ∷ contents p r.0) (sym i.same) ∙ (sym (contents_more (first n) x r.0) ∙ (sym (ap (contents p) r.1) ∙ all)) in
           let o : slice_get wanted at ≡ Some (content p x) = ap (λ z. slice_get z at) (sym k) ∙ get_after wanted at (content p x) (contents p r.0) i.within in
-          let t : same_event p q n at ≡ true = ap (λ z. same_contents (option_map (content p) z) (option_map (content q) (slice_get (events_of q) at))) g ∙ (ap (same_contents (Some (content p x))) (sym (wanted_at at) ∙ o) ∙ is_self (content p x)) in
+          let t : same_event p q n at ≡ true = ap (λ z. both_same (option_map (content p) z) (option_map (content q) (slice_get (events_of q) at))) g ∙ (ap (both_same (Some (content p x))) (sym (wanted_at at) ∙ o) ∙ is_self (content p x)) in
           (let z : false ≡ true = sym b ∙ t in cc)
 
       by_flag : (o : Option Bool) → slice_get flags n ≡ o → (if option_map_or (λ flag. flag) o false then (if same_event p q n at then Some (at + 1) else None) else Some at) ≡ None → ⊥
@@ -186,7 +186,7 @@ module _ (p q : Parts) (flags : List Bool) where
 pub same_within : (p q : Parts) (n m : ℕ) → same_event p q n m ≡ true → m < length (events_of q)
 same_within p q n m e = by_other (option_map (content p) (slice_get (events_of p) n)) (slice_get (events_of q) m) refl e
   where
-    by_other : (a : Option (ℕ × List ℕ)) (b : Option EventAt) → slice_get (events_of q) m ≡ b → same_contents a (option_map (content q) b) ≡ true → m < length (events_of q)
+    by_other : (a : Option (ℕ × List ℕ)) (b : Option EventAt) → slice_get (events_of q) m ≡ b → both_same a (option_map (content q) b) ≡ true → m < length (events_of q)
     by_other None b g e = cc
     by_other (Some x) None g e = cc
     by_other (Some x) (Some y) g e = slice_get_within (events_of q) m y g

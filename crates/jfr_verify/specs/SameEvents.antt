@@ -10,14 +10,14 @@ abbrev pub same_content : ℕ × List ℕ → ℕ × List ℕ → Bool
 same_content x y = (x.0 == y.0) && bytes_eq x.1 y.1
 
 -- Whether both contents exist and are equal.
-abbrev pub same_contents : Option (ℕ × List ℕ) → Option (ℕ × List ℕ) → Bool
-same_contents (Some x) (Some y) = same_content x y
-same_contents (Some x) None = false
-same_contents None y = false
+abbrev pub both_same : Option (ℕ × List ℕ) → Option (ℕ × List ℕ) → Bool
+both_same (Some x) (Some y) = same_content x y
+both_same (Some x) None = false
+both_same None y = false
 
 -- Whether event n of the input and event m of the output are there and have equal contents.
 abbrev pub same_event : Parts → Parts → ℕ → ℕ → Bool
-same_event p q n m = same_contents (option_map (content p) (slice_get (events_of p) n)) (option_map (content q) (slice_get (events_of q) m))
+same_event p q n m = both_same (option_map (content p) (slice_get (events_of p) n)) (option_map (content q) (slice_get (events_of q) m))
 
 -- The number of the event of the output to compare next, after event n of the input was compared with event m.
 abbrev pub next_event : Parts → Parts → List Bool → ℕ → ℕ → Option ℕ

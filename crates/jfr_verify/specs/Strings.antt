@@ -20,7 +20,7 @@ AreIndices texts firsts = (x : List ℕ) (n : ℕ) → value_under firsts x ≡ 
 abbrev pub HasText : List (List ℕ) → BTreeMap (Bor (List ℕ)) ℕ → ℕ → Type 0
 HasText texts firsts i = (n : ℕ) × (value_under firsts (text_at texts i) ≡ Some n)
 
--- The map has a number for each text of the table, and for the empty text.
+-- The map has the index of the first string with each text of the table, and with the empty text.
 pub record AreFirsts (texts : List (List ℕ)) (firsts : BTreeMap (Bor (List ℕ)) ℕ) : Type 0 where
   pub indices : AreIndices texts firsts
   pub each : (i : ℕ) → HasText texts firsts i

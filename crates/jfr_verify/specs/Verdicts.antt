@@ -61,7 +61,7 @@ pub data VerdictOf (g : Given) (t : Three) (x : Verdict) : Type 0 where
 abbrev pub HasOneVerdict : Given → Three → Type 0
 HasOneVerdict g t = (x y : Verdict) → VerdictOf g t x → VerdictOf g t y → x ≡ y
 
--- No verdict is right, since a file that is needed for one doesn't exist.
+-- No verdict is right.
 abbrev pub HasNoVerdict : Given → Three → Type 0
 HasNoVerdict g t = (x : Verdict) → VerdictOf g t x → ⊥
 
