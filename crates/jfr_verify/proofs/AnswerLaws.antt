@@ -16,8 +16,8 @@ use Rattle.jfr_verify.specs.Reading.{lines_of_count}
 use Rattle.jfr_verify.specs.Closed.{events_closed, entries_closed}
 use Rattle.jfr_verify.specs.Checks.{HasClasses, contents, AreAmong, AreClosed, next_copy}
 use Rattle.jfr_verify.specs.Checked.{Checked}
-use Rattle.jfr_verify.proofs.ClosedLaws.{closed_is}
-use Rattle.jfr_verify.proofs.ForceLaws.{not_closed}
+use Rattle.jfr_verify.specs.Decided.{Decided}
+use Rattle.jfr_verify.proofs.ClosedLaws.{closed_decided}
 use Rattle.jfr_verify.proofs.CopyLaws.{InCopies, copies_start, copies_next, none_copied, copies_end}
 use Rattle.jfr_verify.proofs.PrefixLaws.{was_read, same_lines, none_read}
 use Rattle.jfr_verify.proofs.DecisionLaws.{Dec, dec_nat, dec_list, dec_pair, dec_contains, dec_all, dec_below, dec_class}
@@ -121,12 +121,12 @@ module _ (p q : Parts) where
       by_prefix h e m c (inl s) = (Ok s.0, (s.1, record { classes = h; events = e; marks = m.0; among = m.1; closed = c; shown = s.2 }))
       by_prefix h e m c (inr f) = (Err ReceiptBad, (h, e, m.0, m.1, c, f))
 
-      by_closed : HasClasses p.classes q.classes → contents p kept ≡ contents q (events_of q) → (m : Marked) → (b : Bool) → (events_closed p m.0 kept && entries_closed p m.0 (length p.entries)) ≡ b → (x : Result ℕ Doubt) × Checked p q kept r x
-      by_closed h e m true c = by_prefix h e m (closed_is p kept m.0 m.2 c) (prefix_or q r)
-      by_closed h e m false c = (Err EntryMissing, (h, e, m.0, m.1, not_closed p kept m.0 c))
+      by_closed : HasClasses p.classes q.classes → contents p kept ≡ contents q (events_of q) → (m : Marked) → (b : Bool) → Decided (AreClosed p kept m.0) b → (x : Result ℕ Doubt) × Checked p q kept r x
+      by_closed h e m true c = by_prefix h e m c (prefix_or q r)
+      by_closed h e m false c = (Err EntryMissing, (h, e, m.0, m.1, c))
 
       by_marks : HasClasses p.classes q.classes → contents p kept ≡ contents q (events_of q) → Marked ⊎ ((marks : List Bool) → AreAmong p q marks → ⊥) → (x : Result ℕ Doubt) × Checked p q kept r x
-      by_marks h e (inl m) = by_closed h e m (events_closed p m.0 kept && entries_closed p m.0 (length p.entries)) refl
+      by_marks h e (inl m) = let b = events_closed p m.0 kept && entries_closed p m.0 (length p.entries) in by_closed h e m b (closed_decided p kept m.0 m.2 b refl)
       by_marks h e (inr f) = (Err EntriesDiffer, (h, e, f))
 
       by_events : HasClasses p.classes q.classes → Dec (contents p kept ≡ contents q (events_of q)) → (x : Result ℕ Doubt) × Checked p q kept r x

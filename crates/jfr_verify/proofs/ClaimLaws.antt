@@ -19,7 +19,8 @@ use Rattle.jfr_worklist.proofs.Members.{contains_in, in_contains, in_those}
 use Rattle.jfr_verify.specs.declared.claims.Claims.{Claims}
 use Rattle.jfr_verify.specs.declared.line.Parent.{Parent}
 use Rattle.jfr_verify.specs.declared.line.Parent.TheVariants.{OfEvent, OfEntry}
-use Rattle.jfr_verify.specs.Claims.{RefersTo, IsConfirmed, AreClaimed, is_same, is_parent_of, children, AreConfirmed}
+use Rattle.jfr_verify.specs.Claims.{RefersTo, IsConfirmed, AreClaimed, same_parent, is_parent_of, children, AreConfirmed}
+use Rattle.jfr_verify.specs.Decided.{Decided}
 use Rattle.jfr_verify.specs.Confirmed.{Confirms, ConfirmsOf, ConfirmsMore, ConfirmsEvents, ConfirmsEntries}
 use Rattle.jfr_worklist.proofs.MarkLaws.{all_size, all_only, all_stay, all_here, all_append, none_marked}
 use Rattle.jfr_chunk.proofs.RootLaws.{takes_those}
@@ -52,25 +53,25 @@ confirms_all es = takes_those Confirms confirms_none confirms_then (number_in_fo
 pub confirms_more : (is : List ℕ) (at : ℕ) (old here new : Claims) → at < length is → Confirms (take at is) old here → Confirms (slice_index_or is at 0 ∷ []) here new → Confirms (take (at + 1) is) old new
 confirms_more is at old here new h p q = subst (λ z. Confirms z old new) (sym (take_more is at 0 h)) (confirms_then (take at is) (slice_index_or is at 0 ∷ []) old here new p q)
 
-same_is : (a b : Parent) → is_same a b ≡ true → b ≡ a
+same_is : (a b : Parent) → same_parent a b ≡ true → b ≡ a
 same_is (OfEvent a) (OfEvent b) e = let q : b ≡ a = grind (arith, e) in ap OfEvent q
 same_is (OfEntry a) (OfEntry b) e = let q : b ≡ a = grind (arith, e) in ap OfEntry q
 same_is (OfEvent a) (OfEntry b) e = cc
 same_is (OfEntry a) (OfEvent b) e = cc
 
-is_self : (a : Parent) → is_same a a ≡ true
+is_self : (a : Parent) → same_parent a a ≡ true
 is_self (OfEvent a) = grind arith
 is_self (OfEntry a) = grind arith
 
 parent_is : (ps : List Parent) (p : Parent) (t : ℕ) → is_parent_of ps p t ≡ true → slice_get ps t ≡ Some p
 parent_is ps p t e = by_get (slice_get ps t) refl e
   where
-    by_get : (o : Option Parent) → slice_get ps t ≡ o → option_map_or (is_same p) o false ≡ true → slice_get ps t ≡ Some p
+    by_get : (o : Option Parent) → slice_get ps t ≡ o → option_map_or (same_parent p) o false ≡ true → slice_get ps t ≡ Some p
     by_get None q e = cc
     by_get (Some r) q e = q ∙ ap (λ z. Some z) (same_is p r e)
 
 is_parent : (ps : List Parent) (p : Parent) (t : ℕ) → slice_get ps t ≡ Some p → is_parent_of ps p t ≡ true
-is_parent ps p t e = ap (λ o. option_map_or (is_same p) o false) e ∙ is_self p
+is_parent ps p t e = ap (λ o. option_map_or (same_parent p) o false) e ∙ is_self p
 
 in_children : (ps : List Parent) (p : Parent) (xs : List ℕ) (t : ℕ) → In (children ps p xs) t → In xs t × (slice_get ps t ≡ Some p)
 in_children ps p [] t i = absurd i
@@ -103,21 +104,21 @@ no_children ps p (x ∷ xs) f = by_test (is_parent_of ps p x) refl (no_children 
     by_test false e r = r
 
 -- Looking at an event that isn't a claimed parent confirms nothing.
-pub unclaimed_confirms : (a : Claims) (claimed : List Bool) (n : ℕ) (is : List ℕ) → AreClaimed (length a.parents.items) a.parents.items claimed → slice_get claimed n ≡ Some false → ConfirmsOf (OfEvent n) is a a
+pub unclaimed_confirms : (a : Claims) (claimed : List Bool) (n : ℕ) (is : List ℕ) → AreClaimed a.parents.items claimed → slice_get claimed n ≡ Some false → ConfirmsOf (OfEvent n) is a a
 unclaimed_confirms a claimed n is h f = record {
-  confirmed = ap (marked_at a.confirmed.items) (sym (no_children a.parents.items (OfEvent n) is (λ t e. h n t (slice_get_within a.parents.items t (OfEvent n) e) e f)));
+  confirmed = ap (marked_at a.confirmed.items) (sym (no_children a.parents.items (OfEvent n) is (λ t e. h n t e f)));
   parents = refl;
 }
 
 module _ (p : Parts) where
   pub more_none : (a : Claims) → ConfirmsMore p a a
-  more_none a = record { size = refl; parents = refl; stays = λ t m. m; sound = λ t m. inl m }
+  more_none a = record { size = refl; parents = refl; kept = λ t m. m; sound = λ t m. inl m }
 
   more_then : (a b c : Claims) → ConfirmsMore p a b → ConfirmsMore p b c → ConfirmsMore p a c
   more_then a b c x y = record {
     size = y.size ∙ x.size;
     parents = y.parents ∙ x.parents;
-    stays = λ t m. y.stays t (x.stays t m);
+    kept = λ t m. y.kept t (x.kept t m);
     sound = λ t m. by_case t (y.sound t m);
   }
     where
@@ -130,7 +131,7 @@ module _ (p : Parts) where
   more_of parent is a b f h = record {
     size = ap length h.confirmed ∙ all_size a.confirmed.items (children a.parents.items parent is);
     parents = h.parents;
-    stays = λ t m. subst (λ z. IsMarked z t) (sym h.confirmed) (all_stay a.confirmed.items (children a.parents.items parent is) t m);
+    kept = λ t m. subst (λ z. IsMarked z t) (sym h.confirmed) (all_stay a.confirmed.items (children a.parents.items parent is) t m);
     sound = λ t m. by_case t (all_only a.confirmed.items (children a.parents.items parent is) t (subst (λ z. IsMarked z t) h.confirmed m));
   }
     where
@@ -202,8 +203,8 @@ module _ (p : Parts) where
       by_get (Some e) q k = slice_get_within p.entries i e q
 
   pub children_ends : (ps : List Parent) (a b c : Claims) (all : Bool) → a.parents.items ≡ ps → a.confirmed.items ≡ replicate (length p.entries) false → ConfirmsEvents p (length (events_of p)) a b → ConfirmsEntries p (length p.entries) b c
-      → all ≡ list_all (λ flag. flag) c.confirmed.items → AreConfirmed p ps all
-  children_ends ps a b c all q z e f s = subst (AreConfirmed p ps) (sym s) (by_flag (list_all (λ flag. flag) c.confirmed.items) refl)
+      → all ≡ list_all (λ flag. flag) c.confirmed.items → Decided (AreConfirmed p ps) all
+  children_ends ps a b c all q z e f s = subst (Decided (AreConfirmed p ps)) (sym s) (by_flag (list_all (λ flag. flag) c.confirmed.items) refl)
     where
       size : length c.confirmed.items ≡ length p.entries
       size = f.more.size ∙ (e.more.size ∙ (ap length z ∙ length-replicate (length p.entries) false))
@@ -217,12 +218,12 @@ module _ (p : Parts) where
       by_second t (inr o) = subst (λ y. IsConfirmed p y t) (e.more.parents ∙ q) o
 
       marked : (t : ℕ) (parent : Parent) → slice_get ps t ≡ Some parent → RefersTo p parent t → IsMarked c.confirmed.items t
-      marked t (OfEvent i) g r = f.more.stays t (e.all i t (slice_get_within (events_of p) i r.0 r.1) (ap (λ y. slice_get y t) q ∙ g) r)
+      marked t (OfEvent i) g r = f.more.kept t (e.all i t (slice_get_within (events_of p) i r.0 r.1) (ap (λ y. slice_get y t) q ∙ g) r)
       marked t (OfEntry i) g r = f.all i t (next_some i t (contains_in (next_entries p i) t r)) (ap (λ y. slice_get y t) (e.more.parents ∙ q) ∙ g) r
 
       clash : (y : Bool) → y ≡ true → y ≡ false → ⊥
       clash y u v = cc
 
-      by_flag : (y : Bool) → list_all (λ flag. flag) c.confirmed.items ≡ y → AreConfirmed p ps y
+      by_flag : (y : Bool) → list_all (λ flag. flag) c.confirmed.items ≡ y → Decided (AreConfirmed p ps) y
       by_flag true u = λ t h. by_second t (f.more.sound t (every_set c.confirmed.items u t (omega (arith, size))))
       by_flag false u = λ o. clash (list_all (λ flag. flag) c.confirmed.items) (set_every c.confirmed.items (λ t h. (let k = o t (omega (arith, size)) in marked t k.0 k.1 k.2))) u

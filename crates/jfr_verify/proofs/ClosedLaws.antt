@@ -14,9 +14,11 @@ use Rattle.jfr_chunk.specs.Parts.{Parts, EventAt, events_of}
 use Rattle.jfr_worklist.specs.Marks.{is_marked, IsMarked, those}
 use Rattle.jfr_chunk.specs.Reach.{marked, kept_by, roots, node_entries, next_entries}
 use Rattle.jfr_verify.specs.declared.closed.ClosedCheck.{ClosedCheck}
+use Rattle.jfr_verify.specs.Decided.{Decided}
 use Rattle.jfr_verify.specs.Closed.{are_marked, ChecksMarks, events_closed, kept_refs, marked_refs, entries_closed}
 use Rattle.jfr_layout.proofs.Lists.{present}
 use Rattle.jfr_chunk.proofs.RootLaws.{roots_append, roots_one, takes_those}
+use Rattle.jfr_verify.proofs.RankLaws.{marked_one}
 
 and_assoc : (a b c : Bool) → ((a && b) && c) ≡ (a && (b && c))
 and_assoc true b c = refl
@@ -67,17 +69,6 @@ module _ (p : Parts) where
 
   abbrev refers : EventAt → List ℕ
   refers e = node_entries p.entries p.classes p.bytes e.node
-
-  marked_one : (fs : List Bool) (es : List EventAt) (n : ℕ) (b : Bool) (e : EventAt) → slice_get fs n ≡ Some b → slice_get es n ≡ Some e → marked (take (suc n) fs) (take (suc n) es) ≡ marked (take n fs) (take n es) ++ (if b then e ∷ [] else [])
-  marked_one [] es n b e f g = cc
-  marked_one (x ∷ fs) [] n b e f g = cc
-  marked_one (x ∷ fs) (y ∷ es) zero b e f g = let q : x ≡ b = cc in let r : y ≡ e = cc in by_flag b q r
-    where
-      by_flag : (b : Bool) → x ≡ b → y ≡ e → marked (x ∷ []) (y ∷ []) ≡ (if b then e ∷ [] else [])
-      by_flag true q r = ap (λ z. marked (z ∷ []) (y ∷ [])) q ∙ ap (λ z. z ∷ []) r
-      by_flag false q r = ap (λ z. marked (z ∷ []) (y ∷ [])) q
-  marked_one (true ∷ fs) (y ∷ es) (suc n) b e f g = ap (λ z. y ∷ z) (marked_one fs es n b e f g)
-  marked_one (false ∷ fs) (y ∷ es) (suc n) b e f g = marked_one fs es n b e f g
 
   pub kept_one : (flags marks : List Bool) (n : ℕ) → length flags ≡ length (events_of p) → n < length flags → are_marked marks (roots p (first_kept flags (n + 1))) ≡ (are_marked marks (roots p (first_kept flags n)) && are_marked marks (kept_refs p flags n))
   kept_one flags marks n l h =
@@ -180,12 +171,17 @@ module _ (p : Parts) where
   marked_within (m ∷ ms) zero e = omega arith
   marked_within (m ∷ ms) (suc i) e = omega (arith, marked_within ms i e)
 
-  pub closed_is : (kept : List EventAt) (ms : List Bool) → length ms ≡ length p.entries → (events_closed p ms kept && entries_closed p ms (length p.entries)) ≡ true → AreClosed p kept ms
+  closed_is : (kept : List EventAt) (ms : List Bool) → length ms ≡ length p.entries → (events_closed p ms kept && entries_closed p ms (length p.entries)) ≡ true → AreClosed p kept ms
   closed_is kept ms l e = by_parts (events_closed p ms kept) refl e
     where
       by_parts : (b : Bool) → events_closed p ms kept ≡ b → (b && entries_closed p ms (length p.entries)) ≡ true → AreClosed p kept ms
       by_parts true q h = record { events = each_marked ms (roots p kept) q; entries = λ i m. entries_each ms (length p.entries) h i (omega (arith, l, marked_within ms i m)) m }
       by_parts false q h = cc
 
-  pub is_closed : (kept : List EventAt) (ms : List Bool) → AreClosed p kept ms → (events_closed p ms kept && entries_closed p ms (length p.entries)) ≡ true
+  is_closed : (kept : List EventAt) (ms : List Bool) → AreClosed p kept ms → (events_closed p ms kept && entries_closed p ms (length p.entries)) ≡ true
   is_closed kept ms c = ap (λ z. z && entries_closed p ms (length p.entries)) (marked_each ms (roots p kept) c.events) ∙ each_entries ms (length p.entries) c.entries
+
+  -- The computation decides the fact.
+  pub closed_decided : (kept : List EventAt) (ms : List Bool) → length ms ≡ length p.entries → (b : Bool) → b ≡ (events_closed p ms kept && entries_closed p ms (length p.entries)) → Decided (AreClosed p kept ms) b
+  closed_decided kept ms l true e = closed_is kept ms l (sym e)
+  closed_decided kept ms l false e = λ c. (let h = is_closed kept ms c in let z : false ≡ true = e ∙ h in cc)

@@ -133,7 +133,7 @@ module _ (name : List ℕ) (qs : List Parts) (r : List ℕ) (s : Comparer) (c d 
       → ((n : ℕ) (qs : List Parts) → number ≡ n + 1 → HasOutputs s qs → Steps (Err x) n (read_parts bytes) qs s z) → Going name s.filter.now qs r s c w v → InputRead s.filter.now name qs r x w u
   go_stopped z x bytes number same at gave n steps k =
       let h = next_left c d _ w v u k.left gave n in
-      let rest : Recording = unread_recording d h.left in
+      let rest : Recording = unread_recording d h.unread in
       let here : c.number ≡ k.count + 1 = k.number in
       let more : d.number ≡ c.number + 1 = gave.number in
       let t = subst (λ b. Steps (Err x) k.count (read_parts b) k.later s z) same (steps k.count k.later (omega (arith, at, here, more)) k.outputs) in
@@ -180,7 +180,7 @@ open_left name c w v o =
 pub never_fails : (b a : Option World) (c : Cutter) (P : World → Type 0) → IfKnown b a (HasUnread c (λ k. Unit {0})) → IfSome a (λ v. v.input ≡ None) → IfSome b P
 never_fails None a c P t h = tt
 never_fails (Some w) None c P t h = absurd t
-never_fails (Some w) (Some v) c P t h = let e : Some t.left ≡ None = sym t.input ∙ h in cc
+never_fails (Some w) (Some v) c P t h = let e : Some t.unread ≡ None = sym t.input ∙ h in cc
 
 -- The counts don't change without a read fault.
 counted : (x : Verdict) (n m : ℕ) → (x ≡ ReadFault → ⊥) → m ≡ n → Counted x n m

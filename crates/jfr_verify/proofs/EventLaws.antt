@@ -3,6 +3,7 @@ use Rattle.std.specs.Prelude.{◌≡◌, ◌<◌, ◌≤◌, ◌+◌, ◌^◌, �
 use Rattle.std.specs.Option.{option_map_or}
 use Rattle.std.specs.Str.{bytes_eq}
 use Rattle.std.proofs.Common.{ap, arith, refl, sym, ◌∙◌, subst}
+use Rattle.std.proofs.lemmas.List.{append-nil}
 use Rattle.std.proofs.lemmas.Slice.Eq.{bytes_eq-Decides}
 use Rattle.std.proofs.lemmas.Option.{slice_get_within, slice_get-map}
 use Rattle.jfr_header.specs.Fronts.{Whole}
@@ -14,8 +15,10 @@ use Rattle.jfr_chunk.proofs.AllLaws.{all_in}
 use Rattle.jfr_chunk.proofs.CountLaws.{whole_small}
 use Rattle.jfr_worklist.proofs.Members.{get_in}
 use Rattle.jfr_chunk.proofs.HasNodesLaws.{event_is, tiles_each}
-use Rattle.jfr_verify.specs.Checks.{contents}
-use Rattle.jfr_verify.specs.SameEvents.{content, is_same, both_same, same_event, next_event, SameEvents}
+use Rattle.jfr_verify.specs.Checks.{content, contents}
+use Rattle.jfr_verify.specs.Decided.{Decided}
+use Rattle.jfr_verify.specs.SameEvents.{same_content, both_same, same_event, next_event}
+use Rattle.jfr_verify.proofs.RankLaws.{marked_one}
 use Rattle.jfr_layout.proofs.Lists.{present, take_next}
 
 -- The record lies in the chunk.
@@ -43,7 +46,7 @@ record_stands p n at r w a h g = by_event (slice_get (events_of p) n) refl h
         let x : e.record_of ≡ r = cc in
         subst (Stands p) x (event_stands p n e w a q)
 
-same_is : (x y : ℕ × List ℕ) → is_same x y ≡ true → x ≡ y
+same_is : (x y : ℕ × List ℕ) → same_content x y ≡ true → x ≡ y
 same_is x y e = by_parts (x.0 == y.0) refl (bytes_eq x.1 y.1) refl e
   where
     as_one : ℕ → List ℕ → ℕ × List ℕ
@@ -57,7 +60,7 @@ same_is x y e = by_parts (x.0 == y.0) refl (bytes_eq x.1 y.1) refl e
     by_parts true s false t h = cc
     by_parts false s t u h = cc
 
-is_self : (x : ℕ × List ℕ) → is_same x x ≡ true
+is_self : (x : ℕ × List ℕ) → same_content x x ≡ true
 is_self x = (let h : (x.0 == x.0) ≡ true = grind arith in ap (λ z. z && bytes_eq x.1 x.1) h) ∙ (bytes_eq-Decides x.1 x.1).1 refl
 
 module _ (p q : Parts) (flags : List Bool) where
@@ -107,24 +110,6 @@ module _ (p q : Parts) (flags : List Bool) where
   marked_after (true ∷ ms) (x ∷ xs) (suc n) e m g = let r = marked_after ms xs n e m g in (r.0, ap (λ z. x ∷ z) r.1)
   marked_after (false ∷ ms) (x ∷ xs) (suc n) e m g = marked_after ms xs n e m g
 
-  marked_one : (ms : List Bool) (xs : List EventAt) (n : ℕ) (e : EventAt) → slice_get ms n ≡ Some true → slice_get xs n ≡ Some e → marked (take (suc n) ms) (take (suc n) xs) ≡ marked (take n ms) (take n xs) ++ e ∷ []
-  marked_one [] xs n e m g = cc
-  marked_one (m ∷ ms) [] n e t g = cc
-  marked_one (true ∷ ms) (x ∷ xs) zero e m g = let h : x ≡ e = cc in ap (λ z. z ∷ []) h
-  marked_one (false ∷ ms) (x ∷ xs) zero e m g = cc
-  marked_one (true ∷ ms) (x ∷ xs) (suc n) e m g = ap (λ z. x ∷ z) (marked_one ms xs n e m g)
-  marked_one (false ∷ ms) (x ∷ xs) (suc n) e m g = marked_one ms xs n e m g
-
-  marked_none : (ms : List Bool) (xs : List EventAt) (n : ℕ) → slice_get ms n ≡ Some false → marked (take (suc n) ms) (take (suc n) xs) ≡ marked (take n ms) (take n xs)
-  marked_none [] xs n m = cc
-  marked_none (true ∷ ms) [] zero m = cc
-  marked_none (false ∷ ms) [] zero m = refl
-  marked_none (m ∷ ms) [] (suc n) t = refl
-  marked_none (true ∷ ms) (x ∷ xs) zero m = cc
-  marked_none (false ∷ ms) (x ∷ xs) zero m = refl
-  marked_none (true ∷ ms) (x ∷ xs) (suc n) m = ap (λ z. x ∷ z) (marked_none ms xs n m)
-  marked_none (false ∷ ms) (x ∷ xs) (suc n) m = marked_none ms xs n m
-
   one_more : (n : ℕ) → n + 1 ≡ suc n
   one_more n = omega arith
 
@@ -142,7 +127,7 @@ module _ (p q : Parts) (flags : List Bool) where
       by_same x false g f b e = cc
       by_same x true g f b e =
           let o : slice_get wanted at ≡ Some (content p x) = wanted_at at ∙ both_is (content p x) (option_map (content q) (slice_get (events_of q) at)) (sym (ap (λ z. both_same (option_map (content p) z) (option_map (content q) (slice_get (events_of q) at))) g) ∙ b) in
-          let k : contents p (first (suc n)) ≡ take (at + 1) wanted = ap (contents p) (marked_one flags (events_of p) n x f g) ∙ (contents_more (first n) x [] ∙ (ap (λ z. z ++ content p x ∷ []) i.same ∙ sym (take_next wanted at (content p x) o))) in
+          let k : contents p (first (suc n)) ≡ take (at + 1) wanted = ap (contents p) (marked_one flags (events_of p) n true x f g) ∙ (contents_more (first n) x [] ∙ (ap (λ z. z ++ content p x ∷ []) i.same ∙ sym (take_next wanted at (content p x) o))) in
           let l : at + 1 ≡ next = cc in
           let w : at < length wanted = slice_get_within wanted at (content p x) o in
           record {
@@ -154,13 +139,14 @@ module _ (p q : Parts) (flags : List Bool) where
       by_flag None f e = let x = present flags n h in let z : None ≡ Some x.0 = sym f ∙ x.1 in cc
       by_flag (Some false) f e =
           let l : at ≡ next = cc in
+          let x = present (events_of p) n (omega arith) in
           record {
-            same = ap (λ z. contents p (first z)) (one_more n) ∙ (ap (contents p) (marked_none flags (events_of p) n f) ∙ (i.same ∙ ap (λ z. take z wanted) l));
+            same = ap (λ z. contents p (first z)) (one_more n) ∙ (ap (contents p) (marked_one flags (events_of p) n false x.0 f x.1 ∙ append-nil (first n)) ∙ (i.same ∙ ap (λ z. take z wanted) l));
             within = subst (λ z. z ≤ length wanted) l i.within;
           }
       by_flag (Some true) f e = let x = present (events_of p) n (omega arith) in by_same x.0 (same_event p q n at) x.1 f refl e
 
-  pub same_differs : (n at : ℕ) → n < length flags → length flags ≡ length (events_of p) → InSame n at → next_event p q flags n at ≡ None → SameEvents p q (kept_by p flags) false
+  pub same_differs : (n at : ℕ) → n < length flags → length flags ≡ length (events_of p) → InSame n at → next_event p q flags n at ≡ None → contents p (kept_by p flags) ≡ wanted → ⊥
   same_differs n at h s i e all = by_flag (slice_get flags n) refl e
     where
       by_same : (x : EventAt) (b : Bool) → slice_get (events_of p) n ≡ Some x → slice_get flags n ≡ Some true → same_event p q n at ≡ b → (if b then Some (at + 1) else None) ≡ None → ⊥
@@ -184,7 +170,7 @@ module _ (p q : Parts) (flags : List Bool) where
   whole_first : (n : ℕ) → length flags ≤ n → length flags ≡ length (events_of p) → first n ≡ kept_by p flags
   whole_first n h s = ap (λ z. marked z (take n (events_of p))) (all_of flags n h) ∙ ap (marked flags) (all_of (events_of p) n (omega arith))
 
-  pub same_end : (n at : ℕ) → length flags ≤ n → length flags ≡ length (events_of p) → InSame n at → (b : Bool) → (at == length (events_of q)) ≡ b → SameEvents p q (kept_by p flags) b
+  pub same_end : (n at : ℕ) → length flags ≤ n → length flags ≡ length (events_of p) → InSame n at → (b : Bool) → (at == length (events_of q)) ≡ b → Decided (contents p (kept_by p flags) ≡ wanted) b
   same_end n at h s i true e =
       let l : at ≡ length (events_of q) = grind (arith, e) in
       let m = map_size (events_of q) in

@@ -1,5 +1,5 @@
 -- The verdict on three files, read one after another.
-use Rattle.std.specs.Prelude.{◌≡◌, ◌^◌, ◌<◌, ◌≤◌, ℕ, List, length, Vec, Option, Some, None, Ok, Err, IfSome, IsSomeAnd}
+use Rattle.std.specs.Prelude.{◌≡◌, ◌^◌, ◌<◌, ◌≤◌, ℕ, List, length, Vec, Option, Some, None, Ok, Err, IfSome, IsSomeAnd, IsTrue}
 use Rattle.std.specs.FinMap as fin
 use Rattle.std.specs.declared.alloc.Global.{Global}
 use Rattle.std.proofs.Common.{ap, refl, sym, ◌∙◌, subst}
@@ -15,12 +15,12 @@ use Rattle.jfr_verify.specs.Comparing.{InputRead}
 use Rattle.jfr_verify.specs.Faults.{Counted, Counts, after_receipts}
 use Rattle.jfr_verify.specs.Outputs.{AreOutputs, IsOutputFault, OutputRead}
 use Rattle.jfr_verify.specs.Recordings.{recording_of}
-use Rattle.jfr_verify.specs.Verdicts.{AllVerified, AreScrubs, ComparedWith, IfDecided, IfVerified, IsVerifiedOrMemory, VerdictIn, long, refused, compared, three}
+use Rattle.jfr_verify.specs.Verdicts.{AllVerified, AreScrubs, ComparedWith, HasNoVerdict, IfDecided, IfVerified, IsVerifiedOrMemory, LacksOne, VerdictIn, long, refused, compared, three}
 use Rattle.jfr_verify.specs.declared.doubt.Doubt.TheVariants.{ReceiptLong, OutRefused, ChunksDiffer, ClassesDiffer, EventsDiffer, EntriesDiffer, EntryMissing, ReceiptBad}
 use Rattle.jfr_verify.specs.declared.verdict.Verdict.{Verdict}
 use Rattle.jfr_verify.specs.declared.verdict.Verdict.TheVariants.{Verified, Doubted, Refused, ReadFault, Memory}
 use Rattle.jfr_verify.proofs.RecordingLaws.{from_some}
-use Rattle.jfr_verify.proofs.VerdictLaws.{one_verdict, scrubs_verified, verified_all}
+use Rattle.jfr_verify.proofs.VerdictLaws.{lacks_one, none_without_input, none_without_output, none_without_receipts, one_verdict, scrubs_verified, verified_all}
 
 -- A file is the same if all files are.
 same_file : (name : List ℕ) (w v : World) → v.files ≡ w.files → file v name ≡ file w name
@@ -31,6 +31,10 @@ shut_kept w v e = (ap (λ (z : World). z.files) e, ap (λ (z : World). z.output)
 
 kept_on : (w v u : World) → IsKept w v → IsKept v u → IsKept w u
 kept_on w v u p q = (q.0 ∙ p.0, q.1 ∙ p.1)
+
+map_some : (P Q : World → Type 0) (o : Option World) → ((w : World) → P w → Q w) → IfSome o P → IfSome o Q
+map_some P Q None f h = tt
+map_some P Q (Some w) f h = f w h
 
 module _ (g : Given) (input output receipt : List ℕ) where
   -- The receipts could not be read.
@@ -127,3 +131,36 @@ module _ (g : Given) (input output receipt : List ℕ) where
       by_told None z t = tt
       by_told (Some w) None t = absurd t
       by_told (Some w) (Some v) t = fine_of x a.read_faults b.read_faults w v c.reads t
+
+  -- On a steady place no verdict is right after a read fault: the receipts don't exist,
+  abbrev NoneIn : World → Type 0
+  NoneIn w = HasNoVerdict g (three input output receipt w)
+
+  pub lacks_receipts : (fault : FileFault) (x : Verdict) (b : Option World) → x ≡ after_receipts fault → x ≡ ReadFault → (fault ≡ files.Failed → IfSome b (λ w. file w receipt ≡ None)) → IfSome b NoneIn
+  lacks_receipts files.TooLong x b e f n = let k : Doubted 0 ReceiptLong ≡ ReadFault = sym e ∙ f in cc
+  lacks_receipts files.Failed x b e f n = map_some (λ w. file w receipt ≡ None) NoneIn b (λ w h. none_without_receipts g (three input output receipt w) h) (n refl)
+  lacks_receipts files.Memory x b e f n = let k : Memory ≡ ReadFault = sym e ∙ f in cc
+
+  -- or the output doesn't,
+  pub lacks_output : (r : Vec ℕ Global) (b a : Option World) → length r.items < 2 ^ 40 → IfKnown b a (FileRead receipt (2 ^ 40) (Ok r)) → IfSome a (λ v. file v output ≡ None) → IfSome b NoneIn
+  lacks_output r None a s t n = tt
+  lacks_output r (Some w) None s t n = absurd t
+  lacks_output r (Some w) (Some v) s t n =
+      none_without_output g (three input output receipt w) (record { bytes = r.items; is = t.0; short = s }) (sym (same_file output w v (shut_kept w v t.1).0) ∙ n)
+
+  -- or the input doesn't.
+  pub lacks_input : (r : Vec ℕ Global) (bs : Vec (Vec ℕ Global) Global) (b a d : Option World) → length r.items < 2 ^ 40 → IfKnown b a (FileRead receipt (2 ^ 40) (Ok r)) → IfKnown a d (OutputRead output (Ok bs)) → IfSome d (λ u. file u input ≡ None) → IfSome b NoneIn
+  lacks_input r bs None a d s t o n = tt
+  lacks_input r bs (Some w) None d s t o n = absurd t
+  lacks_input r bs (Some w) (Some v) None s t o n = absurd o
+  lacks_input r bs (Some w) (Some v) (Some u) s t o n =
+      by_output (from_some (file v output) (λ z. ((recording_of z).refusal ≡ None) × AreOutputs bs.items (recording_of z).parts) o.1)
+    where
+      by_output : (y : List ℕ) × (file v output ≡ Some y) × (((recording_of y).refusal ≡ None) × AreOutputs bs.items (recording_of y).parts) → NoneIn w
+      by_output y =
+          let first = shut_kept w v t.1 in
+          none_without_input g (three input output receipt w) (record { bytes = r.items; is = t.0; short = s }) (record { bytes = y.0; is = sym (same_file output w v first.0) ∙ y.1 }) y.2.0 (sym (same_file input w u (o.0.0 ∙ first.0)) ∙ n)
+
+  -- So one of the files doesn't exist.
+  pub lacks_file : (x : Verdict) (a : State) → (IsTrue a.steady → x ≡ ReadFault → IfSome a.contents NoneIn) → IsTrue a.steady → x ≡ ReadFault → IfSome a.contents (λ w. LacksOne (three input output receipt w))
+  lacks_file x a h s e = map_some NoneIn (λ w. LacksOne (three input output receipt w)) a.contents (λ w n. lacks_one g (three input output receipt w) n) (h s e)

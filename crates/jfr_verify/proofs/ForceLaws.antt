@@ -1,21 +1,17 @@
 -- The entries of the output are in force if they are copies of entries in force.
-use Rattle.std.specs.Prelude.{◌≡◌, Bool, true, false, List, ◌&&◌, length, slice_get, Some}
+use Rattle.std.specs.Prelude.{◌≡◌, Bool, List, slice_get, Some}
 use Rattle.std.proofs.Common.{ap, sym, ◌∙◌, subst}
 use Rattle.std.proofs.lemmas.Option.{slice_get_within}
 use Rattle.jfr_pool.specs.declared.entry.EntryAt.{EntryAt}
 use Rattle.jfr_pool.specs.Entries.{number_in_force, IsInForce}
-use Rattle.jfr_chunk.specs.Parts.{Parts, EventAt}
+use Rattle.jfr_chunk.specs.Parts.{Parts}
 use Rattle.jfr_chunk.specs.Reach.{marked}
 use Rattle.jfr_laws.specs.Laws.{IsCopied}
 use Rattle.jfr_laws.proofs.Marks.{rank_get, Ranked, ranked}
 use Rattle.jfr_laws.proofs.Entries.{copied_get, copied_force, marked_force}
-use Rattle.jfr_layout.specs.Classes.{Classes}
-use Rattle.jfr_verify.specs.Checks.{AreAmong, AreClosed, HasClasses}
-use Rattle.jfr_verify.specs.Decided.{Decided}
-use Rattle.jfr_verify.specs.Closed.{events_closed, entries_closed}
+use Rattle.jfr_verify.specs.Checks.{AreAmong}
 use Rattle.jfr_verify.specs.Prefix.{AllInForce}
 use Rattle.jfr_verify.proofs.CopyLaws.{beside_right}
-use Rattle.jfr_verify.proofs.ClosedLaws as closed
 use Rattle.jfr_layout.proofs.Lists.{present}
 
 pub all_in_force : (p q : Parts) (marks : List Bool) → AreAmong p q marks → AllInForce q
@@ -30,9 +26,3 @@ all_in_force p q marks a number l =
     let h : number_in_force q.entries (c.0.class, c.0.key) ≡ Some number = sym (copied_force p q (marked marks p.entries) q.entries (c.0.class, c.0.key) a.copied) ∙ (marked_force marks p.entries (c.0.class, c.0.key) k.place t k.is_marked ∙ ap (λ z. Some z) k.number_is) in
     let u : number_in_force q.entries (f.0.class, c.0.key) ≡ Some number = subst (λ z. number_in_force q.entries (z, c.0.key) ≡ Some number) c.2.class h in
     record { entry = f.0; holds = f.1; last = subst (λ z. number_in_force q.entries (f.0.class, z) ≡ Some number) c.2.key u }
-
-pub not_closed : (p : Parts) (kept : List EventAt) (ms : List Bool) → (events_closed p ms kept && entries_closed p ms (length p.entries)) ≡ false → AreClosed p kept ms → ⊥
-not_closed p kept ms e c = let h = closed.is_closed p kept ms c in (let z : false ≡ true = sym e ∙ h in cc)
-
-pub has_of : (k m k' m' : Classes) (b : Bool) → k ≡ k' → m ≡ m' → Decided (HasClasses k m) b → Decided (HasClasses k' m') b
-has_of k m k' m' b e f d = subst (λ z. Decided (HasClasses k' z) b) f (subst (λ z. Decided (HasClasses z m) b) e d)

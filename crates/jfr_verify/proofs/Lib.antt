@@ -35,3 +35,4 @@ mod CheckLaws
 mod KeptWalkLaws
 mod ScrubReceiptLaws
 mod RankingLaws
+mod Rows

@@ -16,11 +16,11 @@ use Rattle.jfr_header.specs.Nexts.{Found, GaveChunk, Refuses, at_chunk}
 use Rattle.jfr_chunk.specs.Parts.{Parts}
 use Rattle.jfr_chunk.specs.Refusal.{read_parts}
 use Rattle.jfr_verify.specs.Outputs.{AllWhole, AreOutputs, IsAdded, OpenedIn, OutputRead}
-use Rattle.jfr_verify.specs.Recordings.{Recording, read_on, recording_of, unread_recording, after_parts, HasUnread}
+use Rattle.jfr_verify.specs.Recordings.{Recording, read_on, recording_of, unread_recording, HasUnread}
 use Rattle.jfr_verify.specs.declared.doubt.Doubt.TheVariants.{OutRefused}
 use Rattle.jfr_verify.specs.declared.verdict.Verdict.{Verdict}
 use Rattle.jfr_verify.specs.declared.verdict.Verdict.TheVariants.{Verified, Doubted, Refused, ReadFault, Memory}
-use Rattle.jfr_verify.proofs.RecordingLaws.{from_some, some_at, next_left, end_left, refused_left, map_left, one_more, opened_left}
+use Rattle.jfr_verify.proofs.RecordingLaws.{after_parts, from_some, some_at, next_left, end_left, refused_left, map_left, one_more, opened_left}
 
 pub outputs_more : (bs : List (Vec ℕ Global)) (qs : List Parts) (b : Vec ℕ Global) (q : Parts) → AreOutputs bs qs → read_parts b.items ≡ Ok q → AreOutputs (bs ++ b ∷ []) (qs ++ q ∷ [])
 outputs_more [] [] b q a e = (e, tt)
@@ -100,7 +100,7 @@ module _ (name : List ℕ) (bs : List (Vec ℕ Global)) (c d : Cutter) (w v u : 
       let h = next_left c d (λ z. recording_of k.bytes ≡ after_parts k.parts z) w v u k.left gave n in
       let fails : read_parts d.bytes ≡ Err flaw = ap read_parts (sym same) ∙ read in
       let at : number ≡ c.number = let f : d.number ≡ c.number + 1 = gave.number in omega (arith, e, f) in
-      let refusal : (recording_of k.bytes).refusal ≡ Some (at_chunk c.number flaw) = ap (λ (z : Recording). z.refusal) (h.claim ∙ ap (λ r. after_parts k.parts (read_on c.number r (unread_recording d h.left))) fails) in
+      let refusal : (recording_of k.bytes).refusal ≡ Some (at_chunk c.number flaw) = ap (λ (z : Recording). z.refusal) (h.claim ∙ ap (λ r. after_parts k.parts (read_on c.number r (unread_recording d h.unread))) fails) in
       (h.same, some_at (file w name) k.bytes _ k.file_is (some_at (recording_of k.bytes).refusal (at_chunk c.number flaw) (λ z. z.chunk ≡ number) refusal (sym at)))
 
   -- The chunk isn't kept.

@@ -28,6 +28,7 @@ use Rattle.jfr_worklist.specs.Worklists.{marked_count}
 use Rattle.jfr_verify.specs.Receipts.{line_format, receipt_format, IsParent, IsValidLine, AreValidLines, IsReceiptOf}
 use Rattle.jfr_verify.specs.Parents.{IsBefore, IsOrdered, AreOrdered, AreParentsOf, ParentsOf}
 use Rattle.jfr_verify.specs.Claims.{RefersTo, AreConfirmed}
+use Rattle.jfr_verify.specs.Decided.{Decided}
 use Rattle.jfr_verify.specs.Prefix.{AllInForce, ReceiptPrefix}
 use Rattle.jfr_verify.specs.Reading.{got_in, if_count, lines_of_count}
 use Rattle.jfr_worklist.proofs.Counts.{count_set, count_le, count_none}
@@ -226,7 +227,7 @@ module _ (p : Parts) where
     none_ordered g e f n s = f (subst (AreOrdered (length p.entries) []) (same_lines g n s e) (valid_ordered [] s.lines s.valid))
 
     -- A claim fails.
-    pub none_confirmed : AllInForce p → (g : Got (List Line)) (parents : List Parent) → lines_of_count r (length p.entries) ≡ Some g → AreParentsOf parents g.value → AreConfirmed p parents false → ReceiptPrefix p r None
+    pub none_confirmed : AllInForce p → (g : Got (List Line)) (parents : List Parent) → lines_of_count r (length p.entries) ≡ Some g → AreParentsOf parents g.value → (AreConfirmed p parents → ⊥) → ReceiptPrefix p r None
     none_confirmed forced g parents e o f n s =
         let q = same_lines g n s e in
         f (λ t h. (
@@ -236,7 +237,7 @@ module _ (p : Parts) where
         (l.0.parent, v, subst (RefersTo p l.0.parent) l.2 (all_refer forced [] s.lines s.valid l.0 l.1))))
 
     -- The lines are a receipt.
-    pub some_receipt : (g : Got (List Line)) (parents : List Parent) → lines_of_count r (length p.entries) ≡ Some g → AreOrdered (length p.entries) [] g.value → AreParentsOf parents g.value → AreConfirmed p parents true → ReceiptPrefix p r (Some g.place)
+    pub some_receipt : (g : Got (List Line)) (parents : List Parent) → lines_of_count r (length p.entries) ≡ Some g → AreOrdered (length p.entries) [] g.value → AreParentsOf parents g.value → AreConfirmed p parents → ReceiptPrefix p r (Some g.place)
     some_receipt g parents e a o f =
         let w = was_read r (length p.entries) g e in (
           w.within,
@@ -274,7 +275,7 @@ module _ (p : Parts) where
     pub by_unordered : (count : ℕ) (o : Option LinesRead) (l : LinesRead) (x : Option (Vec Parent Global)) → count ≡ length p.entries → option_map as_got o ≡ lines_of_count r count → o ≡ Some l → ParentsOf count l.lines.items x → x ≡ None → ReceiptPrefix p r None
     by_unordered count o l x c e q w n = none_ordered (as_got l) (read_for count o (Some l) c e q) (subst (λ z. AreOrdered z [] l.lines.items → ⊥) c (subst (ParentsOf count l.lines.items) n w))
 
-    pub by_confirmed : AllInForce p → (count : ℕ) (o : Option LinesRead) (l : LinesRead) (x : Option (Vec Parent Global)) (v : Vec Parent Global) (b : Bool) → count ≡ length p.entries → option_map as_got o ≡ lines_of_count r count → o ≡ Some l → ParentsOf count l.lines.items x → x ≡ Some v → AreConfirmed p v.items b
+    pub by_confirmed : AllInForce p → (count : ℕ) (o : Option LinesRead) (l : LinesRead) (x : Option (Vec Parent Global)) (v : Vec Parent Global) (b : Bool) → count ≡ length p.entries → option_map as_got o ≡ lines_of_count r count → o ≡ Some l → ParentsOf count l.lines.items x → x ≡ Some v → Decided (AreConfirmed p v.items) b
         → ReceiptPrefix p r (if b then Some l.end else None)
     by_confirmed forced count o l x v b c e q w n h = by_flag b h
       where
@@ -284,6 +285,6 @@ module _ (p : Parts) where
         own : AreOrdered count [] l.lines.items × AreParentsOf v.items l.lines.items × (length v.items ≡ count)
         own = subst (ParentsOf count l.lines.items) n w
 
-        by_flag : (b : Bool) → AreConfirmed p v.items b → ReceiptPrefix p r (if b then Some l.end else None)
+        by_flag : (b : Bool) → Decided (AreConfirmed p v.items) b → ReceiptPrefix p r (if b then Some l.end else None)
         by_flag true h = some_receipt (as_got l) v.items g (subst (λ z. AreOrdered z [] l.lines.items) c own.0) own.1 h
         by_flag false h = none_confirmed forced (as_got l) v.items g own.1 h

@@ -1,5 +1,5 @@
--- The rank of a marked member among the marked ones.
-use Rattle.std.specs.Prelude.{◌≡◌, ◌↔◌, ℕ, zero, suc, ◌<◌, Bool, true, false, List, [], ◌∷◌, length, slice_get, Some}
+-- The marked members of a list, and their ranks among themselves.
+use Rattle.std.specs.Prelude.{◌≡◌, ◌↔◌, ℕ, zero, suc, ◌<◌, Bool, true, false, List, [], ◌∷◌, ◌++◌, length, take, slice_get, Some, if◌then◌else◌}
 use Rattle.std.proofs.Common.{ap, arith, refl, ◌∙◌}
 use Rattle.std.proofs.lemmas.Option.{slice_get_within}
 use Rattle.jfr_worklist.specs.Marks.{IsMarked}
@@ -44,3 +44,15 @@ marked_same {X = X} (m ∷ ms) (n ∷ ns) (x ∷ xs) h = by_mark m n (h 0 (omega
     by_mark false false k e = e
     by_mark true false k e = let z : false ≡ true = k.0 refl in cc
     by_mark false true k e = let z : false ≡ true = k.1 refl in cc
+
+-- One more member, which is marked or not.
+pub marked_one : {X : Type 0} (ms : List Bool) (xs : List X) (n : ℕ) (b : Bool) (x : X) → slice_get ms n ≡ Some b → slice_get xs n ≡ Some x → marked (take (suc n) ms) (take (suc n) xs) ≡ marked (take n ms) (take n xs) ++ (if b then x ∷ [] else [])
+marked_one [] xs n b x f g = cc
+marked_one (m ∷ ms) [] n b x f g = cc
+marked_one {X = X} (m ∷ ms) (y ∷ xs) zero b x f g = let q : m ≡ b = cc in let r : y ≡ x = cc in by_mark b q r
+  where
+    by_mark : (b : Bool) → m ≡ b → y ≡ x → marked (m ∷ []) (y ∷ []) ≡ (if b then x ∷ [] else [])
+    by_mark true q r = ap (λ z. marked (z ∷ []) (y ∷ [])) q ∙ ap (λ z. z ∷ []) r
+    by_mark false q r = ap (λ z. marked (z ∷ []) (y ∷ [])) q
+marked_one (true ∷ ms) (y ∷ xs) (suc n) b x f g = ap (λ z. y ∷ z) (marked_one ms xs n b x f g)
+marked_one (false ∷ ms) (y ∷ xs) (suc n) b x f g = marked_one ms xs n b x f g

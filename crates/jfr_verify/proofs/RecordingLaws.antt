@@ -17,7 +17,7 @@ use Rattle.jfr_header.proofs.Steps.{some_ahead, same_some, split}
 use Rattle.jfr_chunk.specs.Parts.{Parts, AreParts}
 use Rattle.jfr_chunk.specs.Refusal.{read_parts}
 use Rattle.jfr_chunk.proofs.ChainAnswers.{is_computed}
-use Rattle.jfr_verify.specs.Recordings.{Recording, read_on, recording_from, recording_in, recording_of, unread_recording, after_parts, HasUnread, IsRead}
+use Rattle.jfr_verify.specs.Recordings.{Recording, read_on, recording_from, recording_in, recording_of, unread_recording, HasUnread, IsRead}
 
 same_left : (later : List ℕ) (n m s t : ℕ) (b : Bool) → m ≡ n → t ≡ s → b ≡ false → recording_in n (cut later s false) ≡ recording_in m (cut later t b)
 same_left later n m s t b e f h =
@@ -35,28 +35,28 @@ module _ (c d : Cutter) (Claim : Recording → Type 0) (w v u : World) (h : HasU
   next_left gave n =
       let o = some_ahead (λ (l : List ℕ). d.bytes ++ l) u.input v.input n.rest n.took.input n.input in
       let p = split d.bytes v u o n.took in
-      let first : h.left ≡ n.rest = same_some h.left n.rest (sym h.input ∙ n.input) in
-      let whole : h.left ≡ p.rest = same_some h.left p.rest (sym h.input ∙ p.before) in
+      let first : h.unread ≡ n.rest = same_some h.unread n.rest (sym h.input ∙ n.input) in
+      let whole : h.unread ≡ p.rest = same_some h.unread p.rest (sym h.input ∙ p.before) in
       record {
         same = (n.took.files ∙ h.same.0, n.took.output ∙ h.same.1);
-        left = p.left;
+        unread = p.left;
         input = p.after;
-        claim = subst Claim (chunk_left c d h.left p.left (ap (λ (l : List ℕ). front l c.start (not c.given)) first ∙ n.is) (whole ∙ p.parts) gave) h.claim;
+        claim = subst Claim (chunk_left c d h.unread p.left (ap (λ (l : List ℕ). front l c.start (not c.given)) first ∙ n.is) (whole ∙ p.parts) gave) h.claim;
       }
 
   -- The cutter is at the end.
   pub end_left : Found c fronts.End [] v u → IsKept w u × Claim (record { parts = []; refusal = None })
   end_left n =
-      let first : h.left ≡ n.rest = same_some h.left n.rest (sym h.input ∙ n.input) in (
+      let first : h.unread ≡ n.rest = same_some h.unread n.rest (sym h.input ∙ n.input) in (
         (n.took.files ∙ h.same.0, n.took.output ∙ h.same.1),
-        subst Claim (ap (recording_in c.number) (cut_end h.left c.start (not c.given) (ap (λ (l : List ℕ). front l c.start (not c.given)) first ∙ n.is))) h.claim,
+        subst Claim (ap (recording_in c.number) (cut_end h.unread c.start (not c.given) (ap (λ (l : List ℕ). front l c.start (not c.given)) first ∙ n.is))) h.claim,
       )
 
   -- The cutter refused what follows.
   pub refused_left : (r : Refusal) → r.chunk ≡ c.number → Refuses c r v u → IsKept w u × Claim (record { parts = []; refusal = Some r })
   refused_left r e n =
-      let first : h.left ≡ n.found.rest = same_some h.left n.found.rest (sym h.input ∙ n.found.input) in
-      let flawed = cut_bad h.left c.start (not c.given) (flaw_of r) (ap (λ (l : List ℕ). front l c.start (not c.given)) first ∙ n.found.is) in
+      let first : h.unread ≡ n.found.rest = same_some h.unread n.found.rest (sym h.input ∙ n.found.input) in
+      let flawed = cut_bad h.unread c.start (not c.given) (flaw_of r) (ap (λ (l : List ℕ). front l c.start (not c.given)) first ∙ n.found.is) in
       let numbered : recording_in c.number (record { chunks = []; flaw = Some (flaw_of r) }) ≡ record { parts = []; refusal = Some r } = sym (ap (λ (k : ℕ). record { parts = []; refusal = Some (at_chunk k (flaw_of r)) }) e) in
       ((n.found.took.files ∙ h.same.0, n.found.took.output ∙ h.same.1), subst Claim (ap (recording_in c.number) flawed ∙ numbered) h.claim)
 
@@ -66,7 +66,7 @@ module _ (c d : Cutter) (Claim : Recording → Type 0) (w v u : World) (h : HasU
 
 -- One claim about the chunks that are left from another.
 pub map_left : (c : Cutter) (Claim More : Recording → Type 0) (w v : World) → ((k : Recording) → Claim k → More k) → HasUnread c Claim w v → HasUnread c More w v
-map_left c Claim More w v f h = record { same = h.same; left = h.left; input = h.input; claim = f (unread_recording c h.left) h.claim }
+map_left c Claim More w v f h = record { same = h.same; unread = h.unread; input = h.input; claim = f (unread_recording c h.unread) h.claim }
 
 -- A claim about what is there, and what is there.
 pub from_some : {X : Type 0} (o : Option X) (P : X → Type 0) → IsSomeAnd o P → (x : X) × (o ≡ Some x) × P x
@@ -75,6 +75,10 @@ from_some (Some x) P h = (x, refl, h)
 
 pub some_at : {X : Type 0} (o : Option X) (x : X) (P : X → Type 0) → o ≡ Some x → P x → IsSomeAnd o P
 some_at o x P e h = subst (λ z. IsSomeAnd z P) (sym e) h
+
+-- These chunks, followed by later ones.
+abbrev pub after_parts : List Parts → Recording → Recording
+after_parts ps later = record { parts = ps ++ later.parts; refusal = later.refusal }
 
 -- The chunks that follow, after one more.
 pub one_more : (n : ℕ) (ps : List Parts) (p : Parts) (x : List ℕ) (k : Recording) → recording_of x ≡ after_parts ps (read_on n (Ok p) k) → recording_of x ≡ after_parts (ps ++ p ∷ []) k
@@ -89,7 +93,7 @@ pub opened_left : (c : Cutter) (x : List ℕ) (name : List ℕ) (w : World) → 
 unfolding recording_of
 opened_left c x name w s n g e = record {
   same = (refl, refl);
-  left = x;
+  unread = x;
   input = e;
   claim = sym (ap (λ k. recording_in k (cut x c.start (not c.given))) n ∙ ap (λ k. recording_in 1 (cut x k (not c.given))) s ∙ ap (λ k. recording_in 1 (cut x 0 (not k))) g);
 }

@@ -13,33 +13,37 @@ use Rattle.std.proofs.lemmas.Slice.Eq.{bytes_eq-Decides}
 use Rattle.jfr_layout.specs.Names.{value_under}
 use Rattle.jfr_layout.proofs.Numbered.{number_added, number_each, number_found, number_kept}
 use Rattle.jfr_meta.specs.Attributes.{text_at}
-use Rattle.jfr_verify.specs.Strings.{Adds, AreFirsts, AreIndices, AreNumbers, HasText, both_same}
+use Rattle.jfr_verify.specs.Strings.{AddsText, AreFirsts, AreIndices, AreNumbers, HasText, IsFirst, same_number}
 
 abbrev Firsts : Type 0
 Firsts = BTreeMap (Bor (List ℕ)) ℕ
 
 module _ (texts : List (List ℕ)) where
   -- A text that has a number.
-  adds_known : (m : Firsts) (i n : ℕ) → value_under m (text_at texts i) ≡ Some n → Adds texts i m m
-  adds_known m i n e = record { indices = λ h. h; kept = λ x k f. f; here = (n, e) }
+  adds_known : (m : Firsts) (i n : ℕ) → value_under m (text_at texts i) ≡ Some n → AddsText texts i m m
+  adds_known m i n e = record { indices = λ g h. h; kept = λ x k f. f; here = (n, e) }
 
   -- A text that has none yet.
   adds_new : (m later : Firsts) (b : List ℕ) (i : ℕ) → IsUtf8 b → chars b ≡ text_at texts i → value_under m (text_at texts i) ≡ None
-      → tree.UpdatesBy (λ x y. slice_cmp nat_cmp x.now y.now) (λ k. slice_cmp nat_cmp b k.now) m later (Some i) → Adds texts i m later
+      → tree.UpdatesBy (λ x y. slice_cmp nat_cmp x.now y.now) (λ k. slice_cmp nat_cmp b k.now) m later (Some i) → AddsText texts i m later
   adds_new m later b i u is e up =
       let none : None ≡ tree.get_by (λ k. slice_cmp nat_cmp b k.now) m = sym e ∙ sym (number_found m b (text_at texts i) u is (tree.get_by (λ k. slice_cmp nat_cmp b k.now) m) refl) in
       record {
-        indices = λ h. number_each m b (text_at texts i) u is later i none up (λ x n. text_at texts n ≡ x) h refl;
+        indices = λ g h. number_each m b (text_at texts i) u is later i none up (IsFirst texts) h (record { text = refl; first = λ j s. by_order g j s (nat_lt j i) refl });
         kept = number_kept m b (text_at texts i) u is later i none up;
         here = (i, sym (number_added m b (text_at texts i) u is later i none up));
       }
+    where
+      by_order : ((j : ℕ) → j < i → HasText texts m j) → (j : ℕ) → text_at texts j ≡ text_at texts i → (t : Bool) → nat_lt j i ≡ t → i ≤ j
+      by_order g j s true q = let h = g j (grind (arith, q)) in (let clash : Some h.0 ≡ None = sym h.1 ∙ (ap (value_under m) s ∙ e) in cc)
+      by_order g j s false q = grind (arith, q)
 
-  pub adds_some : (m : Firsts) (i : ℕ) (o : Option ℕ) → o ≡ value_under m (text_at texts i) → is_some o ≡ true → Adds texts i m m
+  pub adds_some : (m : Firsts) (i : ℕ) (o : Option ℕ) → o ≡ value_under m (text_at texts i) → is_some o ≡ true → AddsText texts i m m
   adds_some m i None e t = cc
   adds_some m i (Some n) e t = adds_known m i n (sym e)
 
   pub adds_other : (m later : Firsts) (b : List ℕ) (i : ℕ) (o : Option ℕ) → IsUtf8 b → chars b ≡ text_at texts i → o ≡ value_under m (text_at texts i) → is_some o ≡ false
-      → tree.UpdatesBy (λ x y. slice_cmp nat_cmp x.now y.now) (λ k. slice_cmp nat_cmp b k.now) m later (Some i) → Adds texts i m later
+      → tree.UpdatesBy (λ x y. slice_cmp nat_cmp x.now y.now) (λ k. slice_cmp nat_cmp b k.now) m later (Some i) → AddsText texts i m later
   adds_other m later b i None u is e t up = adds_new m later b i u is (sym e) up
   adds_other m later b i (Some n) u is e t up = cc
 
@@ -54,8 +58,8 @@ module _ (texts : List (List ℕ)) where
     each = λ i l. absurd (omega arith);
   }
 
-  pub firsts_next : (count : ℕ) (m later : Firsts) → FirstsUpTo count m → Adds texts count m later → FirstsUpTo (count + 1) later
-  firsts_next count m later f a = record { indices = a.indices f.indices; each = λ i l. by_last i l (i == count) refl }
+  pub firsts_next : (count : ℕ) (m later : Firsts) → FirstsUpTo count m → AddsText texts count m later → FirstsUpTo (count + 1) later
+  firsts_next count m later f a = record { indices = a.indices f.each f.indices; each = λ i l. by_last i l (i == count) refl }
     where
       by_last : (i : ℕ) → i < count + 1 → (t : Bool) → (i == count) ≡ t → HasText texts later i
       by_last i l true q = let h : count ≡ i = grind (arith, q) in subst (HasText texts later) h a.here
@@ -83,7 +87,7 @@ numbers_are ones others m of_ones of_others of_empty f a b e i j =
     let p : get_or of_ones i of_empty ≡ value_under m (text_at ones i) = ap (λ z. get_or z i of_empty) a ∙ (ap (get_or (map (value_under m) ones) i) e ∙ number_is (value_under m) ones i) in
     let q : get_or of_others j of_empty ≡ value_under m (text_at others j) = ap (λ z. get_or z j of_empty) b ∙ (ap (get_or (map (value_under m) others) j) e ∙ number_is (value_under m) others j) in
     let h = f.each i in
-    ap (λ z. both_same z (get_or of_others j of_empty)) (p ∙ h.1) ∙ (ap (both_same (Some h.0)) q ∙ by_number (text_at ones i) (text_at others j) h.0 h.1 (value_under m (text_at others j)) refl)
+    ap (λ z. same_number z (get_or of_others j of_empty)) (p ∙ h.1) ∙ (ap (same_number (Some h.0)) q ∙ by_number (text_at ones i) (text_at others j) h.0 h.1 (value_under m (text_at others j)) refl)
   where
     by_test : (x y : List ℕ) (k n : ℕ) → value_under m x ≡ Some k → value_under m y ≡ Some n → (t : Bool) → bytes_eq x y ≡ t → (k == n) ≡ t
     by_test x y k n v w true g = let s : x ≡ y = (bytes_eq-Decides x y).0 g in let z : k ≡ n = (let z : Some k ≡ Some n = sym v ∙ (ap (value_under m) s ∙ w) in cc) in grind (arith, z)
@@ -93,10 +97,10 @@ numbers_are ones others m of_ones of_others of_empty f a b e i j =
         by_same false r = refl
         by_same true r =
             let z : k ≡ n = grind (arith, r) in
-            let s : x ≡ y = sym (f.indices x k v) ∙ (ap (text_at ones) z ∙ f.indices y n w) in
+            let s : x ≡ y = sym (f.indices x k v).text ∙ (ap (text_at ones) z ∙ (f.indices y n w).text) in
             (let clash : true ≡ false = sym ((bytes_eq-Decides x y).1 s) ∙ g in cc)
 
-    by_number : (x y : List ℕ) (k : ℕ) → value_under m x ≡ Some k → (o : Option ℕ) → value_under m y ≡ o → both_same (Some k) o ≡ bytes_eq x y
+    by_number : (x y : List ℕ) (k : ℕ) → value_under m x ≡ Some k → (o : Option ℕ) → value_under m y ≡ o → same_number (Some k) o ≡ bytes_eq x y
     by_number x y k v None w = by_equal (bytes_eq x y) refl
       where
         by_equal : (t : Bool) → bytes_eq x y ≡ t → false ≡ t

@@ -7,7 +7,7 @@ use Rattle.jfr_filter.specs.Filters.{Given}
 use Rattle.jfr_chunk.specs.Parts.{Parts}
 use Rattle.jfr_verify.specs.Recordings.{Recording, recording_of}
 use Rattle.jfr_verify.specs.Streams.{Compared, receipts}
-use Rattle.jfr_verify.specs.Verdicts.{Three, HasReceipts, HasOutput, VerdictOf, long, refused, compared, HasOneVerdict, HasVerdict, AllVerified, HasVerifiedScrubs, ComparedWith, output_of, receipt_for}
+use Rattle.jfr_verify.specs.Verdicts.{Three, HasReceipts, HasOutput, VerdictOf, long, refused, compared, HasNoVerdict, HasOneVerdict, HasVerdict, LacksOne, no_input, no_output, no_receipt, AllVerified, HasVerifiedScrubs, ComparedWith, output_of, receipt_for}
 use Rattle.jfr_verify.specs.declared.doubt.Doubt.TheVariants.{ReceiptLong, OutRefused}
 use Rattle.jfr_verify.specs.declared.verdict.Verdict.{Verdict}
 use Rattle.jfr_verify.specs.declared.verdict.Verdict.TheVariants.{Verified, Doubted}
@@ -26,6 +26,9 @@ same_refusal o f h e i = let k : Some f ≡ Some h = sym e ∙ i in cc
 
 no_refusal : (o : Option Refusal) (f : Refusal) → o ≡ Some f → o ≡ None → ⊥
 no_refusal o f e n = let k : Some f ≡ None = sym e ∙ n in cc
+
+none_there : (o : Option (List ℕ)) (x : List ℕ) → o ≡ Some x → o ≡ None → ⊥
+none_there o x e n = let k : Some x ≡ None = sym e ∙ n in cc
 
 module _ (g : Given) (t : Three) where
   same_output : (o p : HasOutput t) → o.bytes ≡ p.bytes
@@ -56,6 +59,23 @@ module _ (g : Given) (t : Three) where
       (subst (λ (z : List ℕ). ComparedWith g (recording_of a) (recording_of z).parts s.bytes 0 x) (same_output o p)
       (subst (λ (z : List ℕ). ComparedWith g (recording_of a) (recording_of o.bytes).parts z 0 x) ra c)) in
       compared_once g (recording_of b).parts (recording_of b).refusal (recording_of p.bytes).parts s.bytes 0 x y moved d
+
+  -- Without the receipts no verdict is right; nor without an output, if the receipts are read; nor without an
+  -- input, if the output is read, too.
+  pub none_without_receipts : t.receipt ≡ None → HasNoVerdict g t
+  none_without_receipts n x (long r i l e) = none_there t.receipt r i n
+  none_without_receipts n x (refused r o f i e) = none_there t.receipt r.bytes r.is n
+  none_without_receipts n x (compared r o m a i c) = none_there t.receipt r.bytes r.is n
+
+  pub none_without_output : HasReceipts t → t.output ≡ None → HasNoVerdict g t
+  none_without_output h n x (long r i l e) = too_long r i l h
+  none_without_output h n x (refused r o f i e) = none_there t.output o.bytes o.is n
+  none_without_output h n x (compared r o m a i c) = none_there t.output o.bytes o.is n
+
+  pub none_without_input : HasReceipts t → (o : HasOutput t) → (recording_of o.bytes).refusal ≡ None → t.input ≡ None → HasNoVerdict g t
+  none_without_input h o w n x (long r i l e) = too_long r i l h
+  none_without_input h o w n x (refused r p f i e) = refused_once p o f i w
+  none_without_input h o w n x (compared r p m a i c) = none_there t.input a i n
 
   -- If it is Verified, all chunks are verified.
   pub verified_all : (n : ℕ) → VerdictOf g t (Verified n) → AllVerified g t n
@@ -101,3 +121,19 @@ by_length g a y r false e = by_refusal g a y r (recording_of y).refusal refl (le
 
 pub some_verdict : (g : Given) (t : Three) → HasVerdict g t
 some_verdict g t a y r e = subst (λ (z : Three). (x : Verdict) × VerdictOf g z x) (sym e) (by_length g a y r (nat_le (2 ^ 40) (length r)) refl)
+
+-- If no verdict is right, a file doesn't exist.
+pub lacks_one : (g : Given) (t : Three) → HasNoVerdict g t → LacksOne t
+lacks_one g t n = by_files t.input t.output t.receipt refl refl refl
+  where
+    made : (a y r : Option (List ℕ)) → Three
+    made a y r = record { input = a; output = y; receipt = r }
+
+    by_files : (a y r : Option (List ℕ)) → t.input ≡ a → t.output ≡ y → t.receipt ≡ r → LacksOne t
+    by_files None y r i o s = no_input i
+    by_files (Some a) None r i o s = no_output o
+    by_files (Some a) (Some y) None i o s = no_receipt s
+    by_files (Some a) (Some y) (Some r) i o s =
+        let e : t ≡ made (Some a) (Some y) (Some r) = ap (λ z. made z t.output t.receipt) i ∙ (ap (λ z. made (Some a) z t.receipt) o ∙ ap (made (Some a) (Some y)) s) in
+        let v = some_verdict g t a y r e in
+        absurd (n v.0 v.1)

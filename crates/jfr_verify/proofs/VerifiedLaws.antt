@@ -192,4 +192,4 @@ module _ (p q : Parts) (a : AreParts p) (b : AreParts q) (flags : List Bool) (re
   remaining = marked_same marks (reached_marks p kept) p.entries (λ i l. (let k = reached_marked p s kept kept_node i in ((λ m. k.0 (marked_is_reached i l m)), (λ m. reached_is_marked i (k.1 m)))))
 
   pub verified : IsVerified p q kept
-  verified = record { meaning = meaning; entries = subst (λ z. AreCopied p q z q.entries) remaining h.among.copied }
+  verified = record { classes = h.classes; meaning = meaning; entries = subst (λ z. AreCopied p q z q.entries) remaining h.among.copied }

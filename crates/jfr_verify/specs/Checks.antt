@@ -17,9 +17,13 @@ use Rattle.jfr_laws.specs.Laws.{AreCopied}
 abbrev pub HasClasses : Classes → Classes → Type 0
 HasClasses k m = All (Contains k) m
 
+-- The class and the record bytes of an event.
+abbrev pub content : Parts → EventAt → ℕ × List ℕ
+content p e = (e.record_of.type_id, record_bytes p.bytes e.record_of)
+
 -- The class and the record bytes of each of these events, in order.
 abbrev pub contents : Parts → List EventAt → List (ℕ × List ℕ)
-contents p es = map (λ e. (e.record_of.type_id, record_bytes p.bytes e.record_of)) es
+contents p es = map (content p) es
 
 -- The entries of the output are copies of the marked entries of the input, in order, and these are in force.
 pub record AreAmong (p q : Parts) (marks : List Bool) : Type 0 where

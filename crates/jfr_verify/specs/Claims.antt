@@ -15,14 +15,13 @@ RefersTo p (OfEntry i) t = Contains (next_entries p i) t
 abbrev pub IsConfirmed : Parts → List Parent → ℕ → Type 0
 IsConfirmed p parents t = (parent : Parent) × (slice_get parents t ≡ Some parent) × RefersTo p parent t
 
--- Whether the claimed parent of each entry refers to it.
-abbrev pub AreConfirmed : Parts → List Parent → Bool → Type 0
-AreConfirmed p parents true = (t : ℕ) → t < length p.entries → IsConfirmed p parents t
-AreConfirmed p parents false = ((t : ℕ) → t < length p.entries → IsConfirmed p parents t) → ⊥
+-- Each entry has a claimed parent, which refers to it.
+abbrev pub AreConfirmed : Parts → List Parent → Type 0
+AreConfirmed p parents = (t : ℕ) → t < length p.entries → IsConfirmed p parents t
 
--- Each event of the chunk that one of the first n claims names as parent has its flag set.
-abbrev pub AreClaimed : ℕ → List Parent → List Bool → Type 0
-AreClaimed n parents claimed = (i t : ℕ) → t < n → slice_get parents t ≡ Some (OfEvent i) → slice_get claimed i ≡ Some false → ⊥
+-- Each event of the chunk that is a claimed parent has its flag set.
+abbrev pub AreClaimed : List Parent → List Bool → Type 0
+AreClaimed parents claimed = (i t : ℕ) → slice_get parents t ≡ Some (OfEvent i) → slice_get claimed i ≡ Some false → ⊥
 
 -- The flags of events, with that of this parent set if it is one of them.
 abbrev pub with_claimed : List Bool → Parent → List Bool
@@ -30,15 +29,15 @@ with_claimed claimed (OfEvent i) = slice_set claimed i true
 with_claimed claimed (OfEntry i) = claimed
 
 -- Whether two parents are the same.
-abbrev pub is_same : Parent → Parent → Bool
-is_same (OfEvent a) (OfEvent b) = a == b
-is_same (OfEntry a) (OfEntry b) = a == b
-is_same (OfEvent a) (OfEntry b) = false
-is_same (OfEntry a) (OfEvent b) = false
+abbrev pub same_parent : Parent → Parent → Bool
+same_parent (OfEvent a) (OfEvent b) = a == b
+same_parent (OfEntry a) (OfEntry b) = a == b
+same_parent (OfEvent a) (OfEntry b) = false
+same_parent (OfEntry a) (OfEvent b) = false
 
 -- Whether this is the claimed parent of entry t.
 abbrev pub is_parent_of : List Parent → Parent → ℕ → Bool
-is_parent_of parents parent t = option_map_or (is_same parent) (slice_get parents t) false
+is_parent_of parents parent t = option_map_or (same_parent parent) (slice_get parents t) false
 
 -- The entries of the list whose claimed parent is this one.
 abbrev pub children : List Parent → Parent → List ℕ → List ℕ

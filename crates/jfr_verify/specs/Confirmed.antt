@@ -22,7 +22,7 @@ pub record ConfirmsOf (parent : Parent) (numbers : List ℕ) (old new : Claims) 
 pub record ConfirmsMore (p : Parts) (old new : Claims) : Type 0 where
   pub size : length new.confirmed.items ≡ length old.confirmed.items
   pub parents : new.parents.items ≡ old.parents.items
-  pub stays : (t : ℕ) → IsMarked old.confirmed.items t → IsMarked new.confirmed.items t
+  pub kept : (t : ℕ) → IsMarked old.confirmed.items t → IsMarked new.confirmed.items t
   pub sound : (t : ℕ) → IsMarked new.confirmed.items t → IsMarked old.confirmed.items t ⊎ IsConfirmed p old.parents.items t
 
 -- Each entry whose claimed parent is one of the first `count` events and refers to it has its claim

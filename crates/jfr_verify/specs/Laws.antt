@@ -16,18 +16,16 @@ pub record Passes (p q : Parts) (kept : List EventAt) (receipt : List ℕ) : Typ
   pub closed : AreClosed p kept marks
   pub shown : IsReceiptOf receipt q
 
--- The output means the same as the input, and its entries are copies of those that the kept events reach.
+-- The output means the same as the input, each of its classes is a class of the input, and its entries are
+-- copies of those that the kept events reach.
 pub record IsVerified (p q : Parts) (kept : List EventAt) : Type 0 where
+  pub classes : HasClasses p.classes q.classes
   pub meaning : SameMeaning p q kept (events_of q)
   pub entries : AreCopied p q (remain p kept) q.entries
 
 -- The events of the chunk reach each of its entries.
 abbrev pub AllReached : Parts → Type 0
 AllReached p = (number : ℕ) → number < length p.entries → Reached p (events_of p) number
-
--- If the events reach each entry, the receipt that is written for the chunk is a receipt of it.
-abbrev pub IsReceipted : Parts → Type 0
-IsReceipted p = AllReached p → IsReceiptOf (receipt_of p) p
 
 -- The output of a scrub passes the checks with the receipt that is written for it.
 abbrev pub IsKeptPassed : Parts → List EventAt → Type 0

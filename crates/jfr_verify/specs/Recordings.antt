@@ -1,5 +1,5 @@
 -- A recording as it is read: the chunks before its end or its first refused chunk.
-use Rattle.std.specs.Prelude.{◌≡◌, ℕ, ◌+◌, true, not, List, [], ◌∷◌, ◌++◌, map, Option, Some, None, option_map, Result, Ok, Err}
+use Rattle.std.specs.Prelude.{◌≡◌, ℕ, ◌+◌, true, not, List, [], ◌∷◌, map, Option, Some, None, option_map, Result, Ok, Err}
 use Rattle.std.specs.List.{AllByRecursion}
 use Rattle.jfr_base.specs.declared.flaw.Flaw.{Flaw}
 use Rattle.jfr_base.specs.declared.flaw.Refusal.{Refusal}
@@ -42,18 +42,14 @@ pub record IsRead (x : List ℕ) : Type 0 where
   pub parts : AllByRecursion AreParts (recording_of x).parts
   pub all : (recording_of x).refusal ≡ None → cut x 0 true ≡ record { chunks = map (λ p. p.bytes) (recording_of x).parts; flaw = None }
 
--- These chunks, followed by later ones.
-abbrev pub after_parts : List Parts → Recording → Recording
-after_parts ps later = record { parts = ps ++ later.parts; refusal = later.refusal }
-
 -- The recording that a cutter has yet to cut, from the bytes that weren't read yet.
 abbrev pub unread_recording : Cutter → List ℕ → Recording
-unread_recording c left = recording_in c.number (cut left c.start (not c.given))
+unread_recording c unread = recording_in c.number (cut unread c.start (not c.given))
 
 -- A claim about the chunks of the open input that a cutter has yet to cut. The files and the output are
 -- unchanged.
 pub record HasUnread (c : Cutter) (Claim : Recording → Type 0) (w v : World) : Type 0 where
   pub same : IsKept w v
-  pub left : List ℕ
-  pub input : v.input ≡ Some left
-  pub claim : Claim (unread_recording c left)
+  pub unread : List ℕ
+  pub input : v.input ≡ Some unread
+  pub claim : Claim (unread_recording c unread)

@@ -1,22 +1,17 @@
 -- How it is computed whether two chunks have the same events.
-use Rattle.std.specs.Prelude.{◌≡◌, ℕ, ◌+◌, Bool, true, false, ◌&&◌, ◌==◌, List, slice_get, Option, Some, None, option_map, if◌then◌else◌}
+use Rattle.std.specs.Prelude.{ℕ, ◌+◌, Bool, false, ◌&&◌, ◌==◌, List, slice_get, Option, Some, None, option_map, if◌then◌else◌}
 use Rattle.std.specs.Option.{option_map_or}
 use Rattle.std.specs.Str.{bytes_eq}
-use Rattle.jfr_frame.specs.Records.{record_bytes}
-use Rattle.jfr_chunk.specs.Parts.{Parts, EventAt, events_of}
-use Rattle.jfr_verify.specs.Checks.{contents}
-
--- The class and the record bytes of an event.
-abbrev pub content : Parts → EventAt → ℕ × List ℕ
-content p e = (e.record_of.type_id, record_bytes p.bytes e.record_of)
+use Rattle.jfr_chunk.specs.Parts.{Parts, events_of}
+use Rattle.jfr_verify.specs.Checks.{content}
 
 -- Whether two contents are equal.
-abbrev pub is_same : ℕ × List ℕ → ℕ × List ℕ → Bool
-is_same x y = (x.0 == y.0) && bytes_eq x.1 y.1
+abbrev pub same_content : ℕ × List ℕ → ℕ × List ℕ → Bool
+same_content x y = (x.0 == y.0) && bytes_eq x.1 y.1
 
--- Whether both exist and are equal.
+-- Whether both contents exist and are equal.
 abbrev pub both_same : Option (ℕ × List ℕ) → Option (ℕ × List ℕ) → Bool
-both_same (Some x) (Some y) = is_same x y
+both_same (Some x) (Some y) = same_content x y
 both_same (Some x) None = false
 both_same None y = false
 
@@ -27,8 +22,3 @@ same_event p q n m = both_same (option_map (content p) (slice_get (events_of p) 
 -- The number of the event of the output to compare next, after event n of the input was compared with event m.
 abbrev pub next_event : Parts → Parts → List Bool → ℕ → ℕ → Option ℕ
 next_event p q flags n m = if option_map_or (λ flag. flag) (slice_get flags n) false then (if same_event p q n m then Some (m + 1) else None) else Some m
-
--- Whether the events of the output are the kept events, by class and record bytes.
-abbrev pub SameEvents : Parts → Parts → List EventAt → Bool → Type 0
-SameEvents p q kept true = contents p kept ≡ contents q (events_of q)
-SameEvents p q kept false = contents p kept ≡ contents q (events_of q) → ⊥

@@ -61,6 +61,10 @@ pub data VerdictOf (g : Given) (t : Three) (x : Verdict) : Type 0 where
 abbrev pub HasOneVerdict : Given → Three → Type 0
 HasOneVerdict g t = (x y : Verdict) → VerdictOf g t x → VerdictOf g t y → x ≡ y
 
+-- No verdict is right.
+abbrev pub HasNoVerdict : Given → Three → Type 0
+HasNoVerdict g t = (x : Verdict) → VerdictOf g t x → ⊥
+
 -- If all three files exist, a verdict is right.
 abbrev pub HasVerdict : Given → Three → Type 0
 HasVerdict g t = (input output receipt : List ℕ) → t ≡ record { input = Some input; output = Some output; receipt = Some receipt } → (x : Verdict) × VerdictOf g t x

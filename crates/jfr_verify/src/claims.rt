@@ -2,7 +2,7 @@
 //! looking at what the parent refers to.
 ghost use Rattle.std.specs.Prelude.{◌≡◌, ◌<◌, [], ◌∷◌, false, length, replicate, IfOk};
 ghost use Rattle.jfr_worklist.specs.Marks.{marked_at};
-ghost use Rattle.jfr_verify.specs.Claims.{children, is_parent_of, is_same};
+ghost use Rattle.jfr_verify.specs.Claims.{children, is_parent_of, same_parent};
 
 use crate::Parent;
 use jfr_base::NoMemory;
@@ -53,14 +53,14 @@ fn is_parent_of(parents: &[Parent], parent: Parent, number: usize) -> bool
     ensures { result ≡ is_parent_of parents.now parent number }
 {
     match parents.get(number) {
-        Some(claimed) => is_same(parent, *claimed),
+        Some(claimed) => same_parent(parent, *claimed),
         None => false,
     }
 }
 
 /// Whether two parents are the same.
-fn is_same(one: Parent, other: Parent) -> bool
-    ensures { result ≡ is_same one other }
+fn same_parent(one: Parent, other: Parent) -> bool
+    ensures { result ≡ same_parent one other }
 {
     match (one, other) {
         (Parent::OfEvent(a), Parent::OfEvent(b)) => a == b,

@@ -1,11 +1,13 @@
 //! Whether the output has every entry that it needs: whether all entries in force to which kept events and
 //! marked entries refer are marked.
-ghost use Rattle.std.specs.Prelude.{◌≡◌, ◌<◌, ◌&&◌, [], length, if◌then◌else◌};
+ghost use Rattle.std.specs.Prelude.{◌≡◌, ◌<◌, ◌&&◌, length};
 ghost use Rattle.jfr_value.specs.Nodes.{IsValue, node_of};
 ghost use Rattle.jfr_worklist.specs.Marks.{is_marked};
 ghost use Rattle.jfr_chunk.specs.Parts.{events_of};
-ghost use Rattle.jfr_chunk.specs.Reach.{kept_by, next_entries, node_entries};
-ghost use Rattle.jfr_verify.specs.Closed.{ChecksMarks, are_marked, entries_closed, events_closed, kept_refs};
+ghost use Rattle.jfr_chunk.specs.Reach.{kept_by, node_entries};
+ghost use Rattle.jfr_verify.specs.Checks.{AreClosed};
+ghost use Rattle.jfr_verify.specs.Closed.{ChecksMarks, are_marked, entries_closed, events_closed, kept_refs, marked_refs};
+ghost use Rattle.jfr_verify.specs.Decided.{Decided};
 
 use jfr_chunk::{Chunk, Kept};
 use jfr_layout::Classes;
@@ -47,7 +49,8 @@ impl Visit<Pools> for ClosedCheck {
 /// Whether all entries in force to which the kept events and the marked entries refer are marked.
 pub(crate) fn is_closed(chunk: &Chunk<'_>, kept: &Kept, marks: Vec<bool>) -> bool
     requires kept { length kept.now ≡ length (events_of chunk.now) }
-    ensures { result ≡ (events_closed chunk.now marks.items (kept_by chunk.now kept.now) && entries_closed chunk.now marks.items (length chunk.now.entries)) }
+    requires size { length marks.items ≡ length chunk.now.entries }
+    ensures { Decided (AreClosed chunk.now (kept_by chunk.now kept.now) marks.items) result }
 {
     closed_by::<Brand>(chunk, kept, marks, Blank::new(1))
 }
@@ -126,7 +129,7 @@ fn check_entry<L: Ledger>(
     number: usize,
     steps: &mut Steps<L>,
 )
-    ensures { ChecksMarks (if is_marked check.old.marks.items number then next_entries chunk.now number else []) check.old check.new }
+    ensures { ChecksMarks (marked_refs chunk.now check.old.marks.items number) check.old check.new }
 {
     if !is_marked(&check.marks, number) {
         return;

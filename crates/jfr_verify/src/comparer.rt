@@ -72,7 +72,7 @@ impl<'r> Comparer<'r> {
         compared
     }
 
-    // Compares a chunk of the input, which has this number, with the next one of the output.
+    /// Compares a chunk of the input, which has this number, with the next one of the output.
     fn compare_next(&mut self, input: &Chunk<'_>, number: u64) -> Result<(), Verdict>
         requires { AllWhole (iter_rest self.old.outputs) }
         ensures steps { (n : ℕ) (qs : List Parts) → number ≡ n + 1 → HasOutputs self.old qs → Steps result n (Ok input.now) qs self.old self.new }
@@ -95,8 +95,8 @@ impl<'r> Comparer<'r> {
         self.output_buffers = output.into_buffers();
         match checked {
             Ok(len) => {
-                let (_, left) = self.receipts.split_at(len);
-                self.receipts = left;
+                let (_, unread) = self.receipts.split_at(len);
+                self.receipts = unread;
                 Ok(())
             }
             Err(fault) => Err(Verdict::of_check(number, fault)),

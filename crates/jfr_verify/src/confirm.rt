@@ -7,6 +7,7 @@ ghost use Rattle.jfr_chunk.specs.Reach.{next_entries, node_entries};
 ghost use Rattle.jfr_verify.specs.declared.line.Parent.TheVariants as kinds;
 ghost use Rattle.jfr_verify.specs.Claims.{AreConfirmed, AreClaimed, with_claimed};
 ghost use Rattle.jfr_verify.specs.Confirmed.{Confirms, ConfirmsEntries, ConfirmsEvents, ConfirmsOf};
+ghost use Rattle.jfr_verify.specs.Decided.{Decided};
 
 use crate::Parent;
 use crate::claims::Claims;
@@ -47,7 +48,7 @@ pub(crate) fn are_confirmed(
     parents: Vec<Parent>,
 ) -> Result<bool, NoMemory>
     requires size { length parents.items ≡ length chunk.now.entries }
-    ensures { IfOk result (AreConfirmed chunk.now parents.items) }
+    ensures { IfOk result (Decided (AreConfirmed chunk.now parents.items)) }
 {
     confirm_all::<Brand>(alloc, chunk, parents, Blank::new(1))
 }
@@ -63,7 +64,7 @@ fn confirm_all<L: Ledger>(
     requires name { blank.name ≡ L.name }
     requires parts { blank.parts ≡ L.parts }
     requires some { 0 < blank.parts }
-    ensures { IfOk result (AreConfirmed chunk.now parents.items) }
+    ensures { IfOk result (Decided (AreConfirmed chunk.now parents.items)) }
 {
     let claimed = claimed_events(alloc, &parents, chunk.event_count())?;
     let mut claims = Claims::new(alloc, parents)?;
@@ -74,9 +75,10 @@ fn confirm_all<L: Ledger>(
 }
 
 /// For each event of a chunk with this number of them, whether it is a claimed parent. Few events are, so the
-/// references of all others needn't be visited.
+/// references of all others needn't be visited. No clause says that the other flags aren't set, since that
+/// only saves time.
 fn claimed_events(alloc: Global, parents: &[Parent], count: usize) -> Result<Vec<bool>, NoMemory>
-    ensures claimed { IfOk result (λ claimed. AreClaimed (length parents.now) parents.now claimed.items) }
+    ensures claimed { IfOk result (λ claimed. AreClaimed parents.now claimed.items) }
     ensures size { IfOk result (λ claimed. length claimed.items ≡ count) }
 {
     let mut claimed = Vec::new(alloc);
@@ -104,7 +106,7 @@ fn set_claimed(claimed: &mut Vec<bool>, parent: Parent)
 /// Confirms the claims that name an event, if the event refers to the entry.
 fn confirm_events(claims: &mut Claims, chunk: &Chunk<'_>, claimed: &[bool])
     requires size { length claims.old.confirmed.items ≡ length chunk.now.entries }
-    requires claimed { AreClaimed (length claims.old.parents.items) claims.old.parents.items claimed.now }
+    requires claimed { AreClaimed claims.old.parents.items claimed.now }
     requires count { length claimed.now ≡ length (events_of chunk.now) }
     ensures { ConfirmsEvents chunk.now (length (events_of chunk.now)) claims.old claims.new }
 {
@@ -116,7 +118,7 @@ fn confirm_events(claims: &mut Claims, chunk: &Chunk<'_>, claimed: &[bool])
 /// Confirms the claims that name event `number`, if it refers to the entry.
 fn confirm_event(claims: &mut Claims, chunk: &Chunk<'_>, claimed: &[bool], number: usize)
     requires size { length claims.old.confirmed.items ≡ length chunk.now.entries }
-    requires claimed { AreClaimed (length claims.old.parents.items) claims.old.parents.items claimed.now }
+    requires claimed { AreClaimed claims.old.parents.items claimed.now }
     requires within { number < length claimed.now }
     ensures { (e : EventAt) → slice_get (events_of chunk.now) number ≡ Some e → ConfirmsOf (kinds.OfEvent number) (node_entries chunk.now.entries chunk.now.classes chunk.now.bytes e.node) claims.old claims.new }
 {

@@ -22,11 +22,11 @@ pub(crate) fn marks_of_copies(
     marks.resize(a.pools().len(), false)?;
     let mut from = 0;
     for number in 0..b.pools().len() {
-        let Some(place) = copy_at(a, b, number, from) else {
+        let Some(original) = copy_at(a, b, number, from) else {
             return Ok(None);
         };
-        marks[place] = true;
-        from = place + 1;
+        marks[original] = true;
+        from = original + 1;
     }
     Ok(Some(marks))
 }
@@ -37,18 +37,18 @@ fn copy_at(a: &Chunk<'_>, b: &Chunk<'_>, number: usize, from: usize) -> Option<u
     ensures { result ≡ next_copy a.now b.now number from }
 {
     let copy = b.pools().get(number)?;
-    let place = a.pools().entry(copy.class, copy.key)?;
-    if place < from {
+    let original = a.pools().entry(copy.class, copy.key)?;
+    if original < from {
         return None;
     }
-    let entry = a.pools().get(place)?;
+    let entry = a.pools().get(original)?;
     if entry.checkpoint != copy.checkpoint {
         return None;
     }
-    let one = a.entry_node(place)?;
+    let one = a.entry_node(original)?;
     let other = b.entry_node(number)?;
     if same_bytes(&one, &other) {
-        return Some(place);
+        return Some(original);
     }
     None
 }

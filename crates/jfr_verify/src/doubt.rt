@@ -1,4 +1,4 @@
-//! Doubts.
+//! Why the output of a scrub isn't accepted.
 ghost use Rattle.std.specs.Prelude.{◌≡◌};
 ghost use Rattle.jfr_verify.specs.Doubts.{doubt_name};
 

@@ -2,7 +2,9 @@
 ghost use Rattle.std.specs.Prelude.{◌≡◌, ◌<◌, ◌≤◌, ◌^◌, slice_range, length, option_map, slice_get};
 ghost use Rattle.jfr_chunk.specs.Parts.{events_of};
 ghost use Rattle.jfr_chunk.specs.Reach.{kept_by};
-ghost use Rattle.jfr_verify.specs.SameEvents.{SameEvents, content, next_event, same_event};
+ghost use Rattle.jfr_verify.specs.Checks.{content, contents};
+ghost use Rattle.jfr_verify.specs.Decided.{Decided};
+ghost use Rattle.jfr_verify.specs.SameEvents.{next_event, same_event};
 
 use jfr_chunk::{Chunk, Kept};
 
@@ -10,7 +12,7 @@ use jfr_chunk::{Chunk, Kept};
 /// equal record bytes.
 pub(crate) fn same_events(a: &Chunk<'_>, kept: &Kept, b: &Chunk<'_>) -> bool
     requires { length kept.now ≡ length (events_of a.now) }
-    ensures { SameEvents a.now b.now (kept_by a.now kept.now) result }
+    ensures { Decided (contents a.now (kept_by a.now kept.now) ≡ contents b.now (events_of b.now)) result }
 {
     let count = b.event_count();
     let mut at: usize = 0;

@@ -5,20 +5,22 @@ ghost use Rattle.jfr_filter.specs.Filters.{Given};
 ghost use Rattle.jfr_chunk.specs.Parts.{AreParts, EventAt, Parts};
 ghost use Rattle.jfr_chunk.specs.Reach.{kept_by};
 ghost use Rattle.jfr_verify.specs.Checked.{HasAnswer, HasOneAnswer};
-ghost use Rattle.jfr_verify.specs.Laws.{IsKeptPassed, IsReceipted, IsVerified, Passes};
+ghost use Rattle.jfr_verify.specs.Laws.{AllReached, IsKeptPassed, IsVerified, Passes};
+ghost use Rattle.jfr_verify.specs.Receipts.{IsReceiptOf, receipt_of};
 ghost use Rattle.jfr_verify.specs.Recordings.{IsRead};
 ghost use Rattle.jfr_verify.specs.Streams.{IsComparison};
 ghost use Rattle.jfr_verify.specs.Verdicts.{HasOneVerdict, HasVerdict, HasVerifiedScrubs, Three};
 
-/// If a pair of chunks passes the checks, the output means the same as the input, and its entries are copies
-/// of exactly the entries that the kept events reach, whoever made the output and the receipt.
+/// If a pair of chunks passes the checks, the output means the same as the input, its classes are classes of
+/// the input, and its entries are copies of exactly the entries that the kept events reach, whoever made the
+/// output and the receipt.
 pub fn passed_is_verified()
     ensures { (p q : Parts) (flags : List Bool) (receipt : List ℕ) → AreParts p → AreParts q → Passes p q (kept_by p flags) receipt → IsVerified p q (kept_by p flags) }
 {}
 
 /// If the events of a chunk reach each of its entries, `receipt_of` gives a receipt of the chunk.
 pub fn receipt_of_reached()
-    ensures { (p : Parts) → AreParts p → IsReceipted p }
+    ensures { (p : Parts) → AreParts p → AllReached p → IsReceiptOf (receipt_of p) p }
 {}
 
 /// The output of a scrub passes the checks with its own receipt.

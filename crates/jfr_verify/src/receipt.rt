@@ -1,4 +1,4 @@
-//! Receipts.
+//! Making the receipt of a chunk, or of its scrub.
 ghost use Rattle.std.specs.Prelude.{◌≡◌, ◌∷◌, ◌++◌, length, OnOk, IfOk};
 ghost use Rattle.std.specs.List.{flat_map};
 ghost use Rattle.jfr_base.specs.Integer.{spell};
@@ -98,16 +98,12 @@ fn push_line(out: &mut Vec<u8>, line: Line) -> Result<(), AllocError>
 fn push_parent(out: &mut Vec<u8>, parent: Parent) -> Result<(), AllocError>
     ensures ok { OnOk result (out.new.items ≡ out.old.items ++ parent_kind parent ∷ spell (parent_number parent)) }
 {
-    match parent {
-        Parent::OfEvent(number) => {
-            out.push(0)?;
-            push_integer(out, number as u64)
-        }
-        Parent::OfEntry(number) => {
-            out.push(1)?;
-            push_integer(out, number as u64)
-        }
-    }
+    let (kind, number) = match parent {
+        Parent::OfEvent(number) => (0, number),
+        Parent::OfEntry(number) => (1, number),
+    };
+    out.push(kind)?;
+    push_integer(out, number as u64)
 }
 
 /// Appends a compressed integer in its shortest form.

@@ -8,7 +8,7 @@ ghost use Rattle.jfr_chunk.specs.Parts.{Parts};
 ghost use Rattle.jfr_verify.specs.Comparing.{HasOutputs, InputRead};
 ghost use Rattle.jfr_verify.specs.Faults.{Counts};
 ghost use Rattle.jfr_verify.specs.Outputs.{AllWhole};
-ghost use Rattle.jfr_verify.specs.Verdicts.{AllVerified, AreScrubs, IfDecided, IfVerified, IsVerifiedOrMemory, LacksOne, VerdictIn, VerdictOf, three};
+ghost use Rattle.jfr_verify.specs.Verdicts.{AllVerified, AreScrubs, HasNoVerdict, IfDecided, IfVerified, IsVerifiedOrMemory, LacksOne, VerdictIn, VerdictOf, three};
 
 use crate::Verdict;
 use crate::comparer::Comparer;
@@ -32,7 +32,7 @@ struct Names<'n> {
     receipt: &'n str,
 }
 
-// Reads the input, and compares each of its chunks.
+/// Reads the input, and compares each of its chunks.
 fn compare_input<P: Place>(
     alloc: Global,
     place: &mut P,
@@ -65,7 +65,7 @@ fn compare_input<P: Place>(
     }
 }
 
-// The body of `verify_stream`, which derives its further clauses from these.
+/// As `verify_stream`, whose other clauses follow from these.
 fn verify_files<P: Place>(
     alloc: Global,
     place: &mut P,
@@ -74,7 +74,7 @@ fn verify_files<P: Place>(
 ) -> Verdict
     ensures contents { IfContentsKnown (P.state place.old) (P.state place.new) (VerdictIn filter.now names.entry.input.now names.entry.output.now names.entry.receipt.now result) }
     ensures counts { Counts result (P.state place.old) (P.state place.new) }
-    ensures steady { IsTrue (P.state place.old).steady → result ≡ Verdict.ReadFault → IfSome (P.state place.old).contents (λ w. LacksOne (three names.entry.input.now names.entry.output.now names.entry.receipt.now w)) }
+    ensures undecided { IsTrue (P.state place.old).steady → result ≡ Verdict.ReadFault → IfSome (P.state place.old).contents (λ w. HasNoVerdict filter.now (three names.entry.input.now names.entry.output.now names.entry.receipt.now w)) }
 {
     let receipts = match read_file(alloc, place, names.receipt, RECEIPT_LIMIT) {
         Ok(receipts) => receipts,
@@ -114,7 +114,8 @@ pub fn verify_stream<P: Place>(
     ensures unchanged { IfContentsKnown (P.state place.old) (P.state place.new) IsKept }
     ensures counts { Counts result (P.state place.old) (P.state place.new) }
 
-    // On a steady place no read fails if the three files exist.
+    // On a steady place no read fails if a verdict is right, and so none if the three files exist.
+    ensures undecided { IsTrue (P.state place.old).steady → result ≡ Verdict.ReadFault → IfSome (P.state place.old).contents (λ w. HasNoVerdict filter.now (three input.now output.now receipt.now w)) }
     ensures steady { IsTrue (P.state place.old).steady → result ≡ Verdict.ReadFault → IfSome (P.state place.old).contents (λ w. LacksOne (three input.now output.now receipt.now w)) }
 {
     let names = Names {

@@ -12,7 +12,7 @@ ghost use Rattle.std.specs.Str.{chars};
 ghost use Rattle.jfr_layout.specs.Names.{value_under};
 ghost use Rattle.jfr_meta.specs.Attributes.{text_at};
 ghost use Rattle.jfr_verify.specs.Decided.{Decided};
-ghost use Rattle.jfr_verify.specs.Strings.{Adds, AreFirsts, AreNumbers, both_same};
+ghost use Rattle.jfr_verify.specs.Strings.{AddsText, AreFirsts, AreNumbers, same_number};
 
 use jfr_base::{NoMemory, Words};
 use std::alloc::Global;
@@ -58,7 +58,7 @@ impl<'t> Numbers<'t> {
     pub fn same_text(&self, one: u64, other: u64) -> bool
         ensures { Decided (text_at self.now.one.now one ≡ text_at self.now.other.now other) result }
     {
-        both_same(
+        same_number(
             number_at(&self.of_one, self.of_empty, one),
             number_at(&self.of_other, self.of_empty, other),
         )
@@ -66,8 +66,8 @@ impl<'t> Numbers<'t> {
 }
 
 /// Whether both numbers exist and are equal.
-fn both_same(one: Option<u64>, other: Option<u64>) -> bool
-    ensures { result ≡ both_same one other }
+fn same_number(one: Option<u64>, other: Option<u64>) -> bool
+    ensures { result ≡ same_number one other }
 {
     match (one, other) {
         (Some(one), Some(other)) => one == other,
@@ -134,7 +134,7 @@ fn add_text<'t>(
     strings: &'t Words,
     index: u64,
 ) -> Result<(), NoMemory>
-    ensures ok { OnOk result (Adds strings.now index firsts.old firsts.new) }
+    ensures ok { OnOk result (AddsText strings.now index firsts.old firsts.new) }
 {
     let text = text_at(strings, index);
     if number_of(firsts, text).is_some() {

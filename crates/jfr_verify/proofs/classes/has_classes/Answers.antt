@@ -1,4 +1,4 @@
-use Rattle.jfr_verify.proofs.ForceLaws.{has_of}
+use Rattle.jfr_verify.proofs.ClassLaws.{has_of}
 use Rattle.jfr_verify.proofs.classes.has_classes.Goals as goal
 
 pub returns : goal.returns

@@ -1,5 +1,5 @@
 use Rattle.std.proofs.Common.{◌≡◌, ◌+◌, arith, subst, sym}
-use Rattle.jfr_verify.specs.Strings.{Adds}
+use Rattle.jfr_verify.specs.Strings.{AddsText}
 use Rattle.jfr_verify.proofs.StringLaws.{firsts_next, firsts_end}
 use Rattle.jfr_verify.proofs.strings.first_indices.Goals as goal
 
@@ -11,4 +11,4 @@ returns c =
     let n : c.loop-index.index ≡ c.len.result = omega (arith, c.len-index-end.ensures, c.len.ensures, c.loop-index-test.false) in
     firsts_end c.args.strings.now (c.loop-index.index + 1) c.add_text-2.new.firsts (omega (arith, c.len.ensures))
     (firsts_next c.args.strings.now c.loop-index.index c.loop-index.firsts c.add_text-2.new.firsts c.loop-index.invariant
-    (subst (λ z. Adds c.args.strings.now z c.loop-index.firsts c.add_text-2.new.firsts) (sym n) c.in_ok-add_text-2.ensures.ok))
+    (subst (λ z. AddsText c.args.strings.now z c.loop-index.firsts c.add_text-2.new.firsts) (sym n) c.in_ok-add_text-2.ensures.ok))
