@@ -11,12 +11,12 @@ use Rattle.jfr_scrub.specs.Scrubs.{scrubbed}
 use Rattle.jfr_verify.specs.Laws.{Passes}
 use Rattle.jfr_verify.specs.Receipts.{receipt_of}
 
--- The receipt of a chunk with these parts; none for a chunk that is refused.
+-- The receipt of a chunk with these parts; empty for a chunk that is refused.
 abbrev pub receipt_by : Result Parts Flaw → List ℕ
 receipt_by (Ok q) = receipt_of q
 receipt_by (Err flaw) = []
 
--- The receipt of a chunk's scrub with this filter; none for a chunk that is refused.
+-- The receipt of a chunk's scrub with this filter; empty for a chunk that is refused.
 unfoldable pub scrub_receipt : Given → List ℕ → List ℕ
 scrub_receipt g c = receipt_by (read_parts (scrubbed g c))
 

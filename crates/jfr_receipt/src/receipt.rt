@@ -17,8 +17,8 @@ use jfr_verify::{Receipt, kept_is_passed, receipt_of_scrub};
 use std::alloc::Global;
 use std::mem;
 
-/// Makes the receipt of each chunk's scrub with a filter, without making the scrub. `buffers` holds the last
-/// chunk's memory, which the next chunk uses again.
+/// Makes the receipt of each chunk's scrub with a filter, without making the scrub. `buffers` holds the memory of
+/// the last chunk whose receipt was made, which the next chunk uses again.
 #[derive(Drop)]
 struct Receipts<'f> {
     filter: &'f Filter,
@@ -67,7 +67,8 @@ pub fn receipt_stream<P: Place>(
     receipt: &str,
     filter: &Filter,
 ) -> Ending
-    // Each receipt passes the checks of `verify` with its chunk and the chunk's scrub.
+    // Each receipt passes the checks of `verify` with its chunk and the chunk's scrub. This holds of every accepted
+    // chunk, whatever the result is.
     ensures each { (c : List ℕ) → Whole c → refusal_of c ≡ None → IsReceipted filter.now c (scrub_receipt filter.now c) }
 
     ensures ran { Ran (over (receipting filter.now receipt.now) input.now) result
