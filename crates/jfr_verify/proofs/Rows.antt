@@ -1,20 +1,18 @@
 -- Receipts of a chunk of two rings: event 0 refers to entry 0, event 1 to entry 2; entries 0 and 1 refer to each
--- other, and so do entries 2 and 3. The parts have only the bytes that receipts depend on.
-use Rattle.std.specs.Prelude.{◌≡◌, ℕ, true, false, List, [], ◌∷◌, Some, None, refl, codes}
+-- other, and so do entries 2 and 3.
+use Rattle.std.specs.Prelude.{◌≡◌, ℕ, [], ◌∷◌, Some, None, refl}
 use Rattle.std.specs.List.{flat_map}
 use Rattle.jfr_base.specs.Integer.{spell}
 use Rattle.jfr_base.specs.Formats.{run, int_at}
 use Rattle.jfr_base.specs.declared.flaw.Refusal.{Refusal}
 use Rattle.jfr_text.specs.Strings.{string_format}
 use Rattle.jfr_filter.specs.Filters.{Given}
-use Rattle.jfr_layout.specs.Classes.{Classes, is_event_class, kind_of}
-use Rattle.jfr_frame.specs.declared.framed.Framed.{Framed}
-use Rattle.jfr_meta.specs.Trees.{tree}
+use Rattle.jfr_layout.specs.Classes.{is_event_class, kind_of}
 use Rattle.jfr_value.specs.Nodes.{value_of}
 use Rattle.jfr_value.specs.Reading.{class_format, value_format}
-use Rattle.jfr_pool.specs.declared.entry.EntryAt.{EntryAt}
 use Rattle.jfr_pool.specs.Entries.{inline, number_in_force}
-use Rattle.jfr_chunk.specs.Parts.{EventAt, Parts, events_of}
+use Rattle.jfr_chunk.specs.Parts.{EventAt, events_of}
+use Rattle.jfr_chunk.proofs.Chunks.{record_b, rings_parts}
 use Rattle.jfr_verify.specs.declared.doubt.Doubt.TheVariants.{ChunksDiffer, ReceiptBad}
 use Rattle.jfr_verify.specs.declared.line.Line.{Line}
 use Rattle.jfr_verify.specs.declared.line.Parent.{Parent}
@@ -26,53 +24,22 @@ use Rattle.jfr_verify.specs.Reading.{lines_of_count}
 use Rattle.jfr_verify.specs.Receipts.{lines_of, receipt_format, receipt_of}
 use Rattle.jfr_verify.specs.Streams.{Compared}
 
--- An event of t.A to node 1, an event of t.B to node 3, and the nodes 1 to 4.
-abbrev bytes : List ℕ
-bytes = 5 ∷ 8 ∷ 172 ∷ 2 ∷ 1 ∷ 3 ∷ 9 ∷ 3 ∷ 1 ∷ 2 ∷ 3 ∷ 1 ∷ 112 ∷ 2 ∷ 1 ∷ 3 ∷ 1 ∷ 113 ∷ 3 ∷ 4 ∷ 3 ∷ 1 ∷ 114 ∷ 4 ∷ 3 ∷ 3 ∷ 1 ∷ 115 ∷ []
-
-abbrev classes : Classes
-classes =
-    record { id = 5; name = codes "long"; super_name = None; fields = []; categories = [] }
-    ∷ record { id = 6; name = codes "java.lang.String"; super_name = None; fields = []; categories = [] }
-    ∷ record { id = 7; name = codes "t.Node"; super_name = None; fields = record { name = codes "next"; shape = record { class = 7; constant = true; array = false } } ∷ record { name = codes "text"; shape = record { class = 6; constant = false; array = false } } ∷ []; categories = [] }
-    ∷ record { id = 8; name = codes "t.A"; super_name = Some (codes "jdk.jfr.Event"); fields = record { name = codes "n"; shape = record { class = 5; constant = false; array = false } } ∷ record { name = codes "node"; shape = record { class = 7; constant = true; array = false } } ∷ []; categories = [] }
-    ∷ record { id = 9; name = codes "t.B"; super_name = Some (codes "jdk.jfr.Event"); fields = record { name = codes "node"; shape = record { class = 7; constant = true; array = false } } ∷ []; categories = [] } ∷ []
-
-abbrev record_a : Framed
-record_a = record { at = 0; size = 5; type_at = 1; type_id = 8; body = 2 }
-
-abbrev record_b : Framed
-record_b = record { at = 5; size = 3; type_at = 6; type_id = 9; body = 7 }
-
-abbrev entry : ℕ → ℕ → ℕ → ℕ → EntryAt
-entry key key_at value_at end = record { class = 7; key = key; key_at = key_at; value_at = value_at; end = end; checkpoint = 0; pool = 0 }
-
-abbrev rings : Parts
-rings = record {
-  bytes = bytes;
-  records = record_a ∷ record_b ∷ [];
-  chain = [];
-  body = record { start = 0; duration = 0; id = 1; strings = []; root = tree 0 0 ([]) ([]) };
-  classes = classes;
-  entries = entry 1 8 9 13 ∷ entry 2 13 14 18 ∷ entry 3 18 19 23 ∷ entry 4 23 24 28 ∷ [];
-}
-
 abbrev second : EventAt
-second = record { record_of = record_b; node = record { shape = inline 9; at = 7; end = 8 } }
+second = record { record_of = record_b; node = record { shape = inline 9; at = 332; end = 333 } }
 
 abbrev line : ℕ → Parent → Line
 line n parent = record { entry = n; parent = parent }
 
-lines : lines_of rings ≡ line 0 (OfEvent 0) ∷ line 2 (OfEvent 1) ∷ line 1 (OfEntry 0) ∷ line 3 (OfEntry 2) ∷ []
+lines : lines_of rings_parts ≡ line 0 (OfEvent 0) ∷ line 2 (OfEvent 1) ∷ line 1 (OfEntry 0) ∷ line 3 (OfEntry 2) ∷ []
 unfolding lines_of events_of is_event_class value_of number_in_force run int_at string_format class_format value_format kind_of
 lines = refl
 
-receipt : receipt_of rings ≡ 4 ∷ 0 ∷ 0 ∷ 0 ∷ 2 ∷ 0 ∷ 1 ∷ 1 ∷ 1 ∷ 0 ∷ 3 ∷ 1 ∷ 2 ∷ []
+receipt : receipt_of rings_parts ≡ 4 ∷ 0 ∷ 0 ∷ 0 ∷ 2 ∷ 0 ∷ 1 ∷ 1 ∷ 1 ∷ 0 ∷ 3 ∷ 1 ∷ 2 ∷ []
 unfolding receipt_of lines_of events_of is_event_class value_of number_in_force spell run int_at string_format class_format value_format kind_of
 receipt = refl
 
 -- The lines if only event 1 is kept, and their bytes in the receipt of the scrub, whose entries are 2 and 3.
-only_second : kept_lines rings (second ∷ []) ≡ line 2 (OfEvent 0) ∷ line 3 (OfEntry 2) ∷ []
+only_second : kept_lines rings_parts (second ∷ []) ≡ line 2 (OfEvent 0) ∷ line 3 (OfEntry 2) ∷ []
 unfolding kept_lines value_of number_in_force run int_at string_format class_format value_format kind_of
 only_second = refl
 
@@ -110,11 +77,11 @@ at_the_end g = refl
 receipts_longer : (g : Given) → Compared g [] None [] (9 ∷ []) 2 (Doubted 2 ReceiptBad)
 receipts_longer g = refl
 
-output_longer : (g : Given) → Compared g [] None (rings ∷ []) [] 2 (Doubted 3 ChunksDiffer)
+output_longer : (g : Given) → Compared g [] None (rings_parts ∷ []) [] 2 (Doubted 3 ChunksDiffer)
 output_longer g = refl
 
-output_shorter : (g : Given) → Compared g (rings ∷ []) None [] [] 2 (Doubted 3 ChunksDiffer)
+output_shorter : (g : Given) → Compared g (rings_parts ∷ []) None [] [] 2 (Doubted 3 ChunksDiffer)
 output_shorter g = refl
 
-input_refused : (g : Given) (f : Refusal) → Compared g [] (Some f) (rings ∷ []) (9 ∷ []) 2 (Refused f)
+input_refused : (g : Given) (f : Refusal) → Compared g [] (Some f) (rings_parts ∷ []) (9 ∷ []) 2 (Refused f)
 input_refused g f = refl
