@@ -2,32 +2,15 @@
 ghost use Rattle.std.specs.Prelude.{◌≤◌};
 
 use crate::kinds::kinds;
-use jfr_base::ReadFault;
+use crate::shown::Form::Lines;
+use crate::shown::{Shown, compare, with_chunk};
 use jfr_chunk::Chunk;
 use jfr_fixtures::{JDK_LIKE, RINGS, STRINGS, with_classes};
-use jfr_header::is_cut;
-use jfr_outside::{NoMemory, Text};
-use jfr_show::{TextBuilder, event_text, show_event};
+use jfr_outside::NoMemory;
+use jfr_show::{TextBuilder, show_event};
 use std::alloc::Global;
 use std::process::Abort;
 use std::test::Fail;
-
-/// The chunk of these bytes.
-pub(crate) fn read<'a>(alloc: Global, bytes: &'a [u8]) -> Result<Chunk<'a>, ReadFault> {
-    if !is_cut(bytes) {
-        return Err(ReadFault::Memory);
-    }
-    Chunk::read(alloc, bytes)
-}
-
-// The text of event `number` of the chunk with these bytes.
-fn text_of(alloc: Global, bytes: &[u8], number: usize, depth: u8) -> Result<Text, Fail>
-    requires { depth ≤ 8 }
-{
-    let chunk = read(alloc, bytes)?;
-    let event = chunk.event(number).ok_or("no event")?;
-    Ok(event_text(alloc, &chunk, &event, depth)?)
-}
 
 // Adds the text of event `number`.
 fn add_text(
@@ -44,40 +27,29 @@ fn add_text(
     }
 }
 
-// Compares the text of event `number`.
-fn compare(
-    rt: &impl Abort,
-    alloc: Global,
-    bytes: &[u8],
-    number: usize,
-    depth: u8,
-    text: &str,
-) -> Result<(), Fail>
-    requires { depth ≤ 8 }
-{
-    let shown = text_of(alloc, bytes, number, depth)?;
-    assert_eq!(rt; shown.as_str(), text);
-    Ok(())
-}
-
-// The texts of the first two events of a chunk, one after the other.
-fn two_texts(alloc: Global, bytes: &[u8]) -> Result<TextBuilder, Fail> {
-    let chunk = read(alloc, bytes)?;
-    let mut out = TextBuilder::new(alloc);
+// Adds the texts of the first two events, one after the other, to a builder that is cleared.
+fn add_two_texts(chunk: &Chunk<'_>, out: &mut TextBuilder) -> Result<(), NoMemory> {
     out.push_ascii("left")?;
     out.clear();
-    add_text(&chunk, 0, 0, &mut out)?;
-    add_text(&chunk, 1, 0, &mut out)?;
-    Ok(out)
+    add_text(chunk, 0, 0, out)?;
+    add_text(chunk, 1, 0, out)
+}
+
+// Compares them.
+fn compare_two_texts(rt: &impl Abort, alloc: Global, chunk: &Chunk<'_>) -> Result<(), Fail> {
+    let mut out = TextBuilder::new(alloc);
+    add_two_texts(chunk, &mut out)?;
+    let text = "t.A {\n  n = 300\n  node = t.Node#1\n}\nt.B {\n  node = t.Node#3\n}\n";
+    assert_eq!(rt; out.as_bytes(), text.as_bytes());
+    Ok(())
 }
 
 #[test]
 fn events_follow_one_another(rt: HostRuntime) -> Result<(), Fail> {
-    let alloc = rt.alloc();
-    let out = two_texts(alloc, &with_classes(alloc, RINGS, 333)?)?;
-    let text = "t.A {\n  n = 300\n  node = t.Node#1\n}\nt.B {\n  node = t.Node#3\n}\n";
-    assert_eq!(rt; out.as_bytes(), text.as_bytes());
-    Ok(())
+    let bytes = with_classes(rt.alloc(), RINGS, 333)?;
+    with_chunk(rt.alloc(), &bytes, |chunk| {
+        compare_two_texts(&rt, rt.alloc(), chunk)
+    })
 }
 
 // The events of the chunk of rings, to the depth 0 and to the depth 2.
@@ -115,14 +87,17 @@ const DEEP_B: &str = "t.B {
 }
 ";
 
+const OF_RINGS: [Shown; 4] = [
+    (Lines, 0, 0, FLAT_A),
+    (Lines, 1, 0, FLAT_B),
+    (Lines, 0, 2, DEEP_A),
+    (Lines, 1, 2, DEEP_B),
+];
+
 #[test]
 fn references_are_followed_to_the_depth(rt: HostRuntime) -> Result<(), Fail> {
-    let alloc = rt.alloc();
-    let bytes = with_classes(alloc, RINGS, 333)?;
-    compare(&rt, alloc, &bytes, 0, 0, FLAT_A)?;
-    compare(&rt, alloc, &bytes, 1, 0, FLAT_B)?;
-    compare(&rt, alloc, &bytes, 0, 2, DEEP_A)?;
-    compare(&rt, alloc, &bytes, 1, 2, DEEP_B)
+    let bytes = with_classes(rt.alloc(), RINGS, 333)?;
+    compare(&rt, rt.alloc(), &bytes, &OF_RINGS)
 }
 
 const MISSING: &str = "t.A {
@@ -136,9 +111,8 @@ const MISSING: &str = "t.A {
 
 #[test]
 fn missing_constants_are_shown(rt: HostRuntime) -> Result<(), Fail> {
-    let alloc = rt.alloc();
-    let bytes = with_classes(alloc, STRINGS, 330)?;
-    compare(&rt, alloc, &bytes, 0, 2, MISSING)
+    let bytes = with_classes(rt.alloc(), STRINGS, 330)?;
+    compare(&rt, rt.alloc(), &bytes, &[(Lines, 0, 2, MISSING)])
 }
 
 const OF_EACH_KIND: &str = "t.All {
@@ -180,9 +154,8 @@ const OF_EACH_KIND: &str = "t.All {
 
 #[test]
 fn values_of_each_kind_are_shown(rt: HostRuntime) -> Result<(), Fail> {
-    let alloc = rt.alloc();
-    let bytes = kinds(alloc)?;
-    compare(&rt, alloc, &bytes, 0, 1, OF_EACH_KIND)
+    let bytes = kinds(rt.alloc())?;
+    compare(&rt, rt.alloc(), &bytes, &[(Lines, 0, 1, OF_EACH_KIND)])
 }
 
 const PARK: &str = "jdk.ThreadPark {
@@ -213,5 +186,5 @@ const PARK: &str = "jdk.ThreadPark {
 
 #[test]
 fn a_stack_trace_is_shown(rt: HostRuntime) -> Result<(), Fail> {
-    compare(&rt, rt.alloc(), &JDK_LIKE, 0, 1, PARK)
+    compare(&rt, rt.alloc(), &JDK_LIKE, &[(Lines, 0, 1, PARK)])
 }

@@ -1,39 +1,9 @@
 //! The lines of JSON of events.
-ghost use Rattle.std.specs.Prelude.{◌≤◌};
-
-use crate::events::read;
 use crate::kinds::{kinds, long_names};
+use crate::shown::Form::Json;
+use crate::shown::{Shown, compare};
 use jfr_fixtures::{JDK_LIKE, RINGS, STRINGS, with_classes};
-use jfr_outside::Text;
-use jfr_show::event_json;
-use std::alloc::Global;
-use std::process::Abort;
 use std::test::Fail;
-
-// The line of event `number` of the chunk with these bytes.
-fn line_of(alloc: Global, bytes: &[u8], number: usize, depth: u8) -> Result<Text, Fail>
-    requires { depth ≤ 8 }
-{
-    let chunk = read(alloc, bytes)?;
-    let event = chunk.event(number).ok_or("no event")?;
-    Ok(event_json(alloc, &chunk, &event, depth)?)
-}
-
-// Compares the line of event `number`.
-fn compare(
-    rt: &impl Abort,
-    alloc: Global,
-    bytes: &[u8],
-    number: usize,
-    depth: u8,
-    line: &str,
-) -> Result<(), Fail>
-    requires { depth ≤ 8 }
-{
-    let shown = line_of(alloc, bytes, number, depth)?;
-    assert_eq!(rt; shown.as_str(), line);
-    Ok(())
-}
 
 // The events of the chunk of rings.
 const RING_A: &str =
@@ -44,12 +14,12 @@ const RING_B: &str =
     r#"{"type":"t.B","values":{"node":{"next":{"class":"t.Node","key":4},"text":"r"}}}
 "#;
 
+const OF_RINGS: [Shown; 2] = [(Json, 0, 1, RING_A), (Json, 1, 1, RING_B)];
+
 #[test]
 fn references_are_objects(rt: HostRuntime) -> Result<(), Fail> {
-    let alloc = rt.alloc();
-    let bytes = with_classes(alloc, RINGS, 333)?;
-    compare(&rt, alloc, &bytes, 0, 1, RING_A)?;
-    compare(&rt, alloc, &bytes, 1, 1, RING_B)
+    let bytes = with_classes(rt.alloc(), RINGS, 333)?;
+    compare(&rt, rt.alloc(), &bytes, &OF_RINGS)
 }
 
 const MISSING: &str =
@@ -58,9 +28,8 @@ const MISSING: &str =
 
 #[test]
 fn missing_constants_are_members(rt: HostRuntime) -> Result<(), Fail> {
-    let alloc = rt.alloc();
-    let bytes = with_classes(alloc, STRINGS, 330)?;
-    compare(&rt, alloc, &bytes, 0, 2, MISSING)
+    let bytes = with_classes(rt.alloc(), STRINGS, 330)?;
+    compare(&rt, rt.alloc(), &bytes, &[(Json, 0, 2, MISSING)])
 }
 
 const OF_EACH_KIND: &str =
@@ -68,9 +37,8 @@ const OF_EACH_KIND: &str =
 
 #[test]
 fn members_are_ordered_by_their_keys(rt: HostRuntime) -> Result<(), Fail> {
-    let alloc = rt.alloc();
-    let bytes = kinds(alloc)?;
-    compare(&rt, alloc, &bytes, 0, 1, OF_EACH_KIND)
+    let bytes = kinds(rt.alloc())?;
+    compare(&rt, rt.alloc(), &bytes, &[(Json, 0, 1, OF_EACH_KIND)])
 }
 
 const LONG_KEYS: &str =
@@ -79,9 +47,8 @@ const LONG_KEYS: &str =
 
 #[test]
 fn long_names_are_keys(rt: HostRuntime) -> Result<(), Fail> {
-    let alloc = rt.alloc();
-    let bytes = long_names(alloc)?;
-    compare(&rt, alloc, &bytes, 0, 1, LONG_KEYS)
+    let bytes = long_names(rt.alloc())?;
+    compare(&rt, rt.alloc(), &bytes, &[(Json, 0, 1, LONG_KEYS)])
 }
 
 const PARK: &str =
@@ -90,5 +57,5 @@ const PARK: &str =
 
 #[test]
 fn a_stack_trace_is_an_object(rt: HostRuntime) -> Result<(), Fail> {
-    compare(&rt, rt.alloc(), &JDK_LIKE, 0, 1, PARK)
+    compare(&rt, rt.alloc(), &JDK_LIKE, &[(Json, 0, 1, PARK)])
 }

@@ -11,4 +11,6 @@ mod kinds;
 #[cfg(test)]
 mod metadata;
 #[cfg(test)]
+mod shown;
+#[cfg(test)]
 mod totals;

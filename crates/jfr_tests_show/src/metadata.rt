@@ -1,9 +1,8 @@
 //! The text of the metadata.
-use crate::events::read;
 use crate::kinds::kinds;
-use jfr_base::ReadFault;
+use crate::shown::with_chunk;
+use jfr_chunk::Chunk;
 use jfr_fixtures::{JDK_LIKE, RINGS, with_classes};
-use jfr_outside::Text;
 use jfr_show::metadata_text;
 use std::alloc::Global;
 use std::process::Abort;
@@ -109,13 +108,20 @@ jdk.CPULoad id 103 super jdk.jfr.Event
   machineTotal: float
 ";
 
-// The text of the chunk of these bytes.
-fn text_of(alloc: Global, bytes: &[u8], number: u64) -> Result<Text, ReadFault> {
-    let chunk = read(alloc, bytes)?;
-    Ok(metadata_text(alloc, &chunk, number)?)
+// Compares the text of a chunk.
+fn compare_text(
+    rt: &impl Abort,
+    alloc: Global,
+    chunk: &Chunk<'_>,
+    number: u64,
+    text: &str,
+) -> Result<(), Fail> {
+    let shown = metadata_text(alloc, chunk, number)?;
+    assert_eq!(rt; shown.as_str(), text);
+    Ok(())
 }
 
-// Compares it.
+// Compares the text of the chunk with these bytes.
 fn compare(
     rt: &impl Abort,
     alloc: Global,
@@ -123,15 +129,24 @@ fn compare(
     number: u64,
     text: &str,
 ) -> Result<(), Fail> {
-    let shown = text_of(alloc, bytes, number)?;
-    assert_eq!(rt; shown.as_str(), text);
-    Ok(())
+    with_chunk(alloc, bytes, |chunk| {
+        compare_text(rt, alloc, chunk, number, text)
+    })
 }
 
 #[test]
 fn classes_are_shown(rt: HostRuntime) -> Result<(), Fail> {
-    let alloc = rt.alloc();
-    compare(&rt, alloc, &with_classes(alloc, RINGS, 333)?, 1, OF_RINGS)?;
-    compare(&rt, alloc, &kinds(alloc)?, 1, OF_KINDS)?;
-    compare(&rt, alloc, &JDK_LIKE, 2, OF_JDK_LIKE)
+    let rings = with_classes(rt.alloc(), RINGS, 333)?;
+    compare(&rt, rt.alloc(), &rings, 1, OF_RINGS)
+}
+
+#[test]
+fn arrays_are_shown(rt: HostRuntime) -> Result<(), Fail> {
+    let kinds = kinds(rt.alloc())?;
+    compare(&rt, rt.alloc(), &kinds, 1, OF_KINDS)
+}
+
+#[test]
+fn categories_are_shown(rt: HostRuntime) -> Result<(), Fail> {
+    compare(&rt, rt.alloc(), &JDK_LIKE, 2, OF_JDK_LIKE)
 }
