@@ -1,5 +1,5 @@
 //! Which events the options of a filter keep.
-use crate::reading::read;
+use crate::reading::with_chunk;
 use jfr_chunk::{Chunk, Kept};
 use jfr_filter::{Filter, Side};
 use jfr_fixtures::{JDK_LIKE, jdk_unnamed};
@@ -30,103 +30,70 @@ fn give(filter: &mut Filter, side: Side, list: &str) -> Result<(), Fail> {
     Ok(())
 }
 
-// The filter of one option.
-fn filter_of(alloc: Global, side: Side, list: &str) -> Result<Filter, Fail> {
+/// The filter of one option.
+pub(crate) fn filter_of(alloc: Global, side: Side, list: &str) -> Result<Filter, Fail> {
     let mut filter = Filter::new(alloc);
     give(&mut filter, side, list)?;
     Ok(filter)
 }
 
-// Compares the flags of events.
-fn compare_flags(rt: &impl Abort, kept: &Kept, list: &str, flags: &[bool]) {
-    assert_eq!(rt; kept.len(), flags.len(), "{list}");
+// Whether these are the flags of all events.
+fn has_flags(kept: &Kept, flags: &[bool]) -> bool {
     for (number, flag) in flags.iter().enumerate() {
-        assert_eq!(rt; kept.get(number), Some(*flag), "{list}");
+        if kept.get(number) != Some(*flag) {
+            return false;
+        }
     }
+    kept.len() == flags.len()
 }
 
+// An option, its list, and the events that it keeps.
+type Choice = (Side, &'static str, &'static [bool]);
+
 // Compares which events of a chunk an option keeps.
-fn compare_kept(
+fn compare_choice(
     rt: &impl Abort,
     alloc: Global,
     chunk: &Chunk<'_>,
-    side: Side,
-    list: &str,
-    flags: &[bool],
+    (side, list, flags): Choice,
 ) -> Result<(), Fail> {
     let filter = filter_of(alloc, side, list)?;
     let kept = choose(alloc, chunk, &filter)?;
-    compare_flags(rt, &kept, list, flags);
+    assert!(rt; has_flags(&kept, flags), "{list}");
     Ok(())
 }
 
 // By class, by the name in force of the thread, and by category.
-fn compare_choices(rt: &impl Abort, alloc: Global, chunk: &Chunk<'_>) -> Result<(), Fail> {
-    compare_kept(rt, alloc, chunk, Side::IncludeEvents, "ThreadPark", PARK)?;
-    compare_kept(
-        rt,
-        alloc,
-        chunk,
-        Side::ExcludeEvents,
-        "jdk.*Park,CPULoad",
-        ENTER,
-    )?;
-    compare_kept(rt, alloc, chunk, Side::IncludeThreads, "worker*", ENTER)?;
-    compare_kept(rt, alloc, chunk, Side::IncludeThreads, "worker-1", NONE)?;
-    compare_kept(rt, alloc, chunk, Side::IncludeThreads, "*", PARK_AND_ENTER)?;
-    compare_kept(
-        rt,
-        alloc,
-        chunk,
-        Side::ExcludeThreads,
-        "main",
-        ENTER_AND_LOAD,
-    )?;
-    compare_kept(
-        rt,
-        alloc,
-        chunk,
-        Side::IncludeCategories,
-        "Operating*",
-        LOAD,
-    )?;
-    compare_kept(
-        rt,
-        alloc,
-        chunk,
-        Side::ExcludeCategories,
-        "Processor",
-        PARK_AND_ENTER,
-    )
-}
+const CHOICES: [Choice; 8] = [
+    (Side::IncludeEvents, "ThreadPark", PARK),
+    (Side::ExcludeEvents, "jdk.*Park,CPULoad", ENTER),
+    (Side::IncludeThreads, "worker*", ENTER),
+    (Side::IncludeThreads, "worker-1", NONE),
+    (Side::IncludeThreads, "*", PARK_AND_ENTER),
+    (Side::ExcludeThreads, "main", ENTER_AND_LOAD),
+    (Side::IncludeCategories, "Operating*", LOAD),
+    (Side::ExcludeCategories, "Processor", PARK_AND_ENTER),
+];
 
-// Events are chosen by what the options say.
-fn compare_chosen(rt: &impl Abort, alloc: Global) -> Result<(), Fail> {
-    let chunk = read(alloc, &JDK_LIKE)?;
-    compare_choices(rt, alloc, &chunk)
+// Compares which events of a chunk each option keeps.
+fn compare_choices(rt: &impl Abort, alloc: Global, chunk: &Chunk<'_>) -> Result<(), Fail> {
+    for choice in CHOICES.iter() {
+        compare_choice(rt, alloc, chunk, *choice)?;
+    }
+    Ok(())
 }
 
 #[test]
 fn events_are_chosen(rt: HostRuntime) -> Result<(), Fail> {
-    compare_chosen(&rt, rt.alloc())
-}
-
-// Compares which events a list of threads keeps of the chunk whose thread of key 2 has the system name `w`
-// and a Java name of this kind.
-fn compare_threads(
-    rt: &impl Abort,
-    alloc: Global,
-    kind: u8,
-    list: &str,
-    flags: &[bool],
-) -> Result<(), Fail> {
-    let bytes = jdk_unnamed(alloc, kind)?;
-    let chunk = read(alloc, &bytes)?;
-    compare_kept(rt, alloc, &chunk, Side::IncludeThreads, list, flags)
+    with_chunk(rt.alloc(), &JDK_LIKE, |chunk| {
+        compare_choices(&rt, rt.alloc(), chunk)
+    })
 }
 
 // A kind of Java name, a list of threads, and the events that it keeps.
-const THREADS: [(u8, &str, &[bool]); 7] = [
+type Threads = (u8, &'static str, &'static [bool]);
+
+const THREADS: [Threads; 7] = [
     (0, "w", ENTER),
     (0, "worker*", NONE),
     (0, "main", PARK),
@@ -136,11 +103,24 @@ const THREADS: [(u8, &str, &[bool]); 7] = [
     (1, "*", PARK_AND_ENTER),
 ];
 
+// Compares which events a list of threads keeps of the chunk whose thread of key 2 has the system name `w`
+// and a Java name of this kind.
+fn compare_threads(
+    rt: &impl Abort,
+    alloc: Global,
+    (kind, list, flags): Threads,
+) -> Result<(), Fail> {
+    let bytes = jdk_unnamed(alloc, kind)?;
+    with_chunk(alloc, &bytes, |chunk| {
+        compare_choice(rt, alloc, chunk, (Side::IncludeThreads, list, flags))
+    })
+}
+
 // A thread without a Java name goes by its system name. The empty text is a name.
 #[test]
 fn threads_go_by_their_system_names(rt: HostRuntime) -> Result<(), Fail> {
-    for (kind, list, flags) in THREADS.iter() {
-        compare_threads(&rt, rt.alloc(), *kind, list, flags)?;
+    for threads in THREADS.iter() {
+        compare_threads(&rt, rt.alloc(), *threads)?;
     }
     Ok(())
 }

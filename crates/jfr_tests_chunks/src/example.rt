@@ -2,7 +2,7 @@
 ghost use Rattle.jfr_header.specs.Fronts.{Whole};
 
 use crate::paths::words_of;
-use crate::reading::read;
+use crate::reading::with_chunk;
 use jfr_base::{NoMemory, ReadFault, Words};
 use jfr_chunk::Chunk;
 use jfr_example::{constant_field, texts_of};
@@ -22,16 +22,27 @@ use std::test::Fail;
 fn thread_names<P: Place>(alloc: Global, place: &mut P) -> Result<Words, Ending> {
     let names = field_names(alloc)?;
     let mut texts = Words::new(alloc);
+    read_chunks(alloc, place, &names, &mut texts)?;
+    Ok(texts)
+}
+
+// Reads each chunk of a recording, and adds the texts to which the names lead from its events.
+fn read_chunks<P: Place>(
+    alloc: Global,
+    place: &mut P,
+    names: &Words,
+    texts: &mut Words,
+) -> Result<(), Ending> {
     let mut cutter = ChunkCutter::new(alloc, 0, 1);
     'chunks: loop {
         match cutter.next(place) {
             Cut::Chunk => {}
-            Cut::End => return Ok(texts),
+            Cut::End => return Ok(()),
             Cut::Refused(refusal) => return Err(Ending::Refused(refusal)),
             Cut::Failed => return Err(Ending::ReadFault),
             Cut::Memory => return Err(Ending::Memory),
         }
-        match read_chunk(alloc, cutter.bytes(), &names, &mut texts) {
+        match read_chunk(alloc, cutter.bytes(), names, texts) {
             Ok(()) => {}
             Err(fault) => return Err(Ending::of_chunk(cutter.number(), fault)),
         }
@@ -56,8 +67,7 @@ fn read_chunk(
     requires { Whole bytes.now }
 {
     let chunk = Chunk::read(alloc, bytes)?;
-    add_texts(alloc, &chunk, names, texts)?;
-    Ok(())
+    add_texts(alloc, &chunk, names, texts)
 }
 
 // Adds the text to which the names lead from each event that has one.
@@ -66,43 +76,75 @@ fn add_texts(
     chunk: &Chunk<'_>,
     names: &Words,
     texts: &mut Words,
-) -> Result<(), NoMemory> {
+) -> Result<(), ReadFault> {
     for number in 0..chunk.event_count() {
-        if let Some(event) = chunk.event(number) {
-            if let Some(text) = named(alloc, chunk, &event, names)? {
-                texts.push_text(text)?;
-            }
+        add_text(alloc, chunk, number, names, texts)?;
+    }
+    Ok(())
+}
+
+// Adds the text of an event, if it has one.
+fn add_text(
+    alloc: Global,
+    chunk: &Chunk<'_>,
+    number: usize,
+    names: &Words,
+    texts: &mut Words,
+) -> Result<(), NoMemory> {
+    if let Some(event) = chunk.event(number) {
+        if let Some(text) = named(alloc, chunk, &event, names)? {
+            return texts.push_text(text);
         }
     }
     Ok(())
 }
 
+// Adds a chunk twice.
+fn push_twice(bytes: &mut Vec<u8>, chunk: &[u8]) -> Result<(), AllocError> {
+    bytes.extend_from_slice(chunk)?;
+    bytes.extend_from_slice(chunk)
+}
+
 // A recording of two chunks, the same chunk twice.
 fn two_chunks(alloc: Global) -> Result<Vec<u8>, AllocError> {
-    let mut bytes = Vec::from_slice(alloc, JDK_LIKE.as_slice())?;
-    bytes.extend_from_slice(&JDK_LIKE)?;
+    let mut bytes = Vec::new(alloc);
+    push_twice(&mut bytes, &JDK_LIKE)?;
     Ok(bytes)
 }
 
-// The last of a chunk's three events has no thread.
-#[test]
-fn a_program_reads_names_of_threads(rt: HostRuntime) -> Result<(), Fail> {
-    let mut place = MemoryPlace::new(rt.alloc());
-    place.put("a.jfr", &two_chunks(rt.alloc())?)?;
+// The names of the threads of the two chunks. The last of a chunk's three events has no thread.
+const THREADS: &[&str] = &["main", "worker-renamed", "main", "worker-renamed"];
+
+// Puts a recording into a place, and opens it.
+fn open_recording(place: &mut MemoryPlace, recording: &[u8]) -> Result<(), Fail> {
+    place.put("a.jfr", recording)?;
     place.open_input("a.jfr")?;
-    let texts = thread_names(rt.alloc(), &mut place)?;
-    compare_words(&rt, &texts, THREADS);
     Ok(())
 }
 
-// The names of the threads of the two chunks.
-const THREADS: &[&str] = &["main", "worker-renamed", "main", "worker-renamed"];
+// Compares the names of threads of the recording that is open.
+fn compare_thread_names(
+    rt: &impl Abort,
+    alloc: Global,
+    place: &mut MemoryPlace,
+) -> Result<(), Fail> {
+    let texts = thread_names(alloc, place)?;
+    compare_words(rt, &texts, THREADS);
+    Ok(())
+}
+
+#[test]
+fn a_program_reads_names_of_threads(rt: HostRuntime) -> Result<(), Fail> {
+    let mut place = MemoryPlace::new(rt.alloc());
+    open_recording(&mut place, &two_chunks(rt.alloc())?)?;
+    compare_thread_names(&rt, rt.alloc(), &mut place)
+}
 
 // Compares words with these.
 fn compare_words(rt: &impl Abort, words: &Words, expected: &[&str]) {
     assert_eq!(rt; words.len(), expected.len());
     for (number, word) in expected.iter().enumerate() {
-        assert_eq!(rt; words.get(number), Some(*word));
+        assert!(rt; words.get(number) == Some(*word), "{word}");
     }
 }
 
@@ -130,30 +172,21 @@ fn compare(rt: &impl Abort, chunk: &Chunk<'_>, row: &Row) {
     }
 }
 
-#[test]
-fn fields_of_constants_are_found(rt: HostRuntime) -> Result<(), Fail> {
-    let bytes = with_classes(rt.alloc(), RINGS, 333)?;
-    let chunk = read(rt.alloc(), &bytes)?;
+// Compares what is found for each row.
+fn compare_all(rt: &impl Abort, chunk: &Chunk<'_>) -> Result<(), Fail> {
     for row in ROWS.iter() {
-        compare(&rt, &chunk, row);
+        compare(rt, chunk, row);
     }
     Ok(())
 }
 
-// Texts of all events.
-
-// Compares the texts to which names lead from the events of the chunk with these records.
-fn compare_texts(
-    rt: &impl Abort,
-    alloc: Global,
-    records: &[u8],
-    names: &[&str],
-    expected: &[&str],
-) -> Result<(), Fail> {
-    let bytes = with_classes(alloc, records, 333)?;
-    let chunk = read(alloc, &bytes)?;
-    compare_texts_in(rt, alloc, &chunk, names, expected)
+#[test]
+fn fields_of_constants_are_found(rt: HostRuntime) -> Result<(), Fail> {
+    let bytes = with_classes(rt.alloc(), RINGS, 333)?;
+    with_chunk(rt.alloc(), &bytes, |chunk| compare_all(&rt, chunk))
 }
+
+// Texts of all events.
 
 // Compares the texts to which names lead from the events of a chunk.
 fn compare_texts_in(
@@ -169,13 +202,38 @@ fn compare_texts_in(
     Ok(())
 }
 
+// Records, names, and the texts to which they lead from the events.
+type Texts = (
+    &'static [u8],
+    &'static [&'static str],
+    &'static [&'static str],
+);
+
 // Events from which names lead to no text have none: a field that isn't there, and a string that is no text in
 // the end.
+const TEXTS: [Texts; 4] = [
+    (RINGS, &["node", "text"], &["p", "r"]),
+    (RINGS, &["node", "next", "text"], &["q", "s"]),
+    (RINGS, &["n"], &[]),
+    (KEYS, &["node", "text"], &["x"]),
+];
+
+// Compares them in the chunk of the records.
+fn compare_texts(
+    rt: &impl Abort,
+    alloc: Global,
+    (records, names, expected): Texts,
+) -> Result<(), Fail> {
+    let bytes = with_classes(alloc, records, 333)?;
+    with_chunk(alloc, &bytes, |chunk| {
+        compare_texts_in(rt, alloc, chunk, names, expected)
+    })
+}
+
 #[test]
 fn texts_of_all_events_are_found(rt: HostRuntime) -> Result<(), Fail> {
-    let alloc = rt.alloc();
-    compare_texts(&rt, alloc, RINGS, &["node", "text"], &["p", "r"])?;
-    compare_texts(&rt, alloc, RINGS, &["node", "next", "text"], &["q", "s"])?;
-    compare_texts(&rt, alloc, RINGS, &["n"], &[])?;
-    compare_texts(&rt, alloc, KEYS, &["node", "text"], &["x"])
+    for texts in TEXTS.iter() {
+        compare_texts(&rt, rt.alloc(), *texts)?;
+    }
+    Ok(())
 }

@@ -1,5 +1,5 @@
 //! Where paths and names lead.
-use crate::reading::read;
+use crate::reading::{read, with_chunk};
 use jfr_chunk::Chunk;
 use jfr_fixtures::{KEYS, RINGS, STRINGS, with_classes};
 use jfr_outside::{NoMemory, Text, Words};
@@ -30,25 +30,13 @@ fn place_at(
     chunk: &Chunk<'_>,
     steps: &[Step],
 ) -> Result<Option<(usize, usize)>, Fail> {
-    let path = path_of(alloc, steps)?;
     let event = chunk.event(0).ok_or("no event")?;
+    let path = path_of(alloc, steps)?;
     let start = fields_of(chunk, &event);
     match leads(chunk, &start, &path) {
         Some(node) => Ok(Some((node.at, node.end))),
         None => Ok(None),
     }
-}
-
-// Compares where a path leads.
-fn compare_place(
-    rt: &impl Abort,
-    alloc: Global,
-    chunk: &Chunk<'_>,
-    steps: &[Step],
-    place: Option<(usize, usize)>,
-) -> Result<(), Fail> {
-    assert_eq!(rt; place_at(alloc, chunk, steps)?, place);
-    Ok(())
 }
 
 // A reference of the first event, and from node to node of its ring.
@@ -70,55 +58,84 @@ const KEY: &[Step] = &[NODE, FOLLOW, TEXT, FOLLOW];
 
 const KEY_OF_A_KEY: &[Step] = &[NODE, FOLLOW, TEXT, FOLLOW, FOLLOW, FOLLOW];
 
-// Through fields and constants, around a ring and back to where it began.
-fn compare_ring(rt: &impl Abort, alloc: Global, chunk: &Chunk<'_>) -> Result<(), Fail> {
-    compare_place(rt, alloc, chunk, &[], Some((327, 330)))?;
-    compare_place(rt, alloc, chunk, &[NODE], Some((329, 330)))?;
-    compare_place(rt, alloc, chunk, &[NODE, FOLLOW], Some((343, 347)))?;
-    compare_place(rt, alloc, chunk, SECOND, Some((348, 352)))?;
-    compare_place(rt, alloc, chunk, BACK_TO_THE_FIRST, Some((343, 347)))
+// Steps, and where they lead.
+type Led = (&'static [Step], Option<(usize, usize)>);
+
+// Compares where a path leads.
+fn compare_path(
+    rt: &impl Abort,
+    alloc: Global,
+    chunk: &Chunk<'_>,
+    (steps, expected): Led,
+) -> Result<(), Fail> {
+    assert_eq!(rt; place_at(alloc, chunk, steps)?, expected);
+    Ok(())
 }
+
+// Compares where paths lead in a chunk.
+fn compare_paths_in(
+    rt: &impl Abort,
+    alloc: Global,
+    chunk: &Chunk<'_>,
+    paths: &[Led],
+) -> Result<(), Fail> {
+    for path in paths {
+        compare_path(rt, alloc, chunk, *path)?;
+    }
+    Ok(())
+}
+
+// Compares where paths lead in the chunk of these records.
+fn compare_paths(
+    rt: &impl Abort,
+    alloc: Global,
+    records: &[u8],
+    last: u64,
+    paths: &[Led],
+) -> Result<(), Fail> {
+    let bytes = with_classes(alloc, records, last)?;
+    with_chunk(alloc, &bytes, |chunk| {
+        compare_paths_in(rt, alloc, chunk, paths)
+    })
+}
+
+// Through fields and constants, around a ring and back to where it began.
+const AROUND_A_RING: [Led; 5] = [
+    (&[], Some((327, 330))),
+    (&[NODE], Some((329, 330))),
+    (&[NODE, FOLLOW], Some((343, 347))),
+    (SECOND, Some((348, 352))),
+    (BACK_TO_THE_FIRST, Some((343, 347))),
+];
 
 // Where there is no such field, item or constant.
-fn compare_nowhere(rt: &impl Abort, alloc: Global, chunk: &Chunk<'_>) -> Result<(), Fail> {
-    compare_place(rt, alloc, chunk, &[FOLLOW], None)?;
-    compare_place(rt, alloc, chunk, &[Step::Field(2)], None)?;
-    compare_place(rt, alloc, chunk, &[Step::Item(0)], None)?;
-    compare_place(rt, alloc, chunk, &[NODE, NEXT], None)?;
-    compare_place(rt, alloc, chunk, &[NODE, FOLLOW, TEXT, FOLLOW], None)
-}
+const NOWHERE: [Led; 5] = [
+    (&[FOLLOW], None),
+    (&[Step::Field(2)], None),
+    (&[Step::Item(0)], None),
+    (&[NODE, NEXT], None),
+    (&[NODE, FOLLOW, TEXT, FOLLOW], None),
+];
 
 // In the chunk of rings, paths lead around a ring, or nowhere.
-fn compare_rings(rt: &impl Abort, alloc: Global) -> Result<(), Fail> {
-    let bytes = with_classes(alloc, RINGS, 333)?;
-    let chunk = read(alloc, &bytes)?;
-    compare_ring(rt, alloc, &chunk)?;
-    compare_nowhere(rt, alloc, &chunk)
-}
-
 #[test]
 fn paths_lead_around_a_ring(rt: HostRuntime) -> Result<(), Fail> {
-    compare_rings(&rt, rt.alloc())
+    compare_paths(&rt, rt.alloc(), RINGS, 333, &AROUND_A_RING)?;
+    compare_paths(&rt, rt.alloc(), RINGS, 333, &NOWHERE)
 }
 
 // Through strings that are keys, also of themselves.
-fn compare_strings(rt: &impl Abort, alloc: Global, chunk: &Chunk<'_>) -> Result<(), Fail> {
-    compare_place(rt, alloc, chunk, &[NODE, FOLLOW, TEXT], Some((341, 343)))?;
-    compare_place(rt, alloc, chunk, KEY, Some((346, 348)))?;
-    compare_place(rt, alloc, chunk, KEY_OF_A_KEY, Some((349, 351)))?;
-    compare_place(rt, alloc, chunk, &[NODE, FOLLOW, NEXT, FOLLOW], None)
-}
+const THROUGH_STRINGS: [Led; 4] = [
+    (&[NODE, FOLLOW, TEXT], Some((341, 343))),
+    (KEY, Some((346, 348))),
+    (KEY_OF_A_KEY, Some((349, 351))),
+    (&[NODE, FOLLOW, NEXT, FOLLOW], None),
+];
 
 // In the chunk of strings, paths lead through strings.
-fn compare_keys(rt: &impl Abort, alloc: Global) -> Result<(), Fail> {
-    let bytes = with_classes(alloc, STRINGS, 330)?;
-    let chunk = read(alloc, &bytes)?;
-    compare_strings(rt, alloc, &chunk)
-}
-
 #[test]
 fn paths_lead_through_strings(rt: HostRuntime) -> Result<(), Fail> {
-    compare_keys(&rt, rt.alloc())
+    compare_paths(&rt, rt.alloc(), STRINGS, 330, &THROUGH_STRINGS)
 }
 
 // Adds names to words.
@@ -149,14 +166,14 @@ fn text_of(
 }
 
 // The number of an event, names, and the text to which they lead from it.
-type Named<'n> = (usize, &'n [&'n str], Option<&'n str>);
+type Named = (usize, &'static [&'static str], Option<&'static str>);
 
 // Compares a text to which names lead.
 fn compare_text(
     rt: &impl Abort,
     alloc: Global,
     chunk: &Chunk<'_>,
-    (number, names, expected): Named<'_>,
+    (number, names, expected): Named,
 ) -> Result<(), Fail> {
     let text = text_of(alloc, chunk, number, names)?;
     assert_eq!(rt; text.as_ref().map(Text::as_str), expected);
@@ -168,7 +185,7 @@ fn compare_texts_in(
     rt: &impl Abort,
     alloc: Global,
     chunk: &Chunk<'_>,
-    texts: &[Named<'_>],
+    texts: &[Named],
 ) -> Result<(), Fail> {
     for text in texts {
         compare_text(rt, alloc, chunk, *text)?;
@@ -182,7 +199,7 @@ fn compare_texts(
     alloc: Global,
     records: &[u8],
     last: u64,
-    texts: &[Named<'_>],
+    texts: &[Named],
 ) -> Result<(), Fail> {
     let bytes = with_classes(alloc, records, last)?;
     let chunk = read(alloc, &bytes)?;
@@ -191,7 +208,7 @@ fn compare_texts(
 
 // Names lead through references to texts, and through strings that are keys. A string that is no text
 // in the end, and a field that isn't there, have none.
-const OF_RINGS: &[Named<'static>] = &[
+const OF_RINGS: &[Named] = &[
     (0, &["node", "text"], Some("p")),
     (0, &["node", "next", "text"], Some("q")),
     (0, &["node", "next", "next", "text"], Some("p")),
@@ -201,12 +218,12 @@ const OF_RINGS: &[Named<'static>] = &[
     (0, &["text"], None),
 ];
 
-const OF_KEYS: &[Named<'static>] = &[
+const OF_KEYS: &[Named] = &[
     (0, &["node", "text"], None),
     (1, &["node", "text"], Some("x")),
 ];
 
-const OF_STRINGS: &[Named<'static>] = &[(0, &["node", "text"], None)];
+const OF_STRINGS: &[Named] = &[(0, &["node", "text"], None)];
 
 #[test]
 fn names_lead_to_texts(rt: HostRuntime) -> Result<(), Fail> {

@@ -1,10 +1,11 @@
 //! What a chunk becomes, piece by piece.
-use crate::reading::{chained, read};
+use crate::choice::filter_of;
+use crate::reading::{CHAINED, with_chunk};
 use jfr_chunk::Chunk;
 use jfr_filter::{Filter, Side};
 use jfr_fixtures::{
     CLASSES, CLASSES_OF_A, PLAIN, RINGS, STRINGS, STRINGS_SCRUBBED, THREE, THREE_SCRUBBED, TWICE,
-    TWICE_SCRUBBED, WIDE, WIDE_SCRUBBED, inert, with_classes, with_metadata,
+    TWICE_SCRUBBED, WIDE, WIDE_SCRUBBED, chunk_of, inert, with_classes, with_metadata,
 };
 use jfr_scrub::{Piece, Scrubber};
 use std::alloc::Global;
@@ -12,20 +13,24 @@ use std::process::Abort;
 use std::test::Fail;
 
 // The bytes of a piece.
-fn bytes_of<'s>(scrubber: &'s Scrubber<'_>, number: usize) -> Result<&'s [u8], Fail> {
-    match scrubber.piece(number) {
-        Some(Piece::Copied { bytes, .. }) => Ok(bytes),
-        Some(Piece::Made { from, to, .. }) => {
-            Ok(scrubber.made().get(from..to).ok_or("no such bytes")?)
-        }
-        None => Err("no such piece")?,
+fn bytes_of<'s>(scrubber: &'s Scrubber<'_>, number: usize) -> Option<&'s [u8]> {
+    match scrubber.piece(number)? {
+        Piece::Copied { bytes, .. } => Some(bytes),
+        Piece::Made { from, to, .. } => scrubber.made().get(from..to),
     }
+}
+
+// Adds a piece.
+fn push_piece(bytes: &mut Vec<u8>, scrubber: &Scrubber<'_>, number: usize) -> Result<(), Fail> {
+    let piece = bytes_of(scrubber, number).ok_or("no such piece")?;
+    bytes.extend_from_slice(piece)?;
+    Ok(())
 }
 
 // Adds the pieces.
 fn push_pieces(bytes: &mut Vec<u8>, scrubber: &Scrubber<'_>) -> Result<(), Fail> {
     for number in 0..scrubber.piece_count() {
-        bytes.extend_from_slice(bytes_of(scrubber, number)?)?;
+        push_piece(bytes, scrubber, number)?;
     }
     Ok(())
 }
@@ -81,20 +86,9 @@ fn compare_scrub(
     expected: &[u8],
     kept: (usize, usize),
 ) -> Result<(), Fail> {
-    let chunk = read(alloc, bytes)?;
-    compare_chunk(rt, alloc, &chunk, expected, kept)
-}
-
-// Compares what the chunk of these records becomes.
-fn compare_records(
-    rt: &impl Abort,
-    alloc: Global,
-    (records, last): (&[u8], u64),
-    expected: &[u8],
-    kept: (usize, usize),
-) -> Result<(), Fail> {
-    let bytes = with_classes(alloc, records, last)?;
-    compare_scrub(rt, alloc, &bytes, expected, kept)
+    with_chunk(alloc, bytes, |chunk| {
+        compare_chunk(rt, alloc, chunk, expected, kept)
+    })
 }
 
 // Records, and the metadata record and records that are left of them, each with the place of the last
@@ -119,31 +113,27 @@ const LEFT: [Left; 5] = [
 
 // Compares what is left of records.
 fn compare_left(rt: &impl Abort, alloc: Global, left: &Left) -> Result<(), Fail> {
-    let (records, (metadata, scrubbed, last), kept) = *left;
-    let expected = with_metadata(alloc, metadata, scrubbed, last)?;
-    compare_records(rt, alloc, records, &expected, kept)
-}
-
-// Compares what is left of inert records.
-fn compare_inert(rt: &impl Abort, alloc: Global) -> Result<(), Fail> {
-    let bytes = inert(alloc)?;
-    compare_scrub(rt, alloc, &bytes, &PLAIN, (0, 0))
+    let ((records, last), (metadata, scrubbed, scrubbed_last), kept) = *left;
+    let bytes = with_classes(alloc, records, last)?;
+    let expected = with_metadata(alloc, metadata, scrubbed, scrubbed_last)?;
+    compare_scrub(rt, alloc, &bytes, &expected, kept)
 }
 
 // A chunk of two checkpoints without pools stays as it is.
 fn compare_chained(rt: &impl Abort, alloc: Global) -> Result<(), Fail> {
-    let bytes = chained(alloc)?;
+    let (records, last) = CHAINED;
+    let bytes = chunk_of(alloc, records, last, 68)?;
     compare_scrub(rt, alloc, &bytes, &bytes, (0, 0))
 }
 
 // Without a filter a chunk keeps its events and what they reach, without the descriptions of event classes
-// that have no events, and nothing else.
+// that have no events, and nothing else. Inert records go.
 #[test]
 fn chunks_become_what_is_reached(rt: HostRuntime) -> Result<(), Fail> {
     for left in LEFT.iter() {
         compare_left(&rt, rt.alloc(), left)?;
     }
-    compare_inert(&rt, rt.alloc())?;
+    compare_scrub(&rt, rt.alloc(), &inert(rt.alloc())?, &PLAIN, (0, 0))?;
     compare_chained(&rt, rt.alloc())
 }
 
@@ -186,27 +176,16 @@ fn compare_events(
     compare_copied(rt, alloc, chunk, filter, (330, 333), None)
 }
 
-// The filter that keeps it.
-fn first_event(alloc: Global) -> Result<Filter, Fail> {
-    let mut filter = Filter::new(alloc);
-    filter.add(Side::IncludeEvents, "t.A")?;
-    Ok(filter)
-}
-
 // A kept event lies in one piece that is copied from its place, and one that goes in none.
-fn compare_first_event(rt: &impl Abort, alloc: Global, bytes: &[u8]) -> Result<(), Fail> {
-    let chunk = read(alloc, bytes)?;
-    let filter = first_event(alloc)?;
-    compare_events(rt, alloc, &chunk, &filter)
-}
-
-// They are copied of the chunk of rings.
-fn compare_rings(rt: &impl Abort, alloc: Global) -> Result<(), Fail> {
-    let bytes = with_classes(alloc, RINGS, 333)?;
-    compare_first_event(rt, alloc, &bytes)
+fn compare_first_event(rt: &impl Abort, alloc: Global, chunk: &Chunk<'_>) -> Result<(), Fail> {
+    let filter = filter_of(alloc, Side::IncludeEvents, "t.A")?;
+    compare_events(rt, alloc, chunk, &filter)
 }
 
 #[test]
 fn events_are_copied(rt: HostRuntime) -> Result<(), Fail> {
-    compare_rings(&rt, rt.alloc())
+    let rings = with_classes(rt.alloc(), RINGS, 333)?;
+    with_chunk(rt.alloc(), &rings, |chunk| {
+        compare_first_event(&rt, rt.alloc(), chunk)
+    })
 }

@@ -2,7 +2,7 @@
 ghost use Rattle.std.specs.Prelude.{◌≡◌, ◌<◌, length, IfOk};
 ghost use Rattle.jfr_chunk.specs.Parts.{events_of};
 
-use crate::reading::read;
+use crate::reading::with_chunk;
 use jfr_chunk::{Chunk, Kept};
 use jfr_fixtures::{RINGS, STRINGS, TWICE, with_classes};
 use jfr_reach::Marks;
@@ -13,16 +13,21 @@ use std::process::Abort;
 use std::sync::ledger::{Blank, Ledger};
 use std::test::Fail;
 
-// The events of these flags are kept.
-fn kept_by(alloc: Global, chunk: &Chunk<'_>, flags: &[bool]) -> Result<Kept, Fail>
-    ensures { IfOk result (λ kept. length kept ≡ length (events_of chunk.now)) }
-{
-    let mut kept = Kept::new(alloc, chunk.event_count())?;
+// Keeps the events of these flags.
+fn set_flags(kept: &mut Kept, flags: &[bool]) {
     for (number, flag) in flags.iter().enumerate() {
         if number < kept.len() {
             kept.set(number, *flag);
         }
     }
+}
+
+// The events of these flags are kept.
+fn kept_by(alloc: Global, chunk: &Chunk<'_>, flags: &[bool]) -> Result<Kept, Fail>
+    ensures { IfOk result (λ kept. length kept ≡ length (events_of chunk.now)) }
+{
+    let mut kept = Kept::new(alloc, chunk.event_count())?;
+    set_flags(&mut kept, flags);
     if kept.len() != chunk.event_count() {
         Err("a flag is wanting")?;
     }
@@ -64,45 +69,36 @@ fn compare_marks(
     Ok(())
 }
 
-// Reads the chunk of these records, and compares which entries the events of these flags reach.
+// Records, the place of their last checkpoint, which events are kept, and which entries they reach.
+type Reached = (&'static [u8], u64, &'static [bool], &'static [bool]);
+
+// Compares which entries events reach in the chunk of these records.
 fn compare_reached(
     rt: &impl Abort,
     alloc: Global,
-    records: &[u8],
-    last: u64,
-    flags: &[bool],
-    reached: &[bool],
+    (records, last, flags, reached): Reached,
 ) -> Result<(), Fail> {
     let bytes = with_classes(alloc, records, last)?;
-    let chunk = read(alloc, &bytes)?;
-    compare_marks(rt, alloc, &chunk, flags, reached)
-}
-
-// Which entries the first event reaches, and which the second.
-const FIRST: &[bool] = &[true, true, false, false];
-
-const SECOND: &[bool] = &[false, false, true, true];
-
-// Compares which entries each choice of the two events reaches.
-fn compare_rings(rt: &impl Abort, alloc: Global) -> Result<(), Fail> {
-    compare_reached(rt, alloc, RINGS, 333, &[true, false], FIRST)?;
-    compare_reached(rt, alloc, RINGS, 333, &[false, true], SECOND)?;
-    compare_reached(rt, alloc, RINGS, 333, &[true, true], &[true; 4])?;
-    compare_reached(rt, alloc, RINGS, 333, &[false, false], &[false; 4])
+    with_chunk(alloc, &bytes, |chunk| {
+        compare_marks(rt, alloc, chunk, flags, reached)
+    })
 }
 
 // An event reaches its own ring and no other, through strings too. Of two entries of a key it reaches
 // the last.
+const REACHED: [Reached; 6] = [
+    (RINGS, 333, &[true, false], &[true, true, false, false]),
+    (RINGS, 333, &[false, true], &[false, false, true, true]),
+    (RINGS, 333, &[true, true], &[true, true, true, true]),
+    (RINGS, 333, &[false, false], &[false, false, false, false]),
+    (TWICE, 344, &[true], &[false, true]),
+    (STRINGS, 330, &[true], &[true, true, true, false]),
+];
+
 #[test]
 fn events_reach_their_constants(rt: HostRuntime) -> Result<(), Fail> {
-    compare_rings(&rt, rt.alloc())?;
-    compare_reached(&rt, rt.alloc(), TWICE, 344, &[true], &[false, true])?;
-    compare_reached(
-        &rt,
-        rt.alloc(),
-        STRINGS,
-        330,
-        &[true],
-        &[true, true, true, false],
-    )
+    for reached in REACHED.iter() {
+        compare_reached(&rt, rt.alloc(), *reached)?;
+    }
+    Ok(())
 }

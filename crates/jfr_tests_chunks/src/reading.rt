@@ -2,27 +2,13 @@
 use jfr_base::{Flaw, ReadFault, Reason};
 use jfr_chunk::Chunk;
 use jfr_fixtures::{
-    BYTES_LEFT, NO_CLASSES, NO_NODES, NO_POOLS, RINGS, chunk_of, inert, plain_with, with_classes,
+    BYTES_LEFT, CLASSES, NO_CLASSES, NO_NODES, NO_POOLS, RINGS, chunk_of, inert, plain_with,
+    with_classes,
 };
 use jfr_header::is_cut;
 use std::alloc::{AllocError, Global};
 use std::process::Abort;
 use std::test::Fail;
-
-// The plain chunk.
-fn plain(alloc: Global) -> Result<Vec<u8>, AllocError> {
-    plain_with(alloc, NO_CLASSES, NO_POOLS)
-}
-
-// Two events, and the nodes to which they refer.
-fn rings(alloc: Global) -> Result<Vec<u8>, AllocError> {
-    with_classes(alloc, RINGS, 333)
-}
-
-// Only the events.
-fn no_nodes(alloc: Global) -> Result<Vec<u8>, AllocError> {
-    with_classes(alloc, NO_NODES, 333)
-}
 
 /// Reads a whole chunk.
 pub(crate) fn read<'a>(alloc: Global, bytes: &'a [u8]) -> Result<Chunk<'a>, ReadFault> {
@@ -32,27 +18,29 @@ pub(crate) fn read<'a>(alloc: Global, bytes: &'a [u8]) -> Result<Chunk<'a>, Read
     Chunk::read(alloc, bytes)
 }
 
-// How many events, chained checkpoints, entries and inert records a chunk has.
-fn counts(alloc: Global, bytes: &[u8]) -> Result<(usize, usize, usize, u64), ReadFault> {
+/// Reads a whole chunk, and lends it.
+pub(crate) fn with_chunk<F: FnOnce(&Chunk<'_>) -> Result<(), Fail> + Drop>(
+    alloc: Global,
+    bytes: &[u8],
+    see: F,
+) -> Result<(), Fail>
+    requires { F.IsAlwaysCallable see }
+{
     let chunk = read(alloc, bytes)?;
-    Ok((
-        chunk.event_count(),
-        chunk.chain().len(),
-        chunk.pools().len(),
-        chunk.inert_count(),
-    ))
+    see(&chunk)
 }
 
-// Compares how many a chunk has.
-fn compare_counts(
-    rt: &impl Abort,
-    alloc: Global,
-    bytes: Vec<u8>,
-    expected: (usize, usize, usize, u64),
-) -> Result<(), Fail> {
-    assert_eq!(rt; counts(alloc, &bytes)?, expected);
-    Ok(())
-}
+/// The records of a chunk, and the place of its last checkpoint.
+pub(crate) type Records = (&'static [&'static [u8]], u64);
+
+// The plain chunk.
+const PLAIN: Records = (&[NO_CLASSES, NO_POOLS], 96);
+
+// Two events, and the nodes to which they refer.
+const EVENTS_AND_NODES: Records = (&[CLASSES, RINGS], 333);
+
+// Only the events.
+const EVENTS: Records = (&[CLASSES, NO_NODES], 333);
 
 // A checkpoint that refers to the one before.
 const OLDER: &[u8] = &[
@@ -60,43 +48,80 @@ const OLDER: &[u8] = &[
 ];
 
 /// The plain chunk with it.
-pub(crate) fn chained(alloc: Global) -> Result<Vec<u8>, AllocError> {
-    chunk_of(alloc, &[NO_CLASSES, NO_POOLS, OLDER], 103, 68)
+pub(crate) const CHAINED: Records = (&[NO_CLASSES, NO_POOLS, OLDER], 103);
+
+// How many events, chained checkpoints, entries and inert records a chunk has.
+type Counts = (usize, usize, usize, u64);
+
+fn counts_of(chunk: &Chunk<'_>) -> Counts {
+    (
+        chunk.event_count(),
+        chunk.chain().len(),
+        chunk.pools().len(),
+        chunk.inert_count(),
+    )
 }
+
+// Compares how many a chunk has.
+fn compare_counts(
+    rt: &impl Abort,
+    alloc: Global,
+    bytes: &[u8],
+    counts: Counts,
+) -> Result<(), Fail> {
+    with_chunk(alloc, bytes, |chunk| {
+        assert_eq!(rt; counts_of(chunk), counts);
+        Ok(())
+    })
+}
+
+// Compares how many the chunk of these records has.
+fn compare_counted(
+    rt: &impl Abort,
+    alloc: Global,
+    (records, last): Records,
+    counts: Counts,
+) -> Result<(), Fail> {
+    let bytes = chunk_of(alloc, records, last, 68)?;
+    compare_counts(rt, alloc, &bytes, counts)
+}
+
+const COUNTED: [(Records, Counts); 4] = [
+    (PLAIN, (0, 1, 0, 0)),
+    (EVENTS_AND_NODES, (2, 1, 4, 0)),
+    (EVENTS, (2, 1, 0, 0)),
+    (CHAINED, (0, 2, 0, 0)),
+];
 
 #[test]
 fn counts_what_a_chunk_has(rt: HostRuntime) -> Result<(), Fail> {
-    let alloc = rt.alloc();
-    compare_counts(&rt, alloc, plain(alloc)?, (0, 1, 0, 0))?;
-    compare_counts(&rt, alloc, rings(alloc)?, (2, 1, 4, 0))?;
-    compare_counts(&rt, alloc, no_nodes(alloc)?, (2, 1, 0, 0))?;
-    compare_counts(&rt, alloc, chained(alloc)?, (0, 2, 0, 0))?;
-    compare_counts(&rt, alloc, inert(alloc)?, (0, 1, 0, 3))
+    for (records, counts) in COUNTED.iter() {
+        compare_counted(&rt, rt.alloc(), *records, *counts)?;
+    }
+    compare_counts(&rt, rt.alloc(), &inert(rt.alloc())?, (0, 1, 0, 3))
 }
 
 // Compares the second of two events, whose last field isn't the end of its record.
-fn compare_last_event(rt: &impl Abort, chunk: &Chunk<'_>) {
+fn compare_last_event(rt: &impl Abort, chunk: &Chunk<'_>) -> Result<(), Fail> {
     assert_eq!(rt; chunk.event_count(), 2);
-    let places = chunk
-        .event(1)
-        .map(|e| (e.frame.at, e.node.at, e.node.end, e.frame.size));
-    assert_eq!(rt; places, Some((330, 332, 333, 4)));
+    let event = chunk.event(1).ok_or("no second event")?;
+    let places = (
+        event.frame.at,
+        event.node.at,
+        event.node.end,
+        event.frame.size,
+    );
+    assert_eq!(rt; places, (330, 332, 333, 4));
     assert!(rt; chunk.event(2).is_none());
     assert_eq!(rt; chunk.event_record(1), Some(2));
     assert!(rt; chunk.event_record(2).is_none());
-}
-
-// Reads it.
-fn read_bytes_left(rt: &impl Abort, alloc: Global) -> Result<(), Fail> {
-    let bytes = with_classes(alloc, BYTES_LEFT, 334)?;
-    let chunk = read(alloc, &bytes)?;
-    compare_last_event(rt, &chunk);
     Ok(())
 }
 
 #[test]
 fn events_end_with_their_last_field(rt: HostRuntime) -> Result<(), Fail> {
-    read_bytes_left(&rt, rt.alloc())
+    let bytes = with_classes(rt.alloc(), BYTES_LEFT, 334)?;
+    with_chunk(rt.alloc(), &bytes, |chunk| compare_last_event(&rt, chunk))
 }
 
 // The places of bytes and what they become, and the flaw.
@@ -119,7 +144,7 @@ const EDITS_OF_PLAIN: [Edit; 14] = [
     (&[(74, 2), (100, 1)], 100, Reason::ChainDelta),
 ];
 
-const EDITS_OF_RINGS: [Edit; 13] = [
+const EDITS_OF_EVENTS_AND_NODES: [Edit; 13] = [
     (&[(250, 9)], 245, Reason::ClassBad),
     (&[(257, 15)], 252, Reason::ClassTwice),
     (&[(280, 21)], 275, Reason::FieldBad),
@@ -135,14 +160,22 @@ const EDITS_OF_RINGS: [Edit; 13] = [
     (&[(332, 0x83), (340, 10)], 340, Reason::PoolType),
 ];
 
-const EDITS_OF_NO_NODES: [Edit; 1] = [(&[(332, 0x83)], 332, Reason::Short)];
+const EDITS_OF_EVENTS: [Edit; 1] = [(&[(332, 0x83)], 332, Reason::Short)];
 
-fn refusal_of(alloc: Global, bytes: &[u8]) -> Result<Option<Flaw>, ReadFault> {
-    match read(alloc, bytes) {
-        Ok(_) => Ok(None),
-        Err(ReadFault::Flawed(flaw)) => Ok(Some(flaw)),
-        Err(ReadFault::Memory) => Err(ReadFault::Memory),
-    }
+const EDITED: [(Records, &[Edit]); 3] = [
+    (PLAIN, &EDITS_OF_PLAIN),
+    (EVENTS_AND_NODES, &EDITS_OF_EVENTS_AND_NODES),
+    (EVENTS, &EDITS_OF_EVENTS),
+];
+
+// The fault of a flaw.
+fn flawed(offset: u64, reason: Reason) -> Option<ReadFault> {
+    Some(ReadFault::Flawed(Flaw { offset, reason }))
+}
+
+// Compares why a chunk isn't read. If it is, there is no fault.
+fn compare_fault(rt: &impl Abort, alloc: Global, bytes: &[u8], fault: Option<ReadFault>) {
+    assert_eq!(rt; read(alloc, bytes).err(), fault);
 }
 
 // Edits some bytes.
@@ -154,60 +187,37 @@ fn edit(bytes: &mut [u8], edits: &[(usize, u8)]) {
     }
 }
 
-// Why a chunk with some bytes edited is refused.
-fn refusal_of_edited(
+// Compares the flaw of a chunk with some bytes edited.
+fn compare_edit(
+    rt: &impl Abort,
     alloc: Global,
-    chunk: &[u8],
-    edits: &[(usize, u8)],
-) -> Result<Option<Flaw>, ReadFault> {
-    let mut bytes = Vec::from_slice(alloc, chunk)?;
+    (records, last): Records,
+    (edits, offset, reason): Edit,
+) -> Result<(), Fail> {
+    let mut bytes = chunk_of(alloc, records, last, 68)?;
     edit(&mut bytes, edits);
-    refusal_of(alloc, &bytes)
+    compare_fault(rt, alloc, &bytes, flawed(offset, reason));
+    Ok(())
 }
 
 // Compares the flaw of each edit of a chunk.
 fn compare_edits(
     rt: &impl Abort,
     alloc: Global,
-    chunk: Vec<u8>,
+    records: Records,
     edits: &[Edit],
 ) -> Result<(), Fail> {
     for edit in edits {
-        compare_edit(rt, alloc, &chunk, *edit)?;
+        compare_edit(rt, alloc, records, *edit)?;
     }
-    Ok(())
-}
-
-// Compares the flaw of an edit.
-fn compare_edit(
-    rt: &impl Abort,
-    alloc: Global,
-    chunk: &[u8],
-    (edits, offset, reason): Edit,
-) -> Result<(), Fail> {
-    assert_eq!(rt;
-        refusal_of_edited(alloc, chunk, edits)?,
-        Some(Flaw { offset, reason })
-    );
     Ok(())
 }
 
 #[test]
 fn the_first_flaw_is_reported(rt: HostRuntime) -> Result<(), Fail> {
-    let alloc = rt.alloc();
-    compare_edits(&rt, alloc, plain(alloc)?, &EDITS_OF_PLAIN)?;
-    compare_edits(&rt, alloc, rings(alloc)?, &EDITS_OF_RINGS)?;
-    compare_edits(&rt, alloc, no_nodes(alloc)?, &EDITS_OF_NO_NODES)
-}
-
-// Compares why a chunk is refused, where it is.
-fn compare_refusal(
-    rt: &impl Abort,
-    alloc: Global,
-    bytes: Vec<u8>,
-    flaw: Option<Flaw>,
-) -> Result<(), Fail> {
-    assert_eq!(rt; refusal_of(alloc, &bytes)?, flaw);
+    for (records, edits) in EDITED.iter() {
+        compare_edits(&rt, rt.alloc(), *records, edits)?;
+    }
     Ok(())
 }
 
@@ -220,15 +230,15 @@ fn compare_checkpoint(
     reason: Reason,
 ) -> Result<(), Fail> {
     let bytes = plain_with(alloc, NO_CLASSES, checkpoint)?;
-    compare_refusal(rt, alloc, bytes, Some(Flaw { offset, reason }))
+    compare_fault(rt, alloc, &bytes, flawed(offset, reason));
+    Ok(())
 }
 
 #[test]
 fn checkpoints_end_with_their_last_pool(rt: HostRuntime) -> Result<(), Fail> {
-    let alloc = rt.alloc();
-    compare_checkpoint(&rt, alloc, &[4, 1, 0, 0], 100, Reason::Short)?;
+    compare_checkpoint(&rt, rt.alloc(), &[4, 1, 0, 0], 100, Reason::Short)?;
     let byte_left = &[8, 1, 0, 0, 0, 0, 0, 0];
-    compare_checkpoint(&rt, alloc, byte_left, 103, Reason::Trailing)
+    compare_checkpoint(&rt, rt.alloc(), byte_left, 103, Reason::Trailing)
 }
 
 // Adds elements, each of which is a child of the one before.
@@ -240,7 +250,7 @@ fn push_levels(metadata: &mut Vec<u8>, levels: u8) -> Result<(), AllocError> {
 }
 
 // A chunk whose elements are this many levels deep.
-fn levels(alloc: Global, levels: u8) -> Result<Vec<u8>, AllocError> {
+fn chunk_of_levels(alloc: Global, levels: u8) -> Result<Vec<u8>, AllocError> {
     let (head, _) = NO_CLASSES.split_at(22);
     let mut metadata = Vec::from_slice(alloc, head)?;
     push_levels(&mut metadata, levels)?;
@@ -250,13 +260,20 @@ fn levels(alloc: Global, levels: u8) -> Result<Vec<u8>, AllocError> {
     plain_with(alloc, &metadata, NO_POOLS)
 }
 
+// Compares why it isn't read.
+fn compare_levels(
+    rt: &impl Abort,
+    alloc: Global,
+    levels: u8,
+    fault: Option<ReadFault>,
+) -> Result<(), Fail> {
+    let bytes = chunk_of_levels(alloc, levels)?;
+    compare_fault(rt, alloc, &bytes, fault);
+    Ok(())
+}
+
 #[test]
 fn sixteen_levels_are_read(rt: HostRuntime) -> Result<(), Fail> {
-    let alloc = rt.alloc();
-    compare_refusal(&rt, alloc, levels(alloc, 16)?, None)?;
-    let flaw = Flaw {
-        offset: 138,
-        reason: Reason::TreeDeep,
-    };
-    compare_refusal(&rt, alloc, levels(alloc, 17)?, Some(flaw))
+    compare_levels(&rt, rt.alloc(), 16, None)?;
+    compare_levels(&rt, rt.alloc(), 17, flawed(138, Reason::TreeDeep))
 }

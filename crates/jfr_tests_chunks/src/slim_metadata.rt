@@ -1,5 +1,5 @@
 //! The metadata record without event classes that aren't used.
-use crate::reading::read;
+use crate::reading::with_chunk;
 use jfr_chunk::Chunk;
 use jfr_fixtures::{CLASSES_OF_A, CLASSES_OF_B, NO_EVENT_CLASSES, RINGS, with_classes};
 use jfr_meta::{Ids, slim, staying};
@@ -62,14 +62,11 @@ fn compare_all(rt: &impl Abort, alloc: Global, chunk: &Chunk<'_>) -> Result<(), 
     Ok(())
 }
 
-// Compares the records of the chunk of rings.
-fn compare_rings(rt: &impl Abort, alloc: Global) -> Result<(), Fail> {
-    let bytes = with_classes(alloc, RINGS, 333)?;
-    let chunk = read(alloc, &bytes)?;
-    compare_all(rt, alloc, &chunk)
-}
-
+// They are those of the chunk of rings.
 #[test]
 fn event_classes_that_are_not_used_go(rt: HostRuntime) -> Result<(), Fail> {
-    compare_rings(&rt, rt.alloc())
+    let bytes = with_classes(rt.alloc(), RINGS, 333)?;
+    with_chunk(rt.alloc(), &bytes, |chunk| {
+        compare_all(&rt, rt.alloc(), chunk)
+    })
 }

@@ -1,5 +1,5 @@
 use Rattle.std.proofs.Common.{◌≡◌, ◌-◌, ◌^◌, true}
-use Rattle.jfr_tests_chunks.proofs.example.thread_names.Given as goal
+use Rattle.jfr_tests_chunks.proofs.example.read_chunks.Given as goal
 
 -- The cutter has given only chunks.
 abbrev pub invariant-chunks : goal.invariant-chunks
