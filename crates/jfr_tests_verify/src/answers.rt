@@ -87,7 +87,7 @@ fn compare_row(
 ) -> Result<(), Fail> {
     let output = with_metadata(alloc, metadata, records, last)?;
     let answered = answer_to(alloc, input, filter, &output, receipt)?;
-    assert_eq!(rt; answered, answer, "{receipt:?}");
+    assert_eq!(rt; answered, answer);
     Ok(())
 }
 

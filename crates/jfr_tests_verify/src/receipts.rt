@@ -2,10 +2,10 @@
 use crate::outputs::{
     ANOTHER_TEXT, FIRST, INPUT, NO_NODE, ONE_NODE, PLAIN, RIGHT, Records, SWAPPED, read,
 };
-use jfr_base::ReadFault;
+use jfr_base::NoMemory;
 use jfr_chunk::{Chunk, Kept};
 use jfr_fixtures::{CLASSES, CLASSES_OF_A, JDK_LIKE, RINGS, chunk_of, with_metadata};
-use jfr_verify::{Receipt, receipt_of, receipt_of_scrub};
+use jfr_verify::{receipt_of, receipt_of_scrub};
 use std::alloc::{AllocError, Global};
 use std::process::Abort;
 use std::test::Fail;
@@ -24,22 +24,27 @@ const ROWS: [Row; 7] = [
     (INPUT, &[4, 0, 0, 0, 2, 0, 1, 1, 1, 0, 3, 1, 2]),
 ];
 
-// The receipt of a chunk of these bytes.
-fn receipt_in(alloc: Global, bytes: &[u8]) -> Result<Receipt, ReadFault> {
-    let chunk = read(alloc, bytes)?;
-    Ok(receipt_of(alloc, &chunk)?)
+// Compares the receipt of a chunk.
+fn compare_chunk(
+    rt: &impl Abort,
+    alloc: Global,
+    chunk: &Chunk<'_>,
+    expected: &[u8],
+) -> Result<(), Fail> {
+    let receipt = receipt_of(alloc, chunk)?;
+    assert_eq!(rt; receipt.bytes(), expected);
+    Ok(())
 }
 
-// Compares it.
+// Reads a chunk, and compares its receipt.
 fn compare_bytes(
     rt: &impl Abort,
     alloc: Global,
     bytes: &[u8],
     expected: &[u8],
 ) -> Result<(), Fail> {
-    let receipt = receipt_in(alloc, bytes)?;
-    assert_eq!(rt; receipt.bytes(), expected);
-    Ok(())
+    let chunk = read(alloc, bytes)?;
+    compare_chunk(rt, alloc, &chunk, expected)
 }
 
 // Compares the receipt of the chunk of a row.
@@ -107,10 +112,16 @@ fn compare_none(rt: &impl Abort, alloc: Global, rings: &Chunk<'_>) -> Result<(),
     compare_scrub(rt, alloc, rings, &kept, &[0])
 }
 
-// Compares that of the chunk of rings if the second event is kept.
-fn compare_second(rt: &impl Abort, alloc: Global, rings: &Chunk<'_>) -> Result<(), Fail> {
+// The choice of the second of two events.
+fn only_second(alloc: Global) -> Result<Kept, NoMemory> {
     let mut kept = Kept::new(alloc, 2)?;
     kept.set(1, true);
+    Ok(kept)
+}
+
+// Compares that of the chunk of rings if the second event is kept.
+fn compare_second(rt: &impl Abort, alloc: Global, rings: &Chunk<'_>) -> Result<(), Fail> {
+    let kept = only_second(alloc)?;
     compare_scrub(rt, alloc, rings, &kept, &[2, 0, 0, 0, 1, 1, 0])
 }
 
