@@ -1,176 +1,116 @@
 //! Answers of the checker. The input is the chunk of rings, of which the filter keeps the first event.
-use crate::outputs::{ANOTHER_TEXT, BOTH_RINGS, FIRST_RING, NO_NODE, ONE_NODE, SWAPPED, read};
-use jfr_chunk::Chunk;
-use jfr_filter::{Filter, Side};
-use jfr_fixtures::{
-    CLASSES, CLASSES_OF_A, NO_CLASSES, NO_POOLS, RINGS, with_classes, with_metadata,
+use crate::outputs::{
+    ANOTHER_TEXT, BOTH_RINGS, FIRST, FIRST_RING, INPUT, NO_NODE, ONE_NODE, PLAIN, RIGHT, Records,
+    SWAPPED, only_first, read,
 };
+use jfr_base::ReadFault;
+use jfr_chunk::Chunk;
+use jfr_filter::Filter;
+use jfr_fixtures::{CLASSES, RINGS, with_classes, with_metadata};
 use jfr_verify::{CheckFault, Doubt, check};
 use std::alloc::{AllocError, Global};
 use std::process::Abort;
 use std::test::Fail;
 
-// The metadata record of an output, the records after it, the offset of its checkpoint, and the bytes of its
-// receipt and more.
-type Output = (&'static [u8], &'static [u8], u64, &'static [u8]);
+// The length of a receipt, or why the output isn't accepted.
+type Answer = Result<usize, CheckFault>;
 
-// The receipt of the first ring.
-const RIGHT: &[u8] = &[2, 0, 0, 0, 1, 1, 0];
+const CLASSES_DIFFER: Answer = Err(CheckFault::Doubt(Doubt::ClassesDiffer));
 
-// Outputs that pass, with the length of their receipts. Integers needn't have their shortest forms; a byte may
-// follow; and the metadata record may be the input's own.
-const PASS: [(Output, usize); 4] = [
-    ((CLASSES_OF_A, FIRST_RING, 307, RIGHT), 7),
-    (
-        (
-            CLASSES_OF_A,
-            FIRST_RING,
-            307,
-            &[
-                0x82, 0, 0x80, 0, 0, 0x80, 0, 1, 1, 0x80, 0x80, 0x80, 0x80, 0,
-            ],
-        ),
-        14,
-    ),
-    (
-        (CLASSES_OF_A, FIRST_RING, 307, &[2, 0, 0, 0, 1, 1, 0, 0]),
-        7,
-    ),
-    ((CLASSES, FIRST_RING, 330, RIGHT), 7),
+const EVENTS_DIFFER: Answer = Err(CheckFault::Doubt(Doubt::EventsDiffer));
+
+const ENTRIES_DIFFER: Answer = Err(CheckFault::Doubt(Doubt::EntriesDiffer));
+
+const ENTRY_MISSING: Answer = Err(CheckFault::Doubt(Doubt::EntryMissing));
+
+const RECEIPT_BAD: Answer = Err(CheckFault::Doubt(Doubt::ReceiptBad));
+
+// An output, the bytes of its receipt and more, and the answer.
+type Row = (Records, &'static [u8], Answer);
+
+#[rattlefmt::skip]
+const ROWS: [Row; 22] = [
+    (FIRST, RIGHT, Ok(7)),
+    // Integers needn't have their shortest forms.
+    (FIRST, &[0x82, 0, 0x80, 0, 0, 0x80, 0, 1, 1, 0x80, 0x80, 0x80, 0x80, 0], Ok(14)),
+    // A byte may follow.
+    (FIRST, &[2, 0, 0, 0, 1, 1, 0, 0], Ok(7)),
+    // The metadata record may be the input's own.
+    ((CLASSES, FIRST_RING, 330), RIGHT, Ok(7)),
+    (INPUT, RIGHT, EVENTS_DIFFER),
+    (PLAIN, RIGHT, EVENTS_DIFFER),
+    ((CLASSES, SWAPPED, 330), RIGHT, ENTRIES_DIFFER),
+    ((CLASSES, ANOTHER_TEXT, 330), RIGHT, ENTRIES_DIFFER),
+    ((CLASSES, ONE_NODE, 330), &[1, 0, 0, 0], ENTRY_MISSING),
+    ((CLASSES, NO_NODE, 330), &[0], ENTRY_MISSING),
+    ((CLASSES, BOTH_RINGS, 330), RIGHT, RECEIPT_BAD),
+    ((CLASSES, BOTH_RINGS, 330), &[4, 0, 0, 0, 1, 1, 0, 2, 1, 3, 3, 1, 2], RECEIPT_BAD),
+    ((CLASSES, BOTH_RINGS, 330), &[4, 0, 0, 0, 1, 1, 0, 3, 1, 2, 2, 1, 3], RECEIPT_BAD),
+    // Two entries that refer to each other.
+    (FIRST, &[2, 0, 1, 1, 1, 1, 0], RECEIPT_BAD),
+    // Lines in the wrong order.
+    (FIRST, &[2, 1, 1, 0, 0, 0, 0], RECEIPT_BAD),
+    // Two lines for an entry.
+    (FIRST, &[2, 0, 0, 0, 0, 0, 0], RECEIPT_BAD),
+    // Too few lines.
+    (FIRST, &[1, 0, 0, 0], RECEIPT_BAD),
+    // A wrong kind.
+    (FIRST, &[2, 0, 0, 0, 1, 2, 0], RECEIPT_BAD),
+    // An event that there isn't.
+    (FIRST, &[2, 0, 0, 1, 1, 1, 0], RECEIPT_BAD),
+    // An event that doesn't refer to the entry.
+    (FIRST, &[2, 0, 0, 0, 1, 0, 0], RECEIPT_BAD),
+    // A byte is missing.
+    (FIRST, &[2, 0, 0, 0, 1, 1], RECEIPT_BAD),
+    (FIRST, &[], RECEIPT_BAD),
 ];
 
-// Wrong receipts of the first ring: two entries that refer to each other, lines in the wrong order, two lines
-// for an entry, too few lines, a wrong kind, an event that there isn't or that doesn't refer to the entry, a
-// byte that is missing, and nothing.
-const WRONG: [&[u8]; 9] = [
-    &[2, 0, 1, 1, 1, 1, 0],
-    &[2, 1, 1, 0, 0, 0, 0],
-    &[2, 0, 0, 0, 0, 0, 0],
-    &[1, 0, 0, 0],
-    &[2, 0, 0, 0, 1, 2, 0],
-    &[2, 0, 0, 1, 1, 1, 0],
-    &[2, 0, 0, 0, 1, 0, 0],
-    &[2, 0, 0, 0, 1, 1],
-    &[],
-];
-
-// Outputs that don't pass, with their doubts.
-const FAIL: [(Output, Doubt); 9] = [
-    ((CLASSES, RINGS, 333, RIGHT), Doubt::EventsDiffer),
-    ((NO_CLASSES, NO_POOLS, 96, RIGHT), Doubt::EventsDiffer),
-    ((CLASSES, SWAPPED, 330, RIGHT), Doubt::EntriesDiffer),
-    ((CLASSES, ANOTHER_TEXT, 330, RIGHT), Doubt::EntriesDiffer),
-    ((CLASSES, ONE_NODE, 330, &[1, 0, 0, 0]), Doubt::EntryMissing),
-    ((CLASSES, NO_NODE, 330, &[0]), Doubt::EntryMissing),
-    ((CLASSES, BOTH_RINGS, 330, RIGHT), Doubt::ReceiptBad),
-    (
-        (
-            CLASSES,
-            BOTH_RINGS,
-            330,
-            &[4, 0, 0, 0, 1, 1, 0, 2, 1, 3, 3, 1, 2],
-        ),
-        Doubt::ReceiptBad,
-    ),
-    (
-        (
-            CLASSES,
-            BOTH_RINGS,
-            330,
-            &[4, 0, 0, 0, 1, 1, 0, 3, 1, 2, 2, 1, 3],
-        ),
-        Doubt::ReceiptBad,
-    ),
-];
-
-// The answer to an output.
-fn answer(
+// The answer to an output. This function has no clauses, so those that call it are proved without those of `check`.
+fn answer_to(
     alloc: Global,
     input: &Chunk<'_>,
     filter: &Filter,
-    (classes, records, last, receipt): Output,
-) -> Result<Result<usize, CheckFault>, Fail> {
-    let bytes = with_metadata(alloc, classes, records, last)?;
-    let output = read(alloc, &bytes)?;
+    output: &[u8],
+    receipt: &[u8],
+) -> Result<Answer, ReadFault> {
+    let output = read(alloc, output)?;
     Ok(check(alloc, input, &output, filter, receipt))
 }
 
-// Compares the answer to an output with a doubt.
-fn compare_doubt(
+// Compares the answer to the output of a row.
+fn compare_row(
     rt: &impl Abort,
     alloc: Global,
     input: &Chunk<'_>,
     filter: &Filter,
-    (output, doubt): (Output, Doubt),
+    ((metadata, records, last), receipt, answer): Row,
 ) -> Result<(), Fail> {
-    let answer = answer(alloc, input, filter, output)?;
-    assert_eq!(rt; answer, Err(CheckFault::Doubt(doubt)));
+    let output = with_metadata(alloc, metadata, records, last)?;
+    let answered = answer_to(alloc, input, filter, &output, receipt)?;
+    assert_eq!(rt; answered, answer);
     Ok(())
 }
 
-// Compares the answers to outputs that pass.
-fn compare_passing(
-    rt: &impl Abort,
-    alloc: Global,
-    input: &Chunk<'_>,
-    filter: &Filter,
-) -> Result<(), Fail> {
-    for row in PASS.iter() {
-        let (output, len) = *row;
-        assert_eq!(rt; answer(alloc, input, filter, output)?, Ok(len));
-    }
-    Ok(())
-}
-
-// Compares the answers to outputs that don't pass.
-fn compare_failing(
-    rt: &impl Abort,
-    alloc: Global,
-    input: &Chunk<'_>,
-    filter: &Filter,
-) -> Result<(), Fail> {
-    for row in FAIL.iter() {
-        compare_doubt(rt, alloc, input, filter, *row)?;
-    }
-    for receipt in WRONG.iter() {
-        let output = (CLASSES_OF_A, FIRST_RING, 307, *receipt);
-        compare_doubt(rt, alloc, input, filter, (output, Doubt::ReceiptBad))?;
-    }
-    Ok(())
-}
-
-// The record of the classes, with another name for `t.B`.
+// An output with another name for `t.B`.
 fn renamed(alloc: Global) -> Result<Vec<u8>, AllocError> {
-    let mut classes = Vec::from_slice(alloc, CLASSES)?;
-    if let Some(byte) = classes.get_mut(119) {
+    let mut output = with_metadata(alloc, CLASSES, FIRST_RING, 330)?;
+    if let Some(byte) = output.get_mut(187) {
         *byte = b'Z';
     }
-    Ok(classes)
+    Ok(output)
 }
 
-// Compares the answer to an output with a class that has another name.
+// Compares the answer to it.
 fn compare_renamed(
     rt: &impl Abort,
     alloc: Global,
     input: &Chunk<'_>,
     filter: &Filter,
 ) -> Result<(), Fail> {
-    let classes = renamed(alloc)?;
-    let bytes = with_metadata(alloc, &classes, FIRST_RING, 330)?;
-    let output = read(alloc, &bytes)?;
-    let answer = check(alloc, input, &output, filter, RIGHT);
-    assert_eq!(rt; answer, Err(CheckFault::Doubt(Doubt::ClassesDiffer)));
+    let output = renamed(alloc)?;
+    let answered = answer_to(alloc, input, filter, &output, RIGHT)?;
+    assert_eq!(rt; answered, CLASSES_DIFFER);
     Ok(())
-}
-
-// The filter that keeps the events of `t.A`.
-pub(crate) fn only_first(alloc: Global) -> Result<Filter, Fail> {
-    let mut filter = Filter::new(alloc);
-    if filter.has(Side::IncludeEvents) {
-        Err("the option is given already")?;
-    }
-    filter.add(Side::IncludeEvents, "t.A")?;
-    Ok(filter)
 }
 
 // Compares all answers.
@@ -180,20 +120,26 @@ fn compare_all(
     input: &Chunk<'_>,
     filter: &Filter,
 ) -> Result<(), Fail> {
-    compare_passing(rt, alloc, input, filter)?;
-    compare_failing(rt, alloc, input, filter)?;
+    for row in ROWS.iter() {
+        compare_row(rt, alloc, input, filter, *row)?;
+    }
     compare_renamed(rt, alloc, input, filter)
 }
 
-// Reads the chunk of rings, and compares all answers.
-fn compare_rings(rt: &impl Abort, alloc: Global) -> Result<(), Fail> {
-    let bytes = with_classes(alloc, RINGS, 333)?;
-    let input = read(alloc, &bytes)?;
-    let filter = only_first(alloc)?;
-    compare_all(rt, alloc, &input, &filter)
+// Reads the input, and compares all answers.
+fn compare_bytes(
+    rt: &impl Abort,
+    alloc: Global,
+    input: &[u8],
+    filter: &Filter,
+) -> Result<(), Fail> {
+    let input = read(alloc, input)?;
+    compare_all(rt, alloc, &input, filter)
 }
 
 #[test]
 fn outputs_are_checked(rt: HostRuntime) -> Result<(), Fail> {
-    compare_rings(&rt, rt.alloc())
+    let input = with_classes(rt.alloc(), RINGS, 333)?;
+    let filter = only_first(rt.alloc())?;
+    compare_bytes(&rt, rt.alloc(), &input, &filter)
 }

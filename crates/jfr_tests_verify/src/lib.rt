@@ -4,9 +4,9 @@
 #[cfg(test)]
 mod answers;
 #[cfg(test)]
-mod files;
-#[cfg(test)]
 mod outputs;
+#[cfg(test)]
+mod places;
 #[cfg(test)]
 mod receipts;
 #[cfg(test)]

@@ -1,8 +1,25 @@
-//! Outputs of the chunk of rings if only its first event is kept, right ones and wrong ones.
+//! The chunk of rings, and outputs of it if only its first event is kept, right ones and wrong ones.
 use jfr_base::ReadFault;
 use jfr_chunk::Chunk;
+use jfr_filter::{Filter, FilterFault, Side};
+use jfr_fixtures::{CLASSES, CLASSES_OF_A, NO_CLASSES, NO_POOLS, RINGS};
 use jfr_header::is_cut;
 use std::alloc::Global;
+
+// The records of a chunk: its metadata record, those after it, and the offset of its last checkpoint.
+pub(crate) type Records = (&'static [u8], &'static [u8], u64);
+
+// The chunk of rings.
+pub(crate) const INPUT: Records = (CLASSES, RINGS, 333);
+
+// Its output if only its first event is kept.
+pub(crate) const FIRST: Records = (CLASSES_OF_A, FIRST_RING, 307);
+
+// The receipt of this output.
+pub(crate) const RIGHT: &[u8] = &[2, 0, 0, 0, 1, 1, 0];
+
+// The plain chunk, which has no events.
+pub(crate) const PLAIN: Records = (NO_CLASSES, NO_POOLS, 96);
 
 // The first event, and a checkpoint with the first ring.
 pub(crate) const FIRST_RING: &[u8] = &[
@@ -37,4 +54,11 @@ pub(crate) fn read<'a>(alloc: Global, bytes: &'a [u8]) -> Result<Chunk<'a>, Read
         return Err(ReadFault::Memory);
     }
     Chunk::read(alloc, bytes)
+}
+
+// The filter that keeps the events of `t.A`.
+pub(crate) fn only_first(alloc: Global) -> Result<Filter, FilterFault> {
+    let mut filter = Filter::new(alloc);
+    filter.add(Side::IncludeEvents, "t.A")?;
+    Ok(filter)
 }

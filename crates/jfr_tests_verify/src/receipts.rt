@@ -1,33 +1,42 @@
 //! Receipts that are written.
-use crate::outputs::{ANOTHER_TEXT, FIRST_RING, NO_NODE, ONE_NODE, SWAPPED, read};
-use jfr_chunk::{Chunk, Kept};
-use jfr_fixtures::{
-    CLASSES, CLASSES_OF_A, JDK_LIKE, NO_CLASSES, NO_POOLS, RINGS, chunk_of, with_metadata,
+use crate::outputs::{
+    ANOTHER_TEXT, FIRST, INPUT, NO_NODE, ONE_NODE, PLAIN, RIGHT, Records, SWAPPED, read,
 };
+use jfr_base::NoMemory;
+use jfr_chunk::{Chunk, Kept};
+use jfr_fixtures::{CLASSES, CLASSES_OF_A, JDK_LIKE, RINGS, chunk_of, with_metadata};
 use jfr_verify::{receipt_of, receipt_of_scrub};
 use std::alloc::{AllocError, Global};
 use std::process::Abort;
 use std::test::Fail;
 
-// The metadata record of a chunk, the records after it, the offset of its checkpoint, and its receipt.
-type Row = (&'static [u8], &'static [u8], u64, &'static [u8]);
+// A chunk and its receipt.
+type Row = (Records, &'static [u8]);
 
+#[rattlefmt::skip]
 const ROWS: [Row; 7] = [
-    (CLASSES_OF_A, FIRST_RING, 307, &[2, 0, 0, 0, 1, 1, 0]),
-    (CLASSES_OF_A, ANOTHER_TEXT, 307, &[2, 0, 0, 0, 1, 1, 0]),
-    (CLASSES_OF_A, SWAPPED, 307, &[2, 1, 0, 0, 0, 1, 1]),
-    (CLASSES_OF_A, ONE_NODE, 307, &[1, 0, 0, 0]),
-    (CLASSES_OF_A, NO_NODE, 307, &[0]),
-    (NO_CLASSES, NO_POOLS, 96, &[0]),
-    (
-        CLASSES,
-        RINGS,
-        333,
-        &[4, 0, 0, 0, 2, 0, 1, 1, 1, 0, 3, 1, 2],
-    ),
+    (FIRST, RIGHT),
+    ((CLASSES_OF_A, ANOTHER_TEXT, 307), RIGHT),
+    ((CLASSES_OF_A, SWAPPED, 307), &[2, 1, 0, 0, 0, 1, 1]),
+    ((CLASSES_OF_A, ONE_NODE, 307), &[1, 0, 0, 0]),
+    ((CLASSES_OF_A, NO_NODE, 307), &[0]),
+    (PLAIN, &[0]),
+    (INPUT, &[4, 0, 0, 0, 2, 0, 1, 1, 1, 0, 3, 1, 2]),
 ];
 
 // Compares the receipt of a chunk.
+fn compare_chunk(
+    rt: &impl Abort,
+    alloc: Global,
+    chunk: &Chunk<'_>,
+    expected: &[u8],
+) -> Result<(), Fail> {
+    let receipt = receipt_of(alloc, chunk)?;
+    assert_eq!(rt; receipt.bytes(), expected);
+    Ok(())
+}
+
+// Reads a chunk, and compares its receipt.
 fn compare_bytes(
     rt: &impl Abort,
     alloc: Global,
@@ -35,18 +44,16 @@ fn compare_bytes(
     expected: &[u8],
 ) -> Result<(), Fail> {
     let chunk = read(alloc, bytes)?;
-    let receipt = receipt_of(alloc, &chunk)?;
-    assert_eq!(rt; receipt.bytes(), expected);
-    Ok(())
+    compare_chunk(rt, alloc, &chunk, expected)
 }
 
 // Compares the receipt of the chunk of a row.
 fn compare_row(
     rt: &impl Abort,
     alloc: Global,
-    (classes, records, last, receipt): Row,
+    ((metadata, records, last), receipt): Row,
 ) -> Result<(), Fail> {
-    let bytes = with_metadata(alloc, classes, records, last)?;
+    let bytes = with_metadata(alloc, metadata, records, last)?;
     compare_bytes(rt, alloc, &bytes, receipt)
 }
 
@@ -62,15 +69,8 @@ const THREADS: &[u8] = &[
 // What is left of the chunk that is like the JDK's if all events are kept: its last checkpoint is 16 bytes
 // nearer to the first.
 fn jdk_left(alloc: Global) -> Result<Vec<u8>, AllocError> {
-    let mut rest = Vec::from_slice(alloc, JDK_LIKE.as_slice())?;
-    if let Some(byte) = rest.get_mut(1276) {
-        *byte = 0xDF;
-    }
-    let records = match rest.get(145..) {
-        Some(records) => records,
-        None => &[],
-    };
-    chunk_of(alloc, &[THREADS, records], 1253, 162)
+    let records = [THREADS, &JDK_LIKE[145..1276], &[0xDF], &JDK_LIKE[1277..]];
+    chunk_of(alloc, &records, 1253, 162)
 }
 
 // Its receipt.
@@ -83,6 +83,14 @@ const JDK_RECEIPT: &[u8] = &[
 fn compare_jdk(rt: &impl Abort, alloc: Global) -> Result<(), Fail> {
     let bytes = jdk_left(alloc)?;
     compare_bytes(rt, alloc, &bytes, JDK_RECEIPT)
+}
+
+#[test]
+fn receipts_are_written(rt: HostRuntime) -> Result<(), Fail> {
+    for row in ROWS.iter() {
+        compare_row(&rt, rt.alloc(), *row)?;
+    }
+    compare_jdk(&rt, rt.alloc())
 }
 
 // Compares the receipt of a chunk's scrub, made from the chunk.
@@ -98,34 +106,52 @@ fn compare_scrub(
     Ok(())
 }
 
-// Compares the receipts of scrubs of the chunk with two rings, of which an event refers to each.
-fn compare_rings(rt: &impl Abort, alloc: Global, chunk: &Chunk<'_>) -> Result<(), Fail> {
-    let mut kept = Kept::new(alloc, 2)?;
-    compare_scrub(rt, alloc, chunk, &kept, &[0])?;
-    kept.set(1, true);
-    compare_scrub(rt, alloc, chunk, &kept, &[2, 0, 0, 0, 1, 1, 0])
+// Compares that of the chunk of rings if no event is kept.
+fn compare_none(rt: &impl Abort, alloc: Global, rings: &Chunk<'_>) -> Result<(), Fail> {
+    let kept = Kept::new(alloc, 2)?;
+    compare_scrub(rt, alloc, rings, &kept, &[0])
 }
 
-// Compares the receipt of the scrub of the chunk that is like the JDK's if all events are kept.
-fn compare_all(rt: &impl Abort, alloc: Global, chunk: &Chunk<'_>) -> Result<(), Fail> {
+// The choice of the second of two events.
+fn only_second(alloc: Global) -> Result<Kept, NoMemory> {
+    let mut kept = Kept::new(alloc, 2)?;
+    kept.set(1, true);
+    Ok(kept)
+}
+
+// Compares that of the chunk of rings if the second event is kept.
+fn compare_second(rt: &impl Abort, alloc: Global, rings: &Chunk<'_>) -> Result<(), Fail> {
+    let kept = only_second(alloc)?;
+    compare_scrub(rt, alloc, rings, &kept, &[2, 0, 0, 0, 1, 1, 0])
+}
+
+// Compares both.
+fn compare_rings(rt: &impl Abort, alloc: Global, bytes: &[u8]) -> Result<(), Fail> {
+    let rings = read(alloc, bytes)?;
+    compare_none(rt, alloc, &rings)?;
+    compare_second(rt, alloc, &rings)
+}
+
+// Compares that of a chunk if all events are kept.
+fn compare_all(
+    rt: &impl Abort,
+    alloc: Global,
+    chunk: &Chunk<'_>,
+    expected: &[u8],
+) -> Result<(), Fail> {
     let kept = chunk.keep_all(alloc)?;
-    compare_scrub(rt, alloc, chunk, &kept, JDK_RECEIPT)
+    compare_scrub(rt, alloc, chunk, &kept, expected)
+}
+
+// Compares that of the chunk that is like the JDK's if all events are kept.
+fn compare_jdk_scrub(rt: &impl Abort, alloc: Global) -> Result<(), Fail> {
+    let chunk = read(alloc, JDK_LIKE.as_slice())?;
+    compare_all(rt, alloc, &chunk, JDK_RECEIPT)
 }
 
 #[test]
 fn receipts_of_scrubs_are_written(rt: HostRuntime) -> Result<(), Fail> {
-    let alloc = rt.alloc();
-    let bytes = with_metadata(alloc, CLASSES, RINGS, 333)?;
-    let chunk = read(alloc, &bytes)?;
-    compare_rings(&rt, alloc, &chunk)?;
-    let chunk = read(alloc, JDK_LIKE.as_slice())?;
-    compare_all(&rt, alloc, &chunk)
-}
-
-#[test]
-fn receipts_are_written(rt: HostRuntime) -> Result<(), Fail> {
-    for row in ROWS.iter() {
-        compare_row(&rt, rt.alloc(), *row)?;
-    }
-    compare_jdk(&rt, rt.alloc())
+    compare_jdk_scrub(&rt, rt.alloc())?;
+    let bytes = with_metadata(rt.alloc(), CLASSES, RINGS, 333)?;
+    compare_rings(&rt, rt.alloc(), &bytes)
 }

@@ -1,34 +1,20 @@
 //! Verdicts on files. The filter keeps the first event of the chunk of rings.
-use crate::answers::only_first;
-use crate::files::{Piece, file_of, starved_after};
+use crate::outputs::{FIRST, INPUT, PLAIN, RIGHT, Records, only_first};
+use crate::places::{Files, Starved, place_of};
 use jfr_base::{Reason, Refusal};
-use jfr_filter::Filter;
-use jfr_outside::{Call, MemoryPlace, NoMemory, Place};
+use jfr_filter::FilterFault;
+use jfr_fixtures::NO_CLASSES;
+use jfr_outside::{Call, MemoryPlace, Place};
 use jfr_verify::{Doubt, Verdict, verify_stream};
 use std::alloc::Global;
 use std::process::Abort;
 use std::test::Fail;
 
-// The chunks of the input and of the output, the receipts, and the verdict.
-struct Row {
-    input: &'static [Piece],
-    output: &'static [Piece],
-    receipt: &'static [u8],
-    verdict: Verdict,
-}
+// The plain chunk with a wrong size of its last record.
+const WRONG: Records = (NO_CLASSES, &[8, 1, 0, 0, 0, 0, 0], 96);
 
-// The receipt of the first ring, and two in a row.
-const RIGHT: &[u8] = &[2, 0, 0, 0, 1, 1, 0];
-
+// Two receipts in a row.
 const TWO: &[u8] = &[2, 0, 0, 0, 1, 1, 0, 2, 0, 0, 0, 1, 1, 0];
-
-const RINGS: &[Piece] = &[Piece::Rings];
-
-const FIRST: &[Piece] = &[Piece::First];
-
-const TWO_RINGS: &[Piece] = &[Piece::Rings, Piece::Rings];
-
-const TWO_FIRST: &[Piece] = &[Piece::First, Piece::First];
 
 const BAD_SECOND: Verdict = Verdict::Refused(Refusal {
     chunk: 2,
@@ -42,96 +28,131 @@ const NO_CHUNK: Verdict = Verdict::Refused(Refusal {
     reason: Reason::NoChunk,
 });
 
+// Files that are verified, and files whose output is the plain chunk.
+const GOOD: Files = (&[INPUT], &[FIRST], RIGHT);
+
+const PLAIN_OUTPUT: Files = (&[INPUT], &[PLAIN], RIGHT);
+
+// Files, and the verdict on them.
+type Row = (Files, Verdict);
+
 #[rattlefmt::skip]
 static ROWS: [Row; 15] = [
-    Row { input: RINGS, output: FIRST, receipt: RIGHT, verdict: Verdict::Verified(1) },
-    Row { input: RINGS, output: FIRST, receipt: &[2, 0, 1, 1, 1, 1, 0], verdict: Verdict::Doubted { chunk: 1, doubt: Doubt::ReceiptBad } },
-    Row { input: RINGS, output: &[Piece::Plain], receipt: RIGHT, verdict: Verdict::Doubted { chunk: 1, doubt: Doubt::EventsDiffer } },
-    Row { input: TWO_RINGS, output: TWO_FIRST, receipt: TWO, verdict: Verdict::Verified(2) },
-    Row { input: TWO_RINGS, output: TWO_FIRST, receipt: &[2, 0, 0, 0, 1, 1, 0, 2, 0, 1, 1, 1, 1, 0], verdict: Verdict::Doubted { chunk: 2, doubt: Doubt::ReceiptBad } },
-    Row { input: TWO_RINGS, output: TWO_FIRST, receipt: &[2, 0, 0, 0, 1, 1, 0, 2, 0, 0, 0, 1, 1, 0, 0], verdict: Verdict::Doubted { chunk: 2, doubt: Doubt::ReceiptBad } },
-    Row { input: TWO_RINGS, output: FIRST, receipt: RIGHT, verdict: Verdict::Doubted { chunk: 2, doubt: Doubt::ChunksDiffer } },
-    Row { input: RINGS, output: TWO_FIRST, receipt: TWO, verdict: Verdict::Doubted { chunk: 2, doubt: Doubt::ChunksDiffer } },
-    Row { input: &[Piece::Rings, Piece::Wrong], output: FIRST, receipt: RIGHT, verdict: BAD_SECOND },
-    Row { input: &[Piece::Rings, Piece::Wrong], output: &[Piece::Plain], receipt: RIGHT, verdict: Verdict::Doubted { chunk: 1, doubt: Doubt::EventsDiffer } },
-    Row { input: RINGS, output: &[Piece::Plain, Piece::Wrong], receipt: RIGHT, verdict: Verdict::Doubted { chunk: 2, doubt: Doubt::OutRefused } },
-    Row { input: RINGS, output: &[], receipt: RIGHT, verdict: Verdict::Doubted { chunk: 1, doubt: Doubt::OutRefused } },
-    Row { input: &[], output: FIRST, receipt: RIGHT, verdict: NO_CHUNK },
-    Row { input: &[Piece::Plain, Piece::Plain], output: &[Piece::Plain, Piece::Plain], receipt: &[0x80, 0, 0], verdict: Verdict::Verified(2) },
-    Row { input: &[Piece::Plain], output: &[Piece::Plain], receipt: &[], verdict: Verdict::Doubted { chunk: 1, doubt: Doubt::ReceiptBad } },
+    (GOOD, Verdict::Verified(1)),
+    ((&[INPUT], &[FIRST], &[2, 0, 1, 1, 1, 1, 0]), Verdict::Doubted { chunk: 1, doubt: Doubt::ReceiptBad }),
+    (PLAIN_OUTPUT, Verdict::Doubted { chunk: 1, doubt: Doubt::EventsDiffer }),
+    ((&[INPUT, INPUT], &[FIRST, FIRST], TWO), Verdict::Verified(2)),
+    ((&[INPUT, INPUT], &[FIRST, FIRST], &[2, 0, 0, 0, 1, 1, 0, 2, 0, 1, 1, 1, 1, 0]), Verdict::Doubted { chunk: 2, doubt: Doubt::ReceiptBad }),
+    ((&[INPUT, INPUT], &[FIRST, FIRST], &[2, 0, 0, 0, 1, 1, 0, 2, 0, 0, 0, 1, 1, 0, 0]), Verdict::Doubted { chunk: 2, doubt: Doubt::ReceiptBad }),
+    ((&[INPUT, INPUT], &[FIRST], RIGHT), Verdict::Doubted { chunk: 2, doubt: Doubt::ChunksDiffer }),
+    ((&[INPUT], &[FIRST, FIRST], TWO), Verdict::Doubted { chunk: 2, doubt: Doubt::ChunksDiffer }),
+    ((&[INPUT, WRONG], &[FIRST], RIGHT), BAD_SECOND),
+    ((&[INPUT, WRONG], &[PLAIN], RIGHT), Verdict::Doubted { chunk: 1, doubt: Doubt::EventsDiffer }),
+    ((&[INPUT], &[PLAIN, WRONG], RIGHT), Verdict::Doubted { chunk: 2, doubt: Doubt::OutRefused }),
+    ((&[INPUT], &[], RIGHT), Verdict::Doubted { chunk: 1, doubt: Doubt::OutRefused }),
+    ((&[], &[FIRST], RIGHT), NO_CHUNK),
+    ((&[PLAIN, PLAIN], &[PLAIN, PLAIN], &[0x80, 0, 0]), Verdict::Verified(2)),
+    ((&[PLAIN], &[PLAIN], &[]), Verdict::Doubted { chunk: 1, doubt: Doubt::ReceiptBad }),
 ];
 
-// A place with the files of a row.
-fn place_of(alloc: Global, row: &Row) -> Result<MemoryPlace, NoMemory> {
-    let mut place = MemoryPlace::new(alloc);
-    place.put("in", &file_of(alloc, row.input)?)?;
-    place.put("out", &file_of(alloc, row.output)?)?;
-    place.put("receipt", row.receipt)?;
-    Ok(place)
+// The verdict on files of a place.
+fn verdict_on<P: Place>(
+    alloc: Global,
+    place: &mut P,
+    [input, output, receipts]: [&str; 3],
+) -> Result<Verdict, FilterFault> {
+    let filter = only_first(alloc)?;
+    Ok(verify_stream(alloc, place, input, output, receipts, &filter))
 }
 
-// The verdict on the files of a place.
-fn verdict_on<P: Place>(alloc: Global, place: &mut P, filter: &Filter) -> Verdict {
-    verify_stream(alloc, place, "in", "out", "receipt", filter)
-}
-
-// Compares the verdict on the files of a row, which are read whole and byte by byte.
-fn compare_row(rt: &impl Abort, alloc: Global, row: &Row, filter: &Filter) -> Result<(), Fail> {
-    let mut place = place_of(alloc, row)?;
-    assert_eq!(rt; verdict_on(alloc, &mut place, filter), row.verdict);
-    place.cut(1);
-    assert_eq!(rt; verdict_on(alloc, &mut place, filter), row.verdict);
+// Compares the verdict on the files of a place.
+fn compare<P: Place>(
+    rt: &impl Abort,
+    alloc: Global,
+    place: &mut P,
+    verdict: Verdict,
+) -> Result<(), Fail> {
+    assert_eq!(rt;
+        verdict_on(alloc, place, ["in", "out", "receipt"])?,
+        verdict
+    );
     Ok(())
+}
+
+// Compares it if the files are read whole, and byte by byte.
+fn compare_twice(
+    rt: &impl Abort,
+    alloc: Global,
+    place: &mut MemoryPlace,
+    verdict: Verdict,
+) -> Result<(), Fail> {
+    compare(rt, alloc, place, verdict)?;
+    place.cut(1);
+    compare(rt, alloc, place, verdict)
+}
+
+// Compares the verdict on the files of a row.
+fn compare_row(rt: &impl Abort, alloc: Global, (files, verdict): Row) -> Result<(), Fail> {
+    let mut place = place_of(alloc, files)?;
+    compare_twice(rt, alloc, &mut place, verdict)
 }
 
 #[test]
 fn files_are_verified(rt: HostRuntime) -> Result<(), Fail> {
-    let filter = only_first(rt.alloc())?;
     for row in ROWS.iter() {
-        compare_row(&rt, rt.alloc(), row, &filter)?;
+        compare_row(&rt, rt.alloc(), *row)?;
     }
     Ok(())
 }
 
-// Which call fails, for which row, and the verdict. Two reads take the receipts, the next three the output, and
-// the last three the input.
+// Which call fails, for which files, and the verdict.
+type Failing = (Call, u64, Files, Verdict);
+
+// Two reads take the receipts, the next three the output, and the last three the input.
 #[rattlefmt::skip]
-static FAULTS: [(Call, u64, usize, Verdict); 14] = [
-    (Call::Open, 1, 0, Verdict::ReadFault),
-    (Call::Open, 2, 0, Verdict::ReadFault),
-    (Call::Open, 3, 0, Verdict::ReadFault),
-    (Call::Read, 1, 0, Verdict::ReadFault),
-    (Call::Read, 2, 0, Verdict::ReadFault),
-    (Call::Read, 3, 0, Verdict::ReadFault),
-    (Call::Read, 4, 0, Verdict::ReadFault),
-    (Call::Read, 5, 0, Verdict::ReadFault),
-    (Call::Read, 6, 0, Verdict::ReadFault),
-    (Call::Read, 7, 0, Verdict::ReadFault),
-    (Call::Read, 8, 0, Verdict::ReadFault),
-    (Call::Read, 9, 0, Verdict::Verified(1)),
-    (Call::Read, 7, 2, Verdict::ReadFault),
-    (Call::Read, 8, 2, Verdict::Doubted { chunk: 1, doubt: Doubt::EventsDiffer }),
+static FAILING: [Failing; 14] = [
+    (Call::Open, 1, GOOD, Verdict::ReadFault),
+    (Call::Open, 2, GOOD, Verdict::ReadFault),
+    (Call::Open, 3, GOOD, Verdict::ReadFault),
+    (Call::Read, 1, GOOD, Verdict::ReadFault),
+    (Call::Read, 2, GOOD, Verdict::ReadFault),
+    (Call::Read, 3, GOOD, Verdict::ReadFault),
+    (Call::Read, 4, GOOD, Verdict::ReadFault),
+    (Call::Read, 5, GOOD, Verdict::ReadFault),
+    (Call::Read, 6, GOOD, Verdict::ReadFault),
+    (Call::Read, 7, GOOD, Verdict::ReadFault),
+    (Call::Read, 8, GOOD, Verdict::ReadFault),
+    (Call::Read, 9, GOOD, Verdict::Verified(1)),
+    (Call::Read, 7, PLAIN_OUTPUT, Verdict::ReadFault),
+    (Call::Read, 8, PLAIN_OUTPUT, Verdict::Doubted { chunk: 1, doubt: Doubt::EventsDiffer }),
 ];
 
-// Compares the verdict if a call fails.
-fn compare_fault(
+// Makes a call fail, and compares the verdict.
+fn compare_with_fault(
     rt: &impl Abort,
     alloc: Global,
-    (call, nth, row, verdict): (Call, u64, usize, Verdict),
-    filter: &Filter,
+    place: &mut MemoryPlace,
+    (call, nth): (Call, u64),
+    verdict: Verdict,
 ) -> Result<(), Fail> {
-    let row = ROWS.get(row).ok_or("there is no such row")?;
-    let mut place = place_of(alloc, row)?;
     place.fail(call, nth, 0)?;
-    assert_eq!(rt; verdict_on(alloc, &mut place, filter), verdict);
-    Ok(())
+    compare(rt, alloc, place, verdict)
+}
+
+// Compares the verdict if a call fails.
+fn compare_failing(
+    rt: &impl Abort,
+    alloc: Global,
+    (call, nth, files, verdict): Failing,
+) -> Result<(), Fail> {
+    let mut place = place_of(alloc, files)?;
+    compare_with_fault(rt, alloc, &mut place, (call, nth), verdict)
 }
 
 #[test]
 fn reads_fail(rt: HostRuntime) -> Result<(), Fail> {
-    let filter = only_first(rt.alloc())?;
-    for row in FAULTS.iter() {
-        compare_fault(&rt, rt.alloc(), *row, &filter)?;
+    for row in FAILING.iter() {
+        compare_failing(&rt, rt.alloc(), *row)?;
     }
     Ok(())
 }
@@ -142,20 +163,17 @@ fn compare_starved(
     alloc: Global,
     reads: u64,
     verdict: Verdict,
-    filter: &Filter,
 ) -> Result<(), Fail> {
-    let mut place = starved_after(alloc, reads, RIGHT)?;
-    assert_eq!(rt; verdict_on(alloc, &mut place, filter), verdict);
-    Ok(())
+    let place = place_of(alloc, GOOD)?;
+    compare(rt, alloc, &mut Starved { place, reads }, verdict)
 }
 
 #[test]
 fn memory_runs_out(rt: HostRuntime) -> Result<(), Fail> {
-    let filter = only_first(rt.alloc())?;
     for reads in 0..8 {
-        compare_starved(&rt, rt.alloc(), reads, Verdict::Memory, &filter)?;
+        compare_starved(&rt, rt.alloc(), reads, Verdict::Memory)?;
     }
-    compare_starved(&rt, rt.alloc(), 8, Verdict::Verified(1), &filter)
+    compare_starved(&rt, rt.alloc(), 8, Verdict::Verified(1))
 }
 
 // The names of the input, the output and the receipts, of which one is missing.
@@ -166,23 +184,17 @@ const MISSING: [[&str; 3]; 3] = [
 ];
 
 // Compares the verdict if a file doesn't exist.
-fn compare_missing(
-    rt: &impl Abort,
-    alloc: Global,
-    [input, output, receipt]: [&str; 3],
-    filter: &Filter,
-) -> Result<(), Fail> {
-    let mut place = place_of(alloc, &ROWS[0])?;
-    let verdict = verify_stream(alloc, &mut place, input, output, receipt, filter);
+fn compare_missing(rt: &impl Abort, alloc: Global, names: [&str; 3]) -> Result<(), Fail> {
+    let mut place = place_of(alloc, GOOD)?;
+    let verdict = verdict_on(alloc, &mut place, names)?;
     assert_eq!(rt; verdict, Verdict::ReadFault);
     Ok(())
 }
 
 #[test]
 fn files_are_missing(rt: HostRuntime) -> Result<(), Fail> {
-    let filter = only_first(rt.alloc())?;
     for names in MISSING.iter() {
-        compare_missing(&rt, rt.alloc(), *names, &filter)?;
+        compare_missing(&rt, rt.alloc(), *names)?;
     }
     Ok(())
 }
