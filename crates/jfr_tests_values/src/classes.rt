@@ -80,13 +80,24 @@ fn class_of(
     super_name: Option<&str>,
     fields: &[(&str, Has)],
 ) -> Result<ClassInfo, NoMemory> {
+    let mut class = bare_class(alloc, id, name, super_name)?;
+    add_fields(&mut class.fields, alloc, fields)?;
+    Ok(class)
+}
+
+/// A class without fields.
+fn bare_class(
+    alloc: Global,
+    id: u64,
+    name: &str,
+    super_name: Option<&str>,
+) -> Result<ClassInfo, NoMemory> {
     let super_name = text_of(alloc, super_name)?;
-    let fields = fields_of(alloc, fields)?;
     Ok(ClassInfo {
         id,
         name: Text::make(alloc, name)?,
         super_name,
-        fields,
+        fields: Fields::new(alloc),
         categories: Words::new(alloc),
     })
 }
@@ -97,13 +108,6 @@ fn text_of(alloc: Global, name: Option<&str>) -> Result<Option<Text>, NoMemory> 
         Some(name) => Ok(Some(Text::make(alloc, name)?)),
         None => Ok(None),
     }
-}
-
-/// Fields with these names, which have this.
-fn fields_of(alloc: Global, lines: &[(&str, Has)]) -> Result<Fields, NoMemory> {
-    let mut fields = Fields::new(alloc);
-    add_fields(&mut fields, alloc, lines)?;
-    Ok(fields)
 }
 
 /// Adds a field for each of these lines.

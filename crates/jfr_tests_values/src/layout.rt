@@ -11,19 +11,19 @@ use std::test::Fail;
 // The class and the field of a flaw, and what it is.
 type ClassFlaw = (usize, Option<usize>, Reason);
 
-// The first flaw of a list of classes, if there is one.
-fn flaw_of(alloc: Global, list: ClassList) -> Result<Option<ClassFlaw>, ClassFault> {
-    match Classes::make(alloc, list) {
-        Ok(_) => Ok(None),
-        Err(
-            ClassFault::Flawed {
-                class,
-                field,
-                reason,
-            },
-        ) => Ok(Some((class, field, reason))),
-        Err(ClassFault::Memory) => Err(ClassFault::Memory),
-    }
+// Why a list of classes is refused, if it is.
+fn fault_in(alloc: Global, list: ClassList) -> Option<ClassFault> {
+    Classes::make(alloc, list).err()
+}
+
+// The fault of a flaw, if there is one.
+fn flawed(flaw: Option<ClassFlaw>) -> Option<ClassFault> {
+    let (class, field, reason) = flaw?;
+    Some(ClassFault::Flawed {
+        class,
+        field,
+        reason,
+    })
 }
 
 // The fields of two classes, the id of the second class, and the first flaw.
@@ -45,7 +45,7 @@ const ITEMS_OF_SECOND: &[FieldLine] = &[("x", Items(4))];
 const ONE_FIRST: &[FieldLine] = &[("x", Inline(3))];
 
 // The first class has the id 3. Before it is a number, whose id is 2.
-const FIRST_FLAWS: [Row; 7] = [
+static FIRST_FLAWS: [Row; 7] = [
     (NUMBER, NUMBER, 4, None),
     (UNKNOWN, NUMBER, 3, Some((2, None, Reason::ClassTwice))),
     (UNKNOWN, TWICE, 4, Some((2, Some(2), Reason::FieldTwice))),
@@ -72,15 +72,16 @@ fn add_row(list: &mut ClassList, alloc: Global, row: &Row) -> Result<(), NoMemor
     add(list, alloc, row.2, "b", EVENT, row.1)
 }
 
-// The first flaw of these classes.
-fn flaw_of_row(alloc: Global, row: &Row) -> Result<Option<ClassFlaw>, ClassFault> {
+// Why these classes are refused, if they are.
+fn fault_of_row(alloc: Global, row: &Row) -> Result<Option<ClassFault>, NoMemory> {
     let mut list = ClassList::new(alloc);
     add_row(&mut list, alloc, row)?;
-    flaw_of(alloc, list)
+    Ok(fault_in(alloc, list))
 }
 
 fn see_row(rt: &impl Abort, alloc: Global, row: &Row) -> Result<(), Fail> {
-    assert_eq!(rt; flaw_of_row(alloc, row)?, row.3);
+    let fault = fault_of_row(alloc, row)?;
+    assert_eq!(rt; fault, flawed(row.3));
     Ok(())
 }
 
@@ -92,7 +93,17 @@ fn the_first_flaw_is_reported(rt: HostRuntime) -> Result<(), Fail> {
     Ok(())
 }
 
-// Adds `length` composite classes, each with one or two inline fields of the next, and a number at the end.
+// Adds a composite class with one or two inline fields of the next.
+fn add_link(list: &mut ClassList, alloc: Global, id: u64, twice: bool) -> Result<(), NoMemory> {
+    let next = Inline(id.saturating_add(1));
+    if twice {
+        add(list, alloc, id, "c", None, &[("x", next), ("y", next)])
+    } else {
+        add(list, alloc, id, "c", None, &[("x", next)])
+    }
+}
+
+// Adds `length` of them, and a number at the end.
 fn add_chain(
     list: &mut ClassList,
     alloc: Global,
@@ -100,34 +111,30 @@ fn add_chain(
     twice: bool,
 ) -> Result<(), NoMemory> {
     for id in 0..length {
-        let next = Inline(id.saturating_add(1));
-        if twice {
-            add(list, alloc, id, "c", None, &[("x", next), ("y", next)])?;
-        } else {
-            add(list, alloc, id, "c", None, &[("x", next)])?;
-        }
+        add_link(list, alloc, id, twice)?;
     }
     add(list, alloc, length, "long", None, &[])
 }
 
-// The first flaw of these classes.
-fn flaw_of_chain(alloc: Global, length: u64, twice: bool) -> Result<Option<ClassFlaw>, ClassFault> {
+// Why these classes are refused, if they are.
+fn fault_of_chain(alloc: Global, length: u64, twice: bool) -> Result<Option<ClassFault>, NoMemory> {
     let mut list = ClassList::new(alloc);
     add_chain(&mut list, alloc, length, twice)?;
-    flaw_of(alloc, list)
+    Ok(fault_in(alloc, list))
 }
 
 // The number of composite classes, whether each has two fields, and the first flaw.
 type Chain = (u64, bool, Option<ClassFlaw>);
 
-const CHAINS: [Chain; 3] = [
+static CHAINS: [Chain; 3] = [
     (33, false, None),
     (34, false, Some((0, None, Reason::InlineDeep))),
     (32, true, None),
 ];
 
 fn see_chain(rt: &impl Abort, alloc: Global, (length, twice, flaw): &Chain) -> Result<(), Fail> {
-    assert_eq!(rt; flaw_of_chain(alloc, *length, *twice)?, *flaw, "{length}");
+    let fault = fault_of_chain(alloc, *length, *twice)?;
+    assert_eq!(rt; fault, flawed(*flaw), "{length}");
     Ok(())
 }
 
@@ -141,7 +148,7 @@ fn values_end(rt: HostRuntime) -> Result<(), Fail> {
 
 // Two classes of one base name, classes with the ids of checkpoints and of metadata, and an event
 // class.
-const SAMPLE: [ClassLine; 5] = [
+static SAMPLE: [ClassLine; 5] = [
     (7, "int", EVENT, &[]),
     (6, "int", None, &[]),
     (1, "t.A", EVENT, &[("n", Inline(7)), ("m", Reference(6))]),
@@ -165,7 +172,7 @@ fn finds_by_id(rt: HostRuntime) -> Result<(), Fail> {
 }
 
 // The id of a class, whether it is an event class, and what it has.
-const EVENT_CLASSES: [(u64, bool, &str); 4] = [
+static EVENT_CLASSES: [(u64, bool, &str); 4] = [
     (8, true, "a name of its own"),
     (7, false, "a base name"),
     (1, false, "the id of checkpoints"),
@@ -189,7 +196,7 @@ fn knows_event_classes(rt: HostRuntime) -> Result<(), Fail> {
 
 // An event whose row begins as that of most events do, then raw bytes, a string, an integer, an array and
 // five integers.
-const LONG_ROW: [ClassLine; 6] = [
+static LONG_ROW: [ClassLine; 6] = [
     (2, "long", None, &[]),
     (3, "double", None, &[]),
     (4, "boolean", None, &[]),
@@ -224,7 +231,7 @@ const PRELUDE: FusedKind = FusedKind::EventPrelude {
 };
 
 #[rattlefmt::skip]
-const FUSED: [FusedFields; 7] = [
+static FUSED: [FusedFields; 7] = [
     FusedFields { first: 0, fields: 4, kind: PRELUDE },
     FusedFields { first: 4, fields: 2, kind: FusedKind::Raw(9) },
     FusedFields { first: 6, fields: 1, kind: FusedKind::Text(5) },

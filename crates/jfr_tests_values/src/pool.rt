@@ -1,4 +1,7 @@
 //! Chains and entries of small chunks: a header, and the records.
+
+ghost use Rattle.jfr_frame.specs.Records.{AreRecords};
+
 use crate::classes::Has::{Inline, Reference};
 use crate::classes::{ClassLine, add, classes_of};
 use jfr_base::{Flaw, ReadFault, Reason, write_var};
@@ -13,7 +16,7 @@ use std::test::Fail;
 
 const HEADER: usize = 68;
 
-const NODE: [ClassLine; 2] = [
+static NODE: [ClassLine; 2] = [
     (6, "java.lang.String", None, &[]),
     (
         7,
@@ -23,15 +26,29 @@ const NODE: [ClassLine; 2] = [
     ),
 ];
 
+// The entries of a chunk, whose last checkpoint lies at this place.
 fn pools_of(alloc: Global, classes: &Classes, chunk: &[u8], last: u64) -> Result<Pools, ReadFault> {
     if chunk.len() < HEADER {
         return Err(ReadFault::Memory);
     }
     let frames = Frames::read(alloc, chunk)?;
+    pools_in_frames(alloc, classes, chunk, &frames, last)
+}
+
+// The entries of a chunk with these records.
+fn pools_in_frames(
+    alloc: Global,
+    classes: &Classes,
+    chunk: &[u8],
+    frames: &Frames<'_>,
+    last: u64,
+) -> Result<Pools, ReadFault>
+    requires { AreRecords chunk.now frames.now }
+{
     if !frames.starts_at(last, 1) {
         return Err(ReadFault::Memory);
     }
-    let chain = Chain::read(alloc, chunk, &frames, last)?;
+    let chain = Chain::read(alloc, chunk, frames, last)?;
     Pools::read(alloc, chunk, classes, &chain)
 }
 
@@ -80,9 +97,9 @@ fn last_entry_of_a_key_is_in_force(rt: HostRuntime) -> Result<(), Fail> {
 // The class, key, checkpoint and pool of an entry.
 type Expected = (u64, u64, usize, usize);
 
-const OF_THREE: [Expected; 2] = [(7, 1, 0, 0), (7, 3, 1, 0)];
+static OF_THREE: [Expected; 2] = [(7, 1, 0, 0), (7, 3, 1, 0)];
 
-const OF_STRINGS: [Expected; 4] = [(7, 1, 0, 0), (6, 1, 0, 1), (6, 2, 0, 1), (6, 3, 0, 1)];
+static OF_STRINGS: [Expected; 4] = [(7, 1, 0, 0), (6, 1, 0, 1), (6, 2, 0, 1), (6, 3, 0, 1)];
 
 // The entry with this number, if there is one.
 fn entry_at(pools: &Pools, number: usize) -> Option<Expected> {
@@ -130,7 +147,7 @@ fn entries_follow_the_chain(rt: HostRuntime) -> Result<(), Fail> {
 // Records, and the place of their flaw.
 type Flawed = (&'static [u8], u64, Reason);
 
-const FLAWED: [Flawed; 5] = [
+static FLAWED: [Flawed; 5] = [
     (&[7, 1, 0, 0, 1, 0, 0], 72, Reason::ChainDelta),
     (&[4, 1, 0, 0], 72, Reason::Short),
     (&[8, 1, 0, 0, 0, 0, 0, 0], 75, Reason::Trailing),
@@ -197,11 +214,16 @@ fn push_size(bytes: &mut Vec<u8>, body: &[u8]) -> Result<(), AllocError> {
     Ok(())
 }
 
+// Adds a record with this body.
+fn push_record(bytes: &mut Vec<u8>, body: &[u8]) -> Result<(), AllocError> {
+    push_size(bytes, body)?;
+    bytes.extend_from_slice(body)
+}
+
 // A record with this body.
 fn record_of(alloc: Global, body: &[u8]) -> Result<Vec<u8>, AllocError> {
     let mut bytes = Vec::new(alloc);
-    push_size(&mut bytes, body)?;
-    bytes.extend_from_slice(body)?;
+    push_record(&mut bytes, body)?;
     Ok(bytes)
 }
 
@@ -233,7 +255,7 @@ fn pools_of_record(alloc: Global, ids: &[u64], checkpoint: &[u8]) -> Result<Pool
 // A class that is too large for a row, and keys of it that have one home among 24 entries.
 const UNROWED: u64 = 5000;
 
-const ONE_HOME: [u64; 11] = [0, 74, 117, 160, 203, 246, 320, 363, 406, 449, 492];
+static ONE_HOME: [u64; 11] = [0, 74, 117, 160, 203, 246, 320, 363, 406, 449, 492];
 
 // A class that is too large for a slot, too.
 const LARGE: u64 = 1 << 32;
@@ -247,11 +269,16 @@ fn push_keys(entries: &mut Vec<(u64, u64)>) -> Result<(), AllocError> {
     Ok(())
 }
 
+// Adds all of them twice.
+fn push_keys_twice(entries: &mut Vec<(u64, u64)>) -> Result<(), AllocError> {
+    push_keys(entries)?;
+    push_keys(entries)
+}
+
 // All of them, twice.
 fn twelve_twice(alloc: Global) -> Result<Vec<(u64, u64)>, AllocError> {
     let mut entries = Vec::new(alloc);
-    push_keys(&mut entries)?;
-    push_keys(&mut entries)?;
+    push_keys_twice(&mut entries)?;
     Ok(entries)
 }
 
@@ -279,7 +306,7 @@ fn keys_of_one_home_are_distinct(rt: HostRuntime) -> Result<(), Fail> {
 
 // Entries: their classes and keys. The keys of class 8 lie too far apart for a row, and class 4096 is too large
 // for one.
-const OF_SMALL: [(u64, u64); 8] = [
+static OF_SMALL: [(u64, u64); 8] = [
     (7, 5000),
     (7, 5002),
     (7, 5000),
@@ -291,7 +318,7 @@ const OF_SMALL: [(u64, u64); 8] = [
 ];
 
 // A class and a key, and the number of the entry in force.
-const IN_FORCE: [(u64, u64, Option<usize>); 16] = [
+static IN_FORCE: [(u64, u64, Option<usize>); 16] = [
     (6, 0, None),
     (6, 1, None),
     (7, 0, None),

@@ -16,7 +16,7 @@ use std::sync::ledger::{Blank, Ledger};
 use std::test::Fail;
 
 // A number, a double, a string and a class of two fields: keys of its own class, and a double.
-const SOME_CLASSES: [ClassLine; 4] = [
+static SOME_CLASSES: [ClassLine; 4] = [
     (1, "long", None, &[]),
     (2, "double", None, &[]),
     (3, "java.lang.String", None, &[]),
@@ -24,7 +24,7 @@ const SOME_CLASSES: [ClassLine; 4] = [
 ];
 
 // The classes of stack traces, with the ids of a recording of JDK 17.
-const TRACE_CLASSES: [ClassLine; 6] = [
+static TRACE_CLASSES: [ClassLine; 6] = [
     (
         188,
         "jdk.types.StackTrace",
@@ -87,13 +87,36 @@ pub(crate) fn node_at_front<'a>(classes: &Classes, has: Has, bytes: &'a [u8]) ->
     }
 }
 
-// The kinds and places of the leaves of a value, one after another.
-fn leaves_of<L: Ledger>(
-    alloc: Global,
+// The kind and the place of a leaf.
+type LeafPlace = (LeafKind, usize);
+
+// Those of the next leaf, if there is one.
+fn next_leaf<L: Ledger>(leaves: &mut Leaves<'_, '_>, steps: &mut Steps<L>) -> Option<LeafPlace> {
+    let leaf = leaves.next_leaf(steps)?;
+    Some((leaf.kind, leaf.at))
+}
+
+// Whether these leaves follow, and no others.
+fn are_next<L: Ledger>(
+    leaves: &mut Leaves<'_, '_>,
+    steps: &mut Steps<L>,
+    expected: &[LeafPlace],
+) -> bool {
+    for leaf in expected {
+        if next_leaf(leaves, steps) != Some(*leaf) {
+            return false;
+        }
+    }
+    next_leaf(leaves, steps).is_none()
+}
+
+// Whether these are the leaves of a value.
+fn has_leaves<L: Ledger>(
     blank: Blank,
     classes: &Classes,
     node: Node<'_>,
-) -> Result<Vec<(LeafKind, usize)>, AllocError>
+    expected: &[LeafPlace],
+) -> bool
     requires name { blank.name ≡ L.name }
     requires parts { blank.parts ≡ L.parts }
     requires some { 0 < blank.parts }
@@ -101,17 +124,13 @@ fn leaves_of<L: Ledger>(
 {
     let mut steps: Steps<L> = Steps::new(blank);
     let mut leaves = Leaves::new(classes, node);
-    let mut seen = Vec::new(alloc);
-    while let Some(leaf) = leaves.next_leaf(&mut steps) {
-        seen.push((leaf.kind, leaf.at))?;
-    }
-    Ok(seen)
+    are_next(&mut leaves, &mut steps, expected)
 }
 
 // What is at the front of bytes, and where it ends or is flawed.
 type End = (Has, &'static [u8], Result<usize, Flaw>);
 
-const ENDS: [End; 4] = [
+static ENDS: [End; 4] = [
     // A count of items that aren't there.
     (
         Items(1),
@@ -146,27 +165,26 @@ fn values_end(rt: HostRuntime) -> Result<(), Fail> {
     Ok(())
 }
 
-// The leaves of the value at the front of the bytes are these.
+// Compares the leaves of the value at the front of the bytes, which is all of them.
 fn see_leaves(
     rt: &impl Abort,
-    alloc: Global,
     classes: &Classes,
-    node: Node<'_>,
-    expected: &[(LeafKind, usize)],
-) -> Result<(), Fail>
-    requires { IsValue classes.now node }
-{
-    let seen = leaves_of::<Brand>(alloc, Blank::new(1), classes, node)?;
-    assert!(rt; seen.as_slice() == expected);
+    has: Has,
+    bytes: &[u8],
+    expected: &[LeafPlace],
+) -> Result<(), Fail> {
+    let node = node_at_front(classes, has, bytes).ok_or("no value")?;
+    assert_eq!(rt; node.end, bytes.len());
+    assert!(rt; has_leaves::<Brand>(Blank::new(1), classes, node, expected));
     Ok(())
 }
 
 // Two pairs: the keys 7 and 8, and none.
-const TWO_PAIRS: [u8; 21] = [
+static TWO_PAIRS: [u8; 21] = [
     2, 2, 7, 8, 0x3f, 0xf0, 0, 0, 0, 0, 0, 0, 0, 0x40, 0, 0, 0, 0, 0, 0, 0,
 ];
 
-const OF_TWO_PAIRS: [(LeafKind, usize); 7] = [
+static OF_TWO_PAIRS: [LeafPlace; 7] = [
     (LeafKind::Count(2), 0),
     (LeafKind::Count(2), 1),
     (LeafKind::Key(7), 2),
@@ -176,17 +194,13 @@ const OF_TWO_PAIRS: [(LeafKind, usize); 7] = [
     (LeafKind::Base(Kind::Double), 13),
 ];
 
-fn see_pairs(rt: &impl Abort, alloc: Global, classes: &Classes) -> Result<(), Fail> {
-    let node = node_at_front(classes, Items(4), &TWO_PAIRS).ok_or("no value")?;
-    see_leaves(rt, alloc, classes, node, &OF_TWO_PAIRS)
-}
-
 #[test]
 fn leaves_follow_one_another(rt: HostRuntime) -> Result<(), Fail> {
     let classes = classes_of(rt.alloc(), &SOME_CLASSES)?;
-    see_pairs(&rt, rt.alloc(), &classes)
+    see_leaves(&rt, &classes, Items(4), &TWO_PAIRS, &OF_TWO_PAIRS)
 }
 
+// Compares the place of the second pair.
 fn see_second(rt: &impl Abort, classes: &Classes) -> Result<(), Fail> {
     let node = node_at_front(classes, Items(4), &TWO_PAIRS).ok_or("no value")?;
     let second = child(classes, &node, &Step::Item(1)).ok_or("no item")?;
@@ -201,14 +215,14 @@ fn an_item_follows_the_one_before(rt: HostRuntime) -> Result<(), Fail> {
 }
 
 // A constant of a recording of JDK 17: three frames.
-const TRACE: [u8; 29] = [
+static TRACE: [u8; 29] = [
     0x00, 0x03, 0xa1, 0x80, 0xc8, 0x39, 0xd9, 0x01, 0x0f, 0x00, 0x81, 0x80, 0xa4, 0x3c, 0xff, 0xff,
     0xff, 0xff, 0x0f, 0x08, 0x00, 0x8e, 0x80, 0xf8, 0x08, 0xc8, 0x06, 0x0b, 0x00,
 ];
 
 const INT: LeafKind = LeafKind::Base(Kind::Int);
 
-const OF_TRACE: [(LeafKind, usize); 14] = [
+static OF_TRACE: [LeafPlace; 14] = [
     (LeafKind::Base(Kind::Boolean), 0),
     (LeafKind::Count(3), 1),
     (LeafKind::Key(120_717_345), 2),
@@ -225,16 +239,10 @@ const OF_TRACE: [(LeafKind, usize); 14] = [
     (LeafKind::Key(0), 28),
 ];
 
-fn see_trace(rt: &impl Abort, alloc: Global, classes: &Classes) -> Result<(), Fail> {
-    let node = node_at_front(classes, Inline(188), &TRACE).ok_or("no value")?;
-    assert_eq!(rt; node.end, 29);
-    see_leaves(rt, alloc, classes, node, &OF_TRACE)
-}
-
 #[test]
 fn stack_traces_are_read(rt: HostRuntime) -> Result<(), Fail> {
     let classes = classes_of(rt.alloc(), &TRACE_CLASSES)?;
-    see_trace(&rt, rt.alloc(), &classes)
+    see_leaves(&rt, &classes, Inline(188), &TRACE, &OF_TRACE)
 }
 
 // Adds arrays of one item, 33 times, and of two numbers in the last.
@@ -251,22 +259,34 @@ fn deep_bytes(alloc: Global) -> Result<Vec<u8>, AllocError> {
     Ok(bytes)
 }
 
-// There are 36 leaves, of which the last two are numbers.
-fn see_deep_leaves(rt: &impl Abort, leaves: &[(LeafKind, usize)]) {
-    assert!(rt; leaves.len() == 36);
-    assert!(rt; leaves.get(34) == Some(&(LeafKind::Base(Kind::Long), 34)));
+// Adds the leaves of these bytes: a count for each array, and the two numbers.
+fn push_deep_leaves(leaves: &mut Vec<LeafPlace>) -> Result<(), AllocError> {
+    for at in 0..33 {
+        leaves.push((LeafKind::Count(1), at))?;
+    }
+    leaves.extend_from_slice(&[
+        (LeafKind::Count(2), 33),
+        (LeafKind::Base(Kind::Long), 34),
+        (LeafKind::Base(Kind::Long), 35),
+    ])
 }
 
-fn see_deep(rt: &impl Abort, alloc: Global, classes: &Classes, bytes: &[u8]) -> Result<(), Fail> {
-    let node = node_at_front(classes, Items(0), bytes).ok_or("no value")?;
-    let seen = leaves_of::<Brand>(alloc, Blank::new(1), classes, node)?;
-    see_deep_leaves(rt, &seen);
-    Ok(())
+// All of them.
+fn deep_leaves(alloc: Global) -> Result<Vec<LeafPlace>, AllocError> {
+    let mut leaves = Vec::new(alloc);
+    push_deep_leaves(&mut leaves)?;
+    Ok(leaves)
+}
+
+// Compares them.
+fn see_deep(rt: &impl Abort, alloc: Global, classes: &Classes) -> Result<(), Fail> {
+    let bytes = deep_bytes(alloc)?;
+    let leaves = deep_leaves(alloc)?;
+    see_leaves(rt, classes, Items(0), &bytes, &leaves)
 }
 
 #[test]
 fn values_nest(rt: HostRuntime) -> Result<(), Fail> {
     let classes = deep_classes(rt.alloc())?;
-    let bytes = deep_bytes(rt.alloc())?;
-    see_deep(&rt, rt.alloc(), &classes, &bytes)
+    see_deep(&rt, rt.alloc(), &classes)
 }

@@ -37,7 +37,7 @@ impl Visit<u64> for Seen {
 }
 
 // A number, a string, a class without fields, and one with a reference, a string, references and a number.
-const NODE_CLASSES: [ClassLine; 4] = [
+static NODE_CLASSES: [ClassLine; 4] = [
     (1, "long", None, &[]),
     (2, "java.lang.String", None, &[]),
     (3, "t.Empty", None, &[]),
@@ -55,7 +55,7 @@ const NODE_CLASSES: [ClassLine; 4] = [
 ];
 
 // Two nodes: the second has a text of its own, and no references.
-const TWO_NODES: [u8; 14] = [2, 7, 2, 9, 2, 5, 6, 42, 8, 3, 1, 120, 0, 43];
+static TWO_NODES: [u8; 14] = [2, 7, 2, 9, 2, 5, 6, 42, 8, 3, 1, 120, 0, 43];
 
 // What a node hands out but for one class.
 fn targets_of<L: Ledger>(
@@ -128,7 +128,7 @@ fn see_targets(
     Ok(())
 }
 
-const TARGETS: [(u64, u64); 5] = [(4, 7), (2, 9), (4, 5), (4, 6), (4, 8)];
+static TARGETS: [(u64, u64); 5] = [(4, 7), (2, 9), (4, 5), (4, 6), (4, 8)];
 
 fn see_nodes(rt: &impl Abort, alloc: Global, classes: &Classes) -> Result<(), Fail> {
     let node = node_at_front(classes, Items(4), &TWO_NODES).ok_or("no value")?;
@@ -171,7 +171,7 @@ fn the_walk_to_the_end_hands_out_the_same(rt: HostRuntime) -> Result<(), Fail> {
 }
 
 // As many items as a count can say.
-const MOST_ITEMS: [u8; 9] = [0xff; 9];
+static MOST_ITEMS: [u8; 9] = [0xff; 9];
 
 fn see_no_targets(rt: &impl Abort, alloc: Global, classes: &Classes) -> Result<(), Fail> {
     let node = node_at_front(classes, Items(3), &MOST_ITEMS).ok_or("no value")?;

@@ -1,4 +1,4 @@
 use Rattle.jfr_tests_values.proofs.value.see_leaves.Given as goal
 
-abbrev pub ghosts-leaves_of : goal.ghosts-leaves_of
-ghosts-leaves_of g a = record { name = a.blank.name; parts = a.blank.parts }
+abbrev pub ghosts-has_leaves : goal.ghosts-has_leaves
+ghosts-has_leaves g a = record { name = a.blank.name; parts = a.blank.parts }

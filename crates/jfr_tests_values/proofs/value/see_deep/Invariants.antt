@@ -1,4 +1,0 @@
-use Rattle.jfr_tests_values.proofs.value.see_deep.Given as goal
-
-abbrev pub ghosts-leaves_of : goal.ghosts-leaves_of
-ghosts-leaves_of g a = record { name = a.blank.name; parts = a.blank.parts }
