@@ -6,4 +6,6 @@ mod header;
 #[cfg(test)]
 mod outside;
 #[cfg(test)]
+mod places;
+#[cfg(test)]
 mod plan;

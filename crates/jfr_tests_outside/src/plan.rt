@@ -1,4 +1,5 @@
 //! Streams over places in memory, with a command that copies each chunk.
+use crate::places::{Script, create, place_of, steady_place_of};
 use jfr_base::{Flaw, ReadFault, Reason, Refusal};
 use jfr_fixtures::PLAIN;
 use jfr_header::Ending;
@@ -50,13 +51,18 @@ fn copy<P: Place>(alloc: Global, place: &mut P, strict: bool) -> Ending {
     make_stream(alloc, place, Copying { strict }, "a", "b")
 }
 
-// As many plain chunks, and the first bytes of another one.
-fn recording(alloc: Global, chunks: usize, more: usize) -> Result<Vec<u8>, AllocError> {
-    let mut bytes = Vec::new(alloc);
+// Adds as many plain chunks, and the first bytes of another one.
+fn push_chunks(bytes: &mut Vec<u8>, chunks: usize, more: usize) -> Result<(), AllocError> {
     for _ in 0..chunks {
         bytes.extend_from_slice(&PLAIN)?;
     }
-    bytes.extend_from_slice(&PLAIN[..more.min(103)])?;
+    bytes.extend_from_slice(&PLAIN[..more.min(103)])
+}
+
+// A recording of them.
+fn recording(alloc: Global, chunks: usize, more: usize) -> Result<Vec<u8>, AllocError> {
+    let mut bytes = Vec::new(alloc);
+    push_chunks(&mut bytes, chunks, more)?;
     Ok(bytes)
 }
 
@@ -65,7 +71,7 @@ struct Row {
     chunks: usize,
     more: usize,
     size: usize,
-    script: Option<(Call, u64, usize)>,
+    script: Option<Script>,
     answer: Ending,
     copied: Option<usize>,
 }
@@ -87,26 +93,36 @@ static ROWS: [Row; 13] = [
     Row { chunks: 2, more: 0, size: 999, script: Some((Call::Finish, 1, 0)), answer: Ending::WriteFault, copied: Some(206) },
 ];
 
+// Compares what b has: as many of these bytes, if it exists.
+fn see_output(rt: &impl Abort, place: &MemoryPlace, bytes: &[u8], copied: Option<usize>) {
+    match copied {
+        Some(count) => {
+            assert!(rt; count <= bytes.len());
+            assert_eq!(rt; place.file("b"), Some(&bytes[..count]));
+        }
+        None => assert_eq!(rt; place.file("b"), None),
+    }
+}
+
+// Copies these bytes as a row says, and compares the answer and what b has then.
+fn see_bytes(rt: &impl Abort, alloc: Global, bytes: &[u8], row: &Row) -> Result<(), Fail> {
+    let mut place = place_of(alloc, bytes, row.size, row.script)?;
+    let answer = copy(alloc, &mut place, false);
+    assert_eq!(rt; answer, row.answer);
+    see_output(rt, &place, bytes, row.copied);
+    Ok(())
+}
+
+// Compares the copy of a row.
+fn see_row(rt: &impl Abort, alloc: Global, row: &Row) -> Result<(), Fail> {
+    let bytes = recording(alloc, row.chunks, row.more)?;
+    see_bytes(rt, alloc, &bytes, row)
+}
+
 #[test]
 fn copies_by_its_rows(rt: HostRuntime) -> Result<(), Fail> {
     for row in ROWS.iter() {
-        let bytes = recording(rt.alloc(), row.chunks, row.more)?;
-        let mut place = MemoryPlace::new(rt.alloc());
-        place.put("a", &bytes)?;
-        if row.size > 0 {
-            place.cut(row.size);
-        }
-        if let Some((call, nth, keep)) = row.script {
-            place.fail(call, nth, keep)?;
-        }
-        assert_eq!(rt; copy(rt.alloc(), &mut place, false), row.answer);
-        match row.copied {
-            Some(count) => {
-                assert!(rt; count <= bytes.len());
-                assert_eq!(rt; place.file("b"), Some(&bytes[..count]));
-            }
-            None => assert_eq!(rt; place.file("b"), None),
-        }
+        see_row(&rt, rt.alloc(), row)?;
     }
     Ok(())
 }
@@ -116,26 +132,33 @@ fn see_copy(
     rt: &impl Abort,
     alloc: Global,
     place: &mut SteadyPlace,
+    strict: bool,
     answer: Ending,
     copied: Option<&[u8]>,
 ) {
-    assert_eq!(rt; copy(alloc, place, false), answer);
+    assert_eq!(rt; copy(alloc, place, strict), answer);
     assert_eq!(rt; place.file("b"), copied);
 }
 
-#[test]
-fn copies_over_a_steady_place(rt: HostRuntime) -> Result<(), Fail> {
-    let alloc = rt.alloc();
-    let mut place = SteadyPlace::new(alloc);
-    see_copy(&rt, alloc, &mut place, Ending::ReadFault, None);
+// Copies while the input is missing, another output is open, nothing is amiss, and the file b exists.
+fn see_copies(rt: &impl Abort, alloc: Global, place: &mut SteadyPlace) -> Result<(), Fail> {
+    see_copy(rt, alloc, place, false, Ending::ReadFault, None);
     place.put("a", &PLAIN)?;
-    assert_eq!(rt; place.create_output("c"), Ok(()));
-    see_copy(&rt, alloc, &mut place, Ending::WriteFault, None);
-    see_copy(&rt, alloc, &mut place, Ending::Done, Some(PLAIN.as_slice()));
+    create(place, "c")?;
+    see_copy(rt, alloc, place, false, Ending::WriteFault, None);
     see_copy(
-        &rt,
+        rt,
         alloc,
-        &mut place,
+        place,
+        false,
+        Ending::Done,
+        Some(PLAIN.as_slice()),
+    );
+    see_copy(
+        rt,
+        alloc,
+        place,
+        false,
         Ending::WriteFault,
         Some(PLAIN.as_slice()),
     );
@@ -143,15 +166,28 @@ fn copies_over_a_steady_place(rt: HostRuntime) -> Result<(), Fail> {
 }
 
 #[test]
-fn a_refused_chunk_is_not_copied(rt: HostRuntime) -> Result<(), Fail> {
-    let refused = Ending::Refused(Refusal {
-        chunk: 1,
-        offset: 100,
-        reason: Reason::ChainDelta,
-    });
+fn copies_over_a_steady_place(rt: HostRuntime) -> Result<(), Fail> {
     let mut place = SteadyPlace::new(rt.alloc());
-    place.put("a", &PLAIN)?;
-    assert_eq!(rt; copy(rt.alloc(), &mut place, true), refused);
-    assert_eq!(rt; place.file("b"), Some(&PLAIN[..0]));
+    see_copies(&rt, rt.alloc(), &mut place)
+}
+
+// The answer to a chunk that a strict copy refuses.
+const REFUSED: Ending = Ending::Refused(Refusal {
+    chunk: 1,
+    offset: 100,
+    reason: Reason::ChainDelta,
+});
+
+#[test]
+fn a_refused_chunk_is_not_copied(rt: HostRuntime) -> Result<(), Fail> {
+    let mut place = steady_place_of(rt.alloc(), &PLAIN)?;
+    see_copy(
+        &rt,
+        rt.alloc(),
+        &mut place,
+        true,
+        REFUSED,
+        Some(&PLAIN[..0]),
+    );
     Ok(())
 }
