@@ -5,7 +5,7 @@ use std::process::Abort;
 // The bytes of an integer, and what is read.
 type Read = (&'static [u8], Result<Var, Short>);
 
-const READS: [Read; 6] = [
+static READS: [Read; 6] = [
     (&[0xAC, 0x02], Ok(Var { value: 300, end: 2 })),
     (&[0xAC, 0x82, 0x80, 0x00], Ok(Var { value: 300, end: 4 })),
     (

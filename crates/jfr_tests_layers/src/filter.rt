@@ -10,49 +10,59 @@ fn matches(rt: &impl Abort, pattern: &str, text: &str, wanted: bool) {
     assert_eq!(rt; glob(pattern, text), wanted, "{pattern} at {text}");
 }
 
+/// A pattern and a text, and whether it matches.
+type Glob = (&'static str, &'static str, bool);
+
+static GLOBS: [Glob; 11] = [
+    ("jdk.*", "jdk.ThreadPark", true),
+    ("worker-?", "worker-1", true),
+    ("*", "", true),
+    ("?", "", false),
+    ("jdk", "jdk.A", false),
+    ("JDK.*", "jdk.A", false),
+    ("*ab*c", "aabxabc", true),
+    ("*a*a*a*a*b", "aaaaaaaaaaaaaaaa", false),
+    // A character beyond ASCII is one.
+    ("na?ve", "na\u{EF}ve", true),
+    ("??", "\u{1F600}", false),
+    ("*\u{1F600}", "smile \u{1F600}", true),
+];
+
 #[test]
 fn globs(rt: HostRuntime) {
-    matches(&rt, "jdk.*", "jdk.ThreadPark", true);
-    matches(&rt, "worker-?", "worker-1", true);
-    matches(&rt, "*", "", true);
-    matches(&rt, "?", "", false);
-    matches(&rt, "jdk", "jdk.A", false);
-    matches(&rt, "JDK.*", "jdk.A", false);
-    matches(&rt, "*ab*c", "aabxabc", true);
-    matches(&rt, "*a*a*a*a*b", "aaaaaaaaaaaaaaaa", false);
-    // A character beyond ASCII is one.
-    matches(&rt, "na?ve", "na\u{EF}ve", true);
-    matches(&rt, "??", "\u{1F600}", false);
-    matches(&rt, "*\u{1F600}", "smile \u{1F600}", true);
+    for (pattern, text, wanted) in GLOBS.iter() {
+        matches(&rt, pattern, text, *wanted);
+    }
 }
+
+/// Lists with an empty part.
+static EMPTY_PARTS: [&str; 4] = ["A,,B", ",A", "A,", ""];
 
 /// Adding the list to a new filter is refused, for an empty part.
 fn has_empty_part(rt: &impl Abort, alloc: Global, list: &str) {
     let mut filter = Filter::new(alloc);
     assert_eq!(rt;
         filter.add(Side::IncludeEvents, list),
-        Err(FilterFault::EmptyPattern)
+        Err(FilterFault::EmptyPattern),
+        "{list}"
     );
-    assert!(rt; !filter.has(Side::IncludeEvents));
+    assert!(rt; !filter.has(Side::IncludeEvents), "{list}");
 }
 
-/// A filter with an option has this one and no other.
-fn has_one(rt: &impl Abort, alloc: Global) -> Result<(), Fail> {
-    let mut filter = Filter::new(alloc);
-    filter.add(Side::ExcludeThreads, "A,B")?;
+/// A filter with an option for threads has this one and no other.
+fn has_one(rt: &impl Abort, filter: &Filter) {
     assert!(rt; filter.has(Side::ExcludeThreads));
     assert!(rt; !filter.has(Side::IncludeThreads));
-    Ok(())
 }
 
 #[test]
 fn lists(rt: HostRuntime) -> Result<(), Fail> {
-    let alloc = rt.alloc();
-    has_empty_part(&rt, alloc, "A,,B");
-    has_empty_part(&rt, alloc, ",A");
-    has_empty_part(&rt, alloc, "A,");
-    has_empty_part(&rt, alloc, "");
-    has_one(&rt, alloc)
+    for list in EMPTY_PARTS.iter() {
+        has_empty_part(&rt, rt.alloc(), list);
+    }
+    let filter = filter_of(rt.alloc(), &[(Side::ExcludeThreads, "A,B")])?;
+    has_one(&rt, &filter);
+    Ok(())
 }
 
 /// The text of a fault.
@@ -100,7 +110,7 @@ fn push_texts(words: &mut Words, texts: &[&str]) -> Result<(), NoMemory> {
 }
 
 /// Words of these texts.
-fn words_of(alloc: Global, texts: &[&str]) -> Result<Words, NoMemory> {
+pub(crate) fn words_of(alloc: Global, texts: &[&str]) -> Result<Words, NoMemory> {
     let mut words = Words::new(alloc);
     push_texts(&mut words, texts)?;
     Ok(words)
@@ -118,14 +128,15 @@ type Event = (
 type Case = (&'static [(Side, &'static str)], &'static [Event]);
 
 /// Whether the filter keeps the event.
-fn is_kept(filter: &Filter, event: &Event, categories: &Words) -> bool {
-    filter.keeps(event.0, categories, event.2)
+fn is_kept(alloc: Global, filter: &Filter, event: &Event) -> Result<bool, NoMemory> {
+    let categories = words_of(alloc, event.1)?;
+    Ok(filter.keeps(event.0, &categories, event.2))
 }
 
 /// The filter keeps the event, or doesn't, as the row says.
 fn see_event(rt: &impl Abort, alloc: Global, filter: &Filter, event: &Event) -> Result<(), Fail> {
-    let categories = words_of(alloc, event.1)?;
-    assert!(rt; is_kept(filter, event, &categories) == event.3, "{event:?}");
+    let is_kept = is_kept(alloc, filter, event)?;
+    assert!(rt; is_kept == event.3, "{event:?}");
     Ok(())
 }
 
@@ -156,7 +167,7 @@ fn see_cases(rt: &impl Abort, alloc: Global, cases: &[Case]) -> Result<(), Fail>
     Ok(())
 }
 
-const BY_CLASS: [Case; 2] = [
+static BY_CLASS: [Case; 2] = [
     // Without an option each event is kept.
     (&[], &[("jdk.CPULoad", &[], None, true)]),
     (
@@ -178,7 +189,7 @@ fn events(rt: HostRuntime) -> Result<(), Fail> {
     see_cases(&rt, rt.alloc(), &BY_CLASS)
 }
 
-const BY_CATEGORY: [Case; 1] = [(
+static BY_CATEGORY: [Case; 1] = [(
     &[(Side::IncludeCategories, "Operating*")],
     &[
         ("jdk.CPULoad", &["Java", "Operating System"], None, true),
@@ -192,7 +203,7 @@ fn categories(rt: HostRuntime) -> Result<(), Fail> {
 }
 
 // An event without a thread is neither included by its thread nor excluded.
-const BY_THREAD: [Case; 2] = [
+static BY_THREAD: [Case; 2] = [
     (
         &[(Side::IncludeThreads, "worker*")],
         &[
@@ -211,7 +222,7 @@ fn threads(rt: HostRuntime) -> Result<(), Fail> {
     see_cases(&rt, rt.alloc(), &BY_THREAD)
 }
 
-const THREE_OPTIONS: [(Side, &str); 3] = [
+static THREE_OPTIONS: [(Side, &str); 3] = [
     (Side::IncludeEvents, "t.*"),
     (Side::ExcludeCategories, "Java"),
     (Side::IncludeThreads, "main"),
@@ -246,7 +257,7 @@ fn parts(rt: HostRuntime) -> Result<(), Fail> {
     asks_three_options(&rt, rt.alloc())
 }
 
-const TWO_OPTIONS: [(Side, &str); 2] = [
+static TWO_OPTIONS: [(Side, &str); 2] = [
     (Side::IncludeEvents, "A"),
     (Side::ExcludeCategories, "A,Java*"),
 ];

@@ -1,5 +1,10 @@
 //! Metadata records with a byte edited, and trees of many levels. Places count from the record's
 //! first byte.
+
+ghost use Rattle.std.specs.Prelude.{◌≡◌, IfOk};
+ghost use Rattle.jfr_tests_layers.specs.NoClasses.{two_elements};
+
+use crate::filter::words_of;
 use jfr_base::{Flaw, ReadFault, Reason};
 use jfr_fixtures::{CLASSES, NO_CLASSES};
 use jfr_frame::next_record;
@@ -12,14 +17,14 @@ use std::test::Fail;
 // The place of a byte of the record, what it becomes, and the flaw.
 type Edit = (usize, u8, u64, Reason);
 
-const EDITS_OF_NO_CLASSES: [Edit; 4] = [
+static EDITS_OF_NO_CLASSES: [Edit; 4] = [
     (6, 2, 6, Reason::StringKind),
     (6, 6, 6, Reason::StringKind),
     (22, 2, 22, Reason::StringIndex),
     (25, 0, 22, Reason::NoClasses),
 ];
 
-const EDITS_OF_CLASSES: [Edit; 7] = [
+static EDITS_OF_CLASSES: [Edit; 7] = [
     (182, 9, 177, Reason::ClassBad),
     (189, 15, 184, Reason::ClassTwice),
     (212, 21, 207, Reason::FieldBad),
@@ -37,45 +42,46 @@ fn read(alloc: Global, record: &[u8]) -> Result<Metadata, ReadFault> {
     }
 }
 
-// Why a record is refused.
-fn fault_in(alloc: Global, record: &[u8]) -> Result<Option<ReadFault>, ReadFault> {
-    Ok(read(alloc, record).err())
-}
-
-// Why a record with one byte edited is refused.
-fn fault_of(
-    alloc: Global,
-    record: &[u8],
-    at: usize,
-    byte: u8,
-) -> Result<Option<ReadFault>, ReadFault> {
-    let mut bytes = Vec::from_slice(alloc, record)?;
+// Edits a byte.
+fn edit(bytes: &mut [u8], at: usize, byte: u8) {
     if let Some(edited) = bytes.get_mut(at) {
         *edited = byte;
     }
-    fault_in(alloc, &bytes)
 }
 
 fn flawed(offset: u64, reason: Reason) -> Option<ReadFault> {
     Some(ReadFault::Flawed(Flaw { offset, reason }))
 }
 
+// Compares why a record is refused. If it is read, there is no fault.
+fn see_fault(rt: &impl Abort, alloc: Global, record: &[u8], fault: Option<ReadFault>) {
+    assert_eq!(rt; read(alloc, record).err(), fault);
+}
+
 // The metadata of a chunk without classes.
 fn see_no_classes(rt: &impl Abort, none: &Metadata) {
     let numbers = (none.start, none.duration, none.id, none.classes.len());
     assert_eq!(rt; numbers, (0, 0, 1, 0));
-    assert!(rt; none.strings.get(1) == Some("metadata"));
+    assert_eq!(rt; none.root.children().len(), 1);
 }
 
-fn read_no_classes(rt: &impl Abort, alloc: Global) -> Result<(), Fail> {
-    let none = read(alloc, NO_CLASSES)?;
+// Its strings.
+fn see_strings(rt: &impl Abort, strings: &Words) {
+    assert!(rt; strings.get(0) == Some("root"));
+    assert!(rt; strings.get(1) == Some("metadata"));
+}
+
+// Reads both.
+fn read_no_classes(rt: &impl Abort, alloc: Global, record: &[u8]) -> Result<(), Fail> {
+    let none = read(alloc, record)?;
     see_no_classes(rt, &none);
+    see_strings(rt, &none.strings);
     Ok(())
 }
 
 #[test]
 fn reads_no_classes(rt: HostRuntime) -> Result<(), Fail> {
-    read_no_classes(&rt, rt.alloc())
+    read_no_classes(&rt, rt.alloc(), NO_CLASSES)
 }
 
 // The metadata of five classes.
@@ -103,19 +109,24 @@ fn see_edit(
     record: &[u8],
     (at, byte, offset, reason): Edit,
 ) -> Result<(), Fail> {
-    assert_eq!(rt; fault_of(alloc, record, at, byte)?, flawed(offset, reason));
+    let mut bytes = Vec::from_slice(alloc, record)?;
+    edit(&mut bytes, at, byte);
+    see_fault(rt, alloc, &bytes, flawed(offset, reason));
+    Ok(())
+}
+
+// Compares the flaw of each edit of a record.
+fn see_edits(rt: &impl Abort, alloc: Global, record: &[u8], edits: &[Edit]) -> Result<(), Fail> {
+    for edit in edits {
+        see_edit(rt, alloc, record, *edit)?;
+    }
     Ok(())
 }
 
 #[test]
 fn flaws_of_edited_records_are_reported(rt: HostRuntime) -> Result<(), Fail> {
-    for edit in EDITS_OF_NO_CLASSES.iter() {
-        see_edit(&rt, rt.alloc(), NO_CLASSES, *edit)?;
-    }
-    for edit in EDITS_OF_CLASSES.iter() {
-        see_edit(&rt, rt.alloc(), CLASSES, *edit)?;
-    }
-    Ok(())
+    see_edits(&rt, rt.alloc(), NO_CLASSES, &EDITS_OF_NO_CLASSES)?;
+    see_edits(&rt, rt.alloc(), CLASSES, &EDITS_OF_CLASSES)
 }
 
 // Adds elements, each of which is a child of the one before.
@@ -126,15 +137,13 @@ fn push_levels(bytes: &mut Vec<u8>, levels: u8) -> Result<(), AllocError> {
     bytes.extend_from_slice(&[1, 0, 0])
 }
 
-// Why a record with this many levels of elements is refused.
-fn fault_of_levels(alloc: Global, levels: u8) -> Result<Option<ReadFault>, ReadFault> {
+// A record with this many levels of elements.
+fn record_of_levels(alloc: Global, levels: u8) -> Result<Vec<u8>, AllocError> {
     let (head, _) = NO_CLASSES.split_at(22);
     let mut bytes = Vec::from_slice(alloc, head)?;
     push_levels(&mut bytes, levels)?;
-    if let Some(size) = bytes.get_mut(0) {
-        *size = 22u8.saturating_add(levels.saturating_mul(3));
-    }
-    fault_in(alloc, &bytes)
+    edit(&mut bytes, 0, 22u8.saturating_add(levels.saturating_mul(3)));
+    Ok(bytes)
 }
 
 // Compares why a record with this many levels is refused, if it is.
@@ -144,7 +153,8 @@ fn see_levels(
     levels: u8,
     fault: Option<ReadFault>,
 ) -> Result<(), Fail> {
-    assert_eq!(rt; fault_of_levels(alloc, levels)?, fault);
+    let bytes = record_of_levels(alloc, levels)?;
+    see_fault(rt, alloc, &bytes, fault);
     Ok(())
 }
 
@@ -155,47 +165,45 @@ fn sixteen_levels_are_read(rt: HostRuntime) -> Result<(), Fail> {
 }
 
 // The record of a chunk without classes as it is written: its size takes five bytes.
-const WRITTEN: [u8; 32] = [
+static WRITTEN: [u8; 32] = [
     0xA0, 0x80, 0x80, 0x80, 0x00, 0x00, 0x00, 0x00, 0x01, 0x02, 0x03, 0x04, 0x72, 0x6F, 0x6F, 0x74,
     0x03, 0x08, 0x6D, 0x65, 0x74, 0x61, 0x64, 0x61, 0x74, 0x61, 0x00, 0x00, 0x01, 0x01, 0x00, 0x00,
 ];
 
-// That record as it is written. Its length is known before, without the number of strings.
-fn written(rt: &impl Abort, alloc: Global) -> Result<Vec<u8>, NoMemory> {
-    let mut strings = Words::new(alloc);
-    strings.push("root")?;
-    strings.push("metadata")?;
+// The tree of that record.
+fn elements(alloc: Global) -> Result<Element, NoMemory>
+    ensures { IfOk result (λ root. root ≡ two_elements) }
+{
     let mut children = Elements::new(alloc);
     children.push(Element::new(0, 1, Pairs::new(alloc), Elements::new(alloc)))?;
-    let root = Element::new(0, 0, Pairs::new(alloc), children);
-    assert_eq!(rt; metadata_len(&strings, &root), 22);
-    write_metadata(alloc, 0, 0, 1, &strings, &root)
+    Ok(Element::new(0, 0, Pairs::new(alloc), children))
 }
 
-fn see_written(rt: &impl Abort, alloc: Global) -> Result<(), Fail> {
-    let record = written(rt, alloc)?;
+// Compares the record of these strings and this tree. Its length is known before, without the number of
+// strings.
+fn see_written(rt: &impl Abort, alloc: Global, strings: &Words, root: &Element) -> Result<(), Fail>
+    requires { root.now ≡ two_elements }
+{
+    assert_eq!(rt; strings.len(), 2);
+    assert_eq!(rt; metadata_len(strings, root), 22);
+    let record = write_metadata(alloc, 0, 0, 1, strings, root)?;
     assert_eq!(rt; record.as_slice(), WRITTEN.as_slice());
     Ok(())
 }
 
+// Compares the record of these strings.
+fn see_record(rt: &impl Abort, alloc: Global, strings: &Words) -> Result<(), Fail> {
+    let root = elements(alloc)?;
+    see_written(rt, alloc, strings, &root)
+}
+
 #[test]
 fn writes_a_record(rt: HostRuntime) -> Result<(), Fail> {
-    see_written(&rt, rt.alloc())
-}
-
-// Compares what is read of it.
-fn see_read(rt: &impl Abort, again: &Metadata) {
-    assert_eq!(rt; again.root.children().len(), 1);
-    assert_eq!(rt; again.strings.get(0), Some("root"));
-}
-
-fn read_written(rt: &impl Abort, alloc: Global) -> Result<(), Fail> {
-    let again = read(alloc, &WRITTEN)?;
-    see_read(rt, &again);
-    Ok(())
+    let strings = words_of(rt.alloc(), &["root", "metadata"])?;
+    see_record(&rt, rt.alloc(), &strings)
 }
 
 #[test]
 fn reads_what_is_written(rt: HostRuntime) -> Result<(), Fail> {
-    read_written(&rt, rt.alloc())
+    read_no_classes(&rt, rt.alloc(), &WRITTEN)
 }
