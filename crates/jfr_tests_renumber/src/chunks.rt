@@ -1,13 +1,16 @@
 //! Chunks with new keys.
 use jfr_base::ReadFault;
 use jfr_chunk::Chunk;
-use jfr_filter::{Filter, Side};
+use jfr_filter::{Filter, FilterFault, Side};
 use jfr_fixtures::{CLASSES, CLASSES_OF_A, CLASSES_OF_B, PLAIN, with_classes, with_metadata};
 use jfr_header::is_cut;
 use jfr_renumber::Renumberer;
 use std::alloc::Global;
 use std::process::Abort;
 use std::test::Fail;
+
+// A class, a key that is used, and its new key.
+type Key = (u64, u64, u64);
 
 // Records, with the place of the last checkpoint, and the name of the events that are kept, if not all are; the
 // metadata record and the records of the output, with the place of its last checkpoint; and each class and key
@@ -19,7 +22,7 @@ struct Row {
     metadata: &'static [u8],
     renumbered: &'static [u8],
     renumbered_last: u64,
-    keys: &'static [(u64, u64, u64)],
+    keys: &'static [Key],
 }
 
 #[rattlefmt::skip]
@@ -135,7 +138,7 @@ fn read<'a>(alloc: Global, bytes: &'a [u8]) -> Result<Chunk<'a>, ReadFault> {
 }
 
 // The filter that keeps the events of this name, or all.
-fn filter_of(alloc: Global, events: Option<&str>) -> Result<Filter, Fail> {
+fn filter_of(alloc: Global, events: Option<&str>) -> Result<Filter, FilterFault> {
     let mut filter = Filter::new(alloc);
     if let Some(name) = events {
         filter.add(Side::IncludeEvents, name)?;
@@ -144,20 +147,26 @@ fn filter_of(alloc: Global, events: Option<&str>) -> Result<Filter, Fail> {
 }
 
 // Compares the output of a chunk, and the new keys.
+fn compare_output(rt: &impl Abort, renumberer: &Renumberer, expected: &[u8], keys: &[Key]) {
+    assert_eq!(rt; renumberer.bytes(), expected);
+    for (class, key, new) in keys {
+        assert_eq!(rt; renumberer.new_key(*class, *key), Some(*new));
+    }
+    assert_eq!(rt; renumberer.new_key(7, 99), None);
+}
+
+// Makes the output of a chunk, and compares it and the new keys.
 fn compare_chunk(
     rt: &impl Abort,
     alloc: Global,
     chunk: &Chunk<'_>,
-    filter: &Filter,
+    events: Option<&str>,
     expected: &[u8],
-    keys: &[(u64, u64, u64)],
+    keys: &[Key],
 ) -> Result<(), Fail> {
-    let renumberer = Renumberer::prepare(alloc, chunk, filter)?;
-    assert_eq!(rt; renumberer.bytes(), expected);
-    for &(class, key, new) in keys {
-        assert_eq!(rt; renumberer.new_key(class, key), Some(new));
-    }
-    assert_eq!(rt; renumberer.new_key(7, 99), None);
+    let filter = filter_of(alloc, events)?;
+    let renumberer = Renumberer::prepare(alloc, chunk, &filter)?;
+    compare_output(rt, &renumberer, expected, keys);
     Ok(())
 }
 
@@ -168,11 +177,10 @@ fn compare_bytes(
     bytes: &[u8],
     events: Option<&str>,
     expected: &[u8],
-    keys: &[(u64, u64, u64)],
+    keys: &[Key],
 ) -> Result<(), Fail> {
-    let filter = filter_of(alloc, events)?;
     let chunk = read(alloc, bytes)?;
-    compare_chunk(rt, alloc, &chunk, &filter, expected, keys)
+    compare_chunk(rt, alloc, &chunk, events, expected, keys)
 }
 
 // Compares the chunk of a row.

@@ -5,7 +5,8 @@ use jfr_fixtures::{PLAIN, with_classes};
 use jfr_header::Ending;
 use jfr_outside::{Call, MemoryPlace, NoMemory, Place};
 use jfr_renumber::renumber_stream;
-use std::alloc::Global;
+use std::alloc::{AllocError, Global};
+use std::process::Abort;
 use std::test::Fail;
 
 // Two events with equal constants, and what becomes of them.
@@ -45,45 +46,89 @@ static ROWS: [Row; 7] = [
     Row { more: 0, script: Some((Call::Finish, 1, 0)), answer: Ending::WriteFault, written: Some(455), open: false },
 ];
 
-// The plain chunk, then a chunk of these records, then the first bytes of another plain chunk.
-fn recording(alloc: Global, records: &[u8], more: usize) -> Result<Vec<u8>, NoMemory> {
-    let mut bytes = Vec::from_slice(alloc, &PLAIN)?;
+// Adds the plain chunk, then a chunk of these records, then the first bytes of another plain chunk.
+fn push_recording(
+    bytes: &mut Vec<u8>,
+    alloc: Global,
+    records: &[u8],
+    more: usize,
+) -> Result<(), AllocError> {
+    bytes.extend_from_slice(&PLAIN)?;
     bytes.extend_from_slice(&with_classes(alloc, records, 333)?)?;
-    bytes.extend_from_slice(&PLAIN[..more.min(103)])?;
+    bytes.extend_from_slice(&PLAIN[..more.min(103)])
+}
+
+// A recording of them.
+fn recording(alloc: Global, records: &[u8], more: usize) -> Result<Vec<u8>, AllocError> {
+    let mut bytes = Vec::new(alloc);
+    push_recording(&mut bytes, alloc, records, more)?;
     Ok(bytes)
+}
+
+// Puts a row's input, and makes a call fail by its script.
+fn prepare(place: &mut MemoryPlace, alloc: Global, row: &Row) -> Result<(), NoMemory> {
+    let bytes = recording(alloc, RECORDS, row.more)?;
+    place.put("in", &bytes)?;
+    match row.script {
+        Some((call, nth, keep)) => place.fail(call, nth, keep),
+        None => Ok(()),
+    }
 }
 
 // A place with the row's input and script.
 fn place_of(alloc: Global, row: &Row) -> Result<MemoryPlace, NoMemory> {
-    let bytes = recording(alloc, RECORDS, row.more)?;
     let mut place = MemoryPlace::new(alloc);
-    place.put("in", &bytes)?;
-    if let Some((call, nth, keep)) = row.script {
-        place.fail(call, nth, keep)?;
-    }
+    prepare(&mut place, alloc, row)?;
     Ok(place)
+}
+
+// Renumbers the input of a place. All events are kept.
+fn renumber(alloc: Global, place: &mut MemoryPlace) -> Ending {
+    let filter = Filter::new(alloc);
+    renumber_stream(alloc, place, "in", "out", &filter)
+}
+
+// Compares what the output has: as many of the expected bytes, if it exists.
+fn compare_output(rt: &impl Abort, place: &MemoryPlace, expected: &[u8], written: Option<usize>) {
+    match written {
+        Some(count) => {
+            assert!(rt; count <= expected.len());
+            assert_eq!(rt; place.file("out"), Some(&expected[..count]));
+        }
+        None => assert_eq!(rt; place.file("out"), None),
+    }
+}
+
+// Renumbers the input of a place, and compares the answer, the output, and whether it is left open.
+fn compare_place(
+    rt: &impl Abort,
+    alloc: Global,
+    place: &mut MemoryPlace,
+    expected: &[u8],
+    row: &Row,
+) {
+    assert_eq!(rt; renumber(alloc, place), row.answer);
+    compare_output(rt, place, expected, row.written);
+    assert_eq!(rt; place.finish_output().is_ok(), row.open);
+}
+
+// Compares what becomes of the input of a row.
+fn compare_row(rt: &impl Abort, alloc: Global, expected: &[u8], row: &Row) -> Result<(), Fail> {
+    let mut place = place_of(alloc, row)?;
+    compare_place(rt, alloc, &mut place, expected, row);
+    Ok(())
+}
+
+// Compares that of each row.
+fn compare_rows(rt: &impl Abort, alloc: Global, expected: &[u8]) -> Result<(), Fail> {
+    for row in ROWS.iter() {
+        compare_row(rt, alloc, expected, row)?;
+    }
+    Ok(())
 }
 
 #[test]
 fn recordings_are_renumbered_by_their_rows(rt: HostRuntime) -> Result<(), Fail> {
-    let alloc = rt.alloc();
-    let filter = Filter::new(alloc);
-    let expected = recording(alloc, RENUMBERED, 0)?;
-    for row in ROWS.iter() {
-        let mut place = place_of(alloc, row)?;
-        assert_eq!(rt;
-            renumber_stream(alloc, &mut place, "in", "out", &filter),
-            row.answer
-        );
-        match row.written {
-            Some(count) => {
-                assert!(rt; count <= expected.len());
-                assert_eq!(rt; place.file("out"), Some(&expected[..count]));
-            }
-            None => assert_eq!(rt; place.file("out"), None),
-        }
-        let finished = place.finish_output();
-        assert_eq!(rt; finished.is_ok(), row.open);
-    }
-    Ok(())
+    let expected = recording(rt.alloc(), RENUMBERED, 0)?;
+    compare_rows(&rt, rt.alloc(), &expected)
 }
