@@ -1,10 +1,11 @@
 //! Files of a folder joined, over places in memory.
+use crate::places::{Script, cut_into_d, finish, follow, join};
 use crate::recordings::{chunk, recording};
 use jfr_base::{Reason, Refusal};
 use jfr_header::Ending;
-use jfr_outside::{Call, MemoryPlace, NoMemory, Place, SteadyPlace, Text};
-use jfr_split::{SplitRule, assemble, disassemble};
-use std::alloc::{AllocError, Global};
+use jfr_outside::{Call, MemoryPlace, NoMemory, SteadyPlace};
+use std::alloc::Global;
+use std::process::Abort;
 use std::test::Fail;
 
 // A recording of which chunks are cut into parts, by how many chunks a part may have.
@@ -21,36 +22,49 @@ static ROUNDS: [Round; 4] = [
     Round { chunks: 4, max_chunks: 9 },
 ];
 
-// Cuts the recording into parts in the folder d.
-fn cut<P: Place>(alloc: Global, place: &mut P, max_chunks: u64) -> Result<Ending, NoMemory> {
-    let rule = SplitRule {
-        folder: Some(Text::make(alloc, "d")?),
-        max_chunks: max_chunks.max(1),
-        max_size: 1 << 40,
-        max_parts: 999_999,
-    };
-    Ok(disassemble(alloc, place, "r.jfr", &rule))
+// Cuts a recording into parts, joins them, and compares what comes of that.
+fn see_joined(
+    rt: &impl Abort,
+    alloc: Global,
+    place: &mut SteadyPlace,
+    bytes: &[u8],
+    max_chunks: u64,
+) -> Result<(), Fail> {
+    place.put("r.jfr", bytes)?;
+    let ending = cut_into_d(alloc, place, "r.jfr", (max_chunks, 1 << 40, 999_999))?;
+    assert_eq!(rt; ending, Ending::Done);
+    assert_eq!(rt; join(alloc, place), Ending::Done);
+    assert!(rt; place.file("out") == Some(bytes));
+    Ok(())
+}
+
+// Does so with the recording of a row.
+fn see_round(rt: &impl Abort, alloc: Global, round: &Round) -> Result<(), Fail> {
+    let bytes = recording(alloc, round.chunks, 0)?;
+    let mut place = SteadyPlace::new(alloc);
+    see_joined(rt, alloc, &mut place, &bytes, round.max_chunks)
 }
 
 #[test]
 fn a_recording_comes_back_from_its_parts(rt: HostRuntime) -> Result<(), Fail> {
-    let alloc = rt.alloc();
     for round in ROUNDS.iter() {
-        let bytes = recording(alloc, round.chunks, 0)?;
-        let mut place = SteadyPlace::new(alloc);
-        place.put("r.jfr", &bytes)?;
-        assert_eq!(rt; cut(alloc, &mut place, round.max_chunks)?, Ending::Done);
-        assert_eq!(rt; assemble(alloc, &mut place, "d", "out"), Ending::Done);
-        assert_eq!(rt; place.file("out"), Some(bytes.as_slice()));
+        see_round(&rt, rt.alloc(), round)?;
     }
     Ok(())
 }
 
+// The name of a file, and what the start of its chunk ends with, if it has one.
+type File = (&'static str, Option<u8>);
+
+const A: File = ("d/a.jfr", Some(0));
+
+const B: File = ("d/b.jfr", Some(1));
+
 // Which files are there, a script, the answer, how many bytes of a.jfr and b.jfr the output has, and
 // whether it is left open.
 struct Row {
-    files: &'static [&'static str],
-    script: Option<(Call, u64, usize)>,
+    files: &'static [File],
+    script: Script,
     answer: Ending,
     joined: Option<usize>,
     open: bool,
@@ -70,60 +84,72 @@ const NO_THIRD_CHUNK: Ending = Ending::Refused(Refusal {
 
 #[rattlefmt::skip]
 static ROWS: [Row; 14] = [
-    Row { files: &["d/b.jfr", "d/a.jfr", "d/c.txt"], script: None, answer: Ending::Done, joined: Some(206), open: false },
-    Row { files: &["d/c.txt", "d/a.jfr", "d/b.jfr"], script: None, answer: Ending::Done, joined: Some(206), open: false },
-    Row { files: &["d/a.jfr", "d/b.jfr", "d/e/0.jfr", "0.jfr", "dd/0.jfr", "d/0.jfr.old"], script: None, answer: Ending::Done, joined: Some(206), open: false },
-    Row { files: &["d/a.jfr"], script: None, answer: Ending::Done, joined: Some(103), open: false },
-    Row { files: &["d/b.jfr", "d/a.jfr", "d/c.txt", "d/c.jfr"], script: None, answer: NO_THIRD_CHUNK, joined: Some(206), open: true },
-    Row { files: &["d/c.txt"], script: None, answer: NO_CHUNK, joined: Some(0), open: true },
+    Row { files: &[B, A, ("d/c.txt", None)], script: None, answer: Ending::Done, joined: Some(206), open: false },
+    Row { files: &[("d/c.txt", None), A, B], script: None, answer: Ending::Done, joined: Some(206), open: false },
+    Row { files: &[A, B, ("d/e/0.jfr", None), ("0.jfr", None), ("dd/0.jfr", None), ("d/0.jfr.old", None)], script: None, answer: Ending::Done, joined: Some(206), open: false },
+    Row { files: &[A], script: None, answer: Ending::Done, joined: Some(103), open: false },
+    Row { files: &[B, A, ("d/c.txt", None), ("d/c.jfr", None)], script: None, answer: NO_THIRD_CHUNK, joined: Some(206), open: true },
+    Row { files: &[("d/c.txt", None)], script: None, answer: NO_CHUNK, joined: Some(0), open: true },
     Row { files: &[], script: None, answer: NO_CHUNK, joined: Some(0), open: true },
-    Row { files: &["d/a.jfr", "d/b.jfr"], script: Some((Call::List, 1, 0)), answer: Ending::ReadFault, joined: None, open: false },
-    Row { files: &["d/a.jfr", "d/b.jfr"], script: Some((Call::Create, 1, 0)), answer: Ending::WriteFault, joined: None, open: false },
-    Row { files: &["d/a.jfr", "d/b.jfr"], script: Some((Call::Open, 2, 0)), answer: Ending::ReadFault, joined: Some(103), open: true },
-    Row { files: &["d/a.jfr", "d/b.jfr"], script: Some((Call::Read, 5, 0)), answer: Ending::ReadFault, joined: Some(103), open: true },
-    Row { files: &["d/a.jfr", "d/b.jfr"], script: Some((Call::Append, 2, 10)), answer: Ending::WriteFault, joined: Some(113), open: true },
-    Row { files: &["d/a.jfr", "d/b.jfr"], script: Some((Call::Finish, 1, 0)), answer: Ending::WriteFault, joined: Some(206), open: false },
-    Row { files: &["d/a.jfr", "d/b.jfr", "out"], script: None, answer: Ending::WriteFault, joined: Some(0), open: false },
+    Row { files: &[A, B], script: Some((Call::List, 1, 0)), answer: Ending::ReadFault, joined: None, open: false },
+    Row { files: &[A, B], script: Some((Call::Create, 1, 0)), answer: Ending::WriteFault, joined: None, open: false },
+    Row { files: &[A, B], script: Some((Call::Open, 2, 0)), answer: Ending::ReadFault, joined: Some(103), open: true },
+    Row { files: &[A, B], script: Some((Call::Read, 5, 0)), answer: Ending::ReadFault, joined: Some(103), open: true },
+    Row { files: &[A, B], script: Some((Call::Append, 2, 10)), answer: Ending::WriteFault, joined: Some(113), open: true },
+    Row { files: &[A, B], script: Some((Call::Finish, 1, 0)), answer: Ending::WriteFault, joined: Some(206), open: false },
+    Row { files: &[A, B, ("out", None)], script: None, answer: Ending::WriteFault, joined: Some(0), open: false },
 ];
 
-// The bytes of a file: a.jfr and b.jfr have a chunk, the others none.
-fn content(alloc: Global, name: &str) -> Result<Vec<u8>, AllocError> {
-    match name {
-        "d/a.jfr" => Vec::from_slice(alloc, &chunk(0)),
-        "d/b.jfr" => Vec::from_slice(alloc, &chunk(1)),
-        _ => Ok(Vec::new(alloc)),
+// Puts a file.
+fn put_file(place: &mut MemoryPlace, (name, start): File) -> Result<(), NoMemory> {
+    match start {
+        Some(start) => place.put(name, &chunk(start)),
+        None => place.put(name, &[]),
     }
 }
 
-// A place with the row's files and script.
-fn place_of(alloc: Global, row: &Row) -> Result<MemoryPlace, NoMemory> {
+// Puts files.
+fn put_files(place: &mut MemoryPlace, files: &[File]) -> Result<(), NoMemory> {
+    for file in files {
+        put_file(place, *file)?;
+    }
+    Ok(())
+}
+
+// The first bytes of a recording, if the output has any.
+fn first_bytes<'b>(rt: &impl Abort, bytes: &'b [u8], count: Option<usize>) -> Option<&'b [u8]> {
+    let count = count?;
+    assert!(rt; count <= bytes.len());
+    Some(&bytes[..count])
+}
+
+// Joins the files of a row, and compares how that ends and the output.
+fn see_output(
+    rt: &impl Abort,
+    alloc: Global,
+    place: &mut MemoryPlace,
+    row: &Row,
+    two: &[u8],
+) -> Result<(), Fail> {
+    put_files(place, row.files)?;
+    follow(place, row.script)?;
+    assert_eq!(rt; join(alloc, place), row.answer);
+    assert!(rt; place.file("out") == first_bytes(rt, two, row.joined));
+    assert_eq!(rt; finish(place), row.open);
+    Ok(())
+}
+
+// Does so over a new place.
+fn see_row(rt: &impl Abort, alloc: Global, row: &Row, two: &[u8]) -> Result<(), Fail> {
     let mut place = MemoryPlace::new(alloc);
-    for name in row.files {
-        let bytes = content(alloc, name)?;
-        place.put(name, &bytes)?;
-    }
-    if let Some((call, nth, keep)) = row.script {
-        place.fail(call, nth, keep)?;
-    }
-    Ok(place)
+    see_output(rt, alloc, &mut place, row, two)
 }
 
 #[test]
 fn files_are_joined_by_their_rows(rt: HostRuntime) -> Result<(), Fail> {
-    let alloc = rt.alloc();
-    let bytes = recording(alloc, 2, 0)?;
+    let two = recording(rt.alloc(), 2, 0)?;
     for row in ROWS.iter() {
-        let mut place = place_of(alloc, row)?;
-        assert_eq!(rt; assemble(alloc, &mut place, "d", "out"), row.answer);
-        match row.joined {
-            Some(count) => {
-                assert!(rt; count <= bytes.len());
-                assert_eq!(rt; place.file("out"), Some(&bytes[..count]));
-            }
-            None => assert_eq!(rt; place.file("out"), None),
-        }
-        let finished = place.finish_output();
-        assert_eq!(rt; finished.is_ok(), row.open);
+        see_row(&rt, rt.alloc(), row, &two)?;
     }
     Ok(())
 }

@@ -6,6 +6,8 @@ mod joins;
 #[cfg(test)]
 mod part_names;
 #[cfg(test)]
+mod places;
+#[cfg(test)]
 mod recordings;
 #[cfg(test)]
 mod splits;

@@ -1,10 +1,10 @@
 //! Recordings cut into parts, over places in memory.
+use crate::places::{Script, cut, cut_into_d, finish, follow};
 use crate::recordings::recording;
 use jfr_base::{Reason, Refusal};
 use jfr_fixtures::PLAIN;
 use jfr_header::Ending;
-use jfr_outside::{Call, MemoryPlace, NoMemory, Place, SteadyPlace, Text};
-use jfr_split::{SplitRule, disassemble};
+use jfr_outside::{Call, MemoryPlace, SteadyPlace};
 use std::alloc::Global;
 use std::process::Abort;
 use std::test::Fail;
@@ -17,7 +17,7 @@ struct Row {
     max_chunks: u64,
     max_size: u64,
     max_parts: u64,
-    script: Option<(Call, u64, usize)>,
+    script: Script,
     answer: Ending,
     ends: [usize; 4],
     unfinished: bool,
@@ -47,82 +47,75 @@ static PARTS: [&str; 4] = [
     "d/r_000004.jfr",
 ];
 
-// A place with the recording, and with the row's script.
-fn place_of(alloc: Global, row: &Row, bytes: &[u8]) -> Result<MemoryPlace, NoMemory> {
-    let mut place = MemoryPlace::new(alloc);
-    place.put("e/r.jfr", bytes)?;
-    if let Some((call, nth, keep)) = row.script {
-        place.fail(call, nth, keep)?;
-    }
-    Ok(place)
-}
-
-// Cuts the recording by the row.
-fn cut(alloc: Global, place: &mut MemoryPlace, row: &Row) -> Result<Ending, NoMemory> {
-    let rule = SplitRule {
-        folder: Some(Text::make(alloc, "d")?),
-        max_chunks: row.max_chunks.max(1),
-        max_size: row.max_size.max(1),
-        max_parts: row.max_parts.clamp(1, 999_999),
-    };
-    Ok(disassemble(alloc, place, "e/r.jfr", &rule))
-}
-
-#[test]
-fn recordings_are_cut_by_their_rows(rt: HostRuntime) -> Result<(), Fail> {
-    let alloc = rt.alloc();
-    for row in ROWS.iter() {
-        let bytes = recording(alloc, row.chunks, row.more)?;
-        let mut place = place_of(alloc, row, &bytes)?;
-        assert_eq!(rt; cut(alloc, &mut place, row)?, row.answer);
-        let finished = place.finish_output();
-        assert_eq!(rt; finished.is_ok(), row.unfinished);
-        check_parts(&rt, &place, row, &bytes);
-    }
-    Ok(())
-}
-
 // Each part has its bytes of the recording, and no other part is there.
 fn check_parts(rt: &impl Abort, place: &MemoryPlace, row: &Row, bytes: &[u8]) {
     let mut from = 0;
     for (name, &end) in PARTS.iter().zip(row.ends.iter()) {
         if end == 0 {
-            assert_eq!(rt; place.file(name), None);
+            assert!(rt; place.file(name).is_none(), "{name}");
         } else {
             assert!(rt; from <= end && end <= bytes.len());
-            assert_eq!(rt; place.file(name), Some(&bytes[from..end]));
+            assert!(rt; place.file(name) == Some(&bytes[from..end]), "{name}");
             from = end;
         }
     }
 }
 
-// Cuts one chunk into a part beside the recording.
-fn cut_here<P: Place>(alloc: Global, place: &mut P) -> Ending {
-    let rule = SplitRule {
-        folder: None,
-        max_chunks: 5,
-        max_size: 1 << 40,
-        max_parts: 9,
-    };
-    disassemble(alloc, place, "r.jfr", &rule)
+// Cuts a recording by a row, and compares how that ends and what is left.
+fn see_cut(
+    rt: &impl Abort,
+    alloc: Global,
+    place: &mut MemoryPlace,
+    row: &Row,
+    bytes: &[u8],
+) -> Result<(), Fail> {
+    place.put("e/r.jfr", bytes)?;
+    follow(place, row.script)?;
+    let bounds = (row.max_chunks, row.max_size, row.max_parts);
+    let ending = cut_into_d(alloc, place, "e/r.jfr", bounds)?;
+    assert_eq!(rt; ending, row.answer);
+    assert_eq!(rt; finish(place), row.unfinished);
+    check_parts(rt, place, row, bytes);
+    Ok(())
 }
 
-// The first part has these bytes.
-fn check_first(rt: &impl Abort, place: &SteadyPlace, bytes: &[u8]) {
-    assert_eq!(rt; place.file("r_000001.jfr"), Some(bytes));
+// Cuts the recording of a row.
+fn see_row(rt: &impl Abort, alloc: Global, row: &Row) -> Result<(), Fail> {
+    let bytes = recording(alloc, row.chunks, row.more)?;
+    let mut place = MemoryPlace::new(alloc);
+    see_cut(rt, alloc, &mut place, row, &bytes)
+}
+
+#[test]
+fn recordings_are_cut_by_their_rows(rt: HostRuntime) -> Result<(), Fail> {
+    for row in ROWS.iter() {
+        see_row(&rt, rt.alloc(), row)?;
+    }
+    Ok(())
+}
+
+// Cuts one chunk into a part beside the recording.
+fn cut_here(alloc: Global, place: &mut SteadyPlace) -> Ending {
+    cut(alloc, place, "r.jfr", None, (5, 1 << 40, 9))
+}
+
+// Does so, and compares how that ends and the part.
+fn see_first(rt: &impl Abort, alloc: Global, place: &mut SteadyPlace, ending: Ending, part: &[u8]) {
+    assert_eq!(rt; cut_here(alloc, place), ending);
+    assert!(rt; place.file("r_000001.jfr") == Some(part));
+}
+
+// Cuts a recording that isn't there, one that is, and this one again, when the part is there already.
+fn see_cuts(rt: &impl Abort, alloc: Global, place: &mut SteadyPlace) -> Result<(), Fail> {
+    assert_eq!(rt; cut_here(alloc, place), Ending::ReadFault);
+    place.put("r.jfr", &PLAIN)?;
+    see_first(rt, alloc, place, Ending::Done, &PLAIN);
+    see_first(rt, alloc, place, Ending::WriteFault, &PLAIN);
+    Ok(())
 }
 
 #[test]
 fn recordings_are_cut_over_a_steady_place(rt: HostRuntime) -> Result<(), Fail> {
-    let alloc = rt.alloc();
-    let mut place = SteadyPlace::new(alloc);
-    assert_eq!(rt; cut_here(alloc, &mut place), Ending::ReadFault);
-
-    place.put("r.jfr", &PLAIN)?;
-    assert_eq!(rt; cut_here(alloc, &mut place), Ending::Done);
-    check_first(&rt, &place, &PLAIN);
-
-    assert_eq!(rt; cut_here(alloc, &mut place), Ending::WriteFault);
-    check_first(&rt, &place, &PLAIN);
-    Ok(())
+    let mut place = SteadyPlace::new(rt.alloc());
+    see_cuts(&rt, rt.alloc(), &mut place)
 }
