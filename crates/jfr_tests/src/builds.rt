@@ -1,5 +1,6 @@
 //! Recordings that are built of texts.
-use crate::runs::{Said, place_with, say_all, says};
+use crate::places::place_with;
+use crate::runs::{Said, say_all, says};
 use jfr_outside::MemoryPlace;
 use std::alloc::Global;
 use std::process::Abort;
@@ -13,7 +14,7 @@ const RECORDS: &[u8] =
     b"\x88\x80\x80\x80\x00\x08\xac\x02\x8b\x80\x80\x80\x00\x01\x00\x00\x00\x00\x00";
 
 // Texts that are refused, and the lines that say so.
-const REFUSED: [(&[u8], &str); 12] = [
+static REFUSED: [(&[u8], &str); 12] = [
     (
         b"class 5 long\nevent 8 t.A\nfield n 5 -\nrecord 8 x\n",
         "line 4: ValueBad\n",
@@ -43,13 +44,16 @@ const REFUSED: [(&[u8], &str); 12] = [
     (b"class 9223372036854775808 long", "line 1: LineBad\n"),
 ];
 
+// The command that builds a recording.
+const BUILD: &[&str] = &["build", "t", "o"];
+
 // What is built, printed and scrubbed, and faults of places.
-const BUILDS: [Said; 6] = [
-    (&["build", "t", "o"], 0, "", ""),
+static BUILDS: [Said<'static>; 6] = [
+    (BUILD, 0, "", ""),
     (&["print", "o"], 0, "t.A {\n  n = 300\n}\n", ""),
     (&["scrub", "o", "p"], 0, "", ""),
     (&["print", "p"], 0, "t.A {\n  n = 300\n}\n", ""),
-    (&["build", "t", "o"], 4, "", "write fault\n"),
+    (BUILD, 4, "", "write fault\n"),
     (&["build", "none", "q"], 3, "", "read fault\n"),
 ];
 
@@ -71,7 +75,7 @@ fn a_text_is_built(rt: HostRuntime) -> Result<(), Fail> {
 // Builds a text that is refused.
 fn see_refused(rt: &impl Abort, alloc: Global, text: &[u8], fault: &str) -> Result<(), Fail> {
     let mut place = place_with(alloc, "t", text)?;
-    says(rt, alloc, &mut place, &["build", "t", "o"], 8, "", fault)?;
+    says(rt, alloc, &mut place, (BUILD, 8, "", fault))?;
     assert!(rt; place.file("o").is_none(), "{fault}");
     Ok(())
 }

@@ -1,6 +1,11 @@
 //! Receipts and their checks, and scrubs with new keys.
-use crate::runs::{Said, change, place_with, say_all, says, says_three_bytes};
-use jfr_fixtures::{CLASSES_OF_B, PLAIN, RINGS, with_classes, with_metadata};
+use crate::contents::Part::{Bytes, Chunk};
+use crate::contents::{Content, OF_RINGS, ONE_PLAIN};
+use crate::outputs::{Scrub, see_scrubs};
+use crate::places::place_of;
+use crate::plays::{Play, see_play};
+use crate::runs::{Said, say_all, says_three_bytes};
+use jfr_fixtures::{CLASSES, CLASSES_OF_B};
 use jfr_outside::MemoryPlace;
 use std::alloc::Global;
 use std::process::Abort;
@@ -12,181 +17,110 @@ const RECEIPT: &[u8] = &[2, 0, 0, 0, 1, 1, 0];
 // Two entries that refer to each other.
 const IN_A_CIRCLE: &[u8] = &[2, 0, 1, 1, 1, 1, 0];
 
-const CHECK_OF_FIRST: [&str; 6] = ["verify", "--include-events", "t.A", "in", "out", "receipt"];
+// The chunk of rings, once and twice, the plain chunk, and a receipt that isn't one.
+const FILES: &[(&str, Content)] = &[
+    ("in", (&[OF_RINGS], &[])),
+    ("twice", (&[OF_RINGS, OF_RINGS], &[])),
+    ("plain", ONE_PLAIN),
+    ("circle", (&[Bytes(IN_A_CIRCLE)], &[])),
+];
 
-// Puts the chunk of rings, once and twice.
-fn put_rings(place: &mut MemoryPlace, alloc: Global) -> Result<(), Fail> {
-    let mut rings = with_classes(alloc, RINGS, 333)?;
-    place.put("in", &rings)?;
-    rings.extend_from_slice(&with_classes(alloc, RINGS, 333)?)?;
-    place.put("twice", &rings)?;
-    Ok(())
-}
+// The receipt and the scrub of the first event.
+#[rattlefmt::skip]
+static OF_FIRST: Play = Play {
+    files: FILES,
+    faults: &[],
+    commands: &[
+        (&["receipt", "--include-events", "t.A", "in", "receipt"], 0, "", ""),
+        (&["scrub", "--include-events", "t.A", "in", "out"], 0, "", ""),
+    ],
+    left: &[],
+};
 
-// Puts them, the plain chunk, and a receipt that isn't one.
-fn put_all(place: &mut MemoryPlace, alloc: Global) -> Result<(), Fail> {
-    put_rings(place, alloc)?;
-    place.put("plain", &PLAIN)?;
-    place.put("circle", IN_A_CIRCLE)?;
-    Ok(())
-}
-
-// A place with these files.
-fn recordings(alloc: Global) -> Result<MemoryPlace, Fail> {
-    let mut place = MemoryPlace::new(alloc);
-    put_all(&mut place, alloc)?;
+// A place with the files, this receipt and this scrub.
+fn with_receipt(rt: &impl Abort, alloc: Global) -> Result<MemoryPlace, Fail> {
+    let mut place = place_of(alloc, OF_FIRST.files)?;
+    say_all(rt, alloc, &mut place, OF_FIRST.commands)?;
     Ok(place)
 }
 
-// The receipt and the scrub of the first event.
-const OF_FIRST: [Said; 2] = [
-    (
-        &["receipt", "--include-events", "t.A", "in", "receipt"],
-        0,
-        "",
-        "",
-    ),
-    (
-        &["scrub", "--include-events", "t.A", "in", "out"],
-        0,
-        "",
-        "",
-    ),
+const CHECK_OF_FIRST: &[&str] = &["verify", "--include-events", "t.A", "in", "out", "receipt"];
+
+// Checks of outputs by receipts.
+#[rattlefmt::skip]
+static CHECKS: [Said<'static>; 6] = [
+    (CHECK_OF_FIRST, 0, "verified 1\n", ""),
+    (&["verify", "--include-events", "t.A", "in", "out", "circle"], 7, "", "chunk 1: ReceiptBad\n"),
+    (&["verify", "--include-events", "t.A", "in", "plain", "receipt"], 7, "", "chunk 1: EventsDiffer\n"),
+    (&["verify", "--include-events", "t.A", "in", "twice", "receipt"], 7, "", "chunk 1: EventsDiffer\n"),
+    (&["verify", "--include-events", "t.A", "in", "circle", "receipt"], 7, "", "chunk 1: OutRefused\n"),
+    (&["verify", "--include-events", "t.A", "in", "out", "none"], 3, "", "read fault\n"),
 ];
 
-// An output, a receipt, and the status and both streams of the check.
-type Check = (&'static str, &'static str, u8, &'static str, &'static str);
-
-const CHECKS: [Check; 6] = [
-    ("out", "receipt", 0, "verified 1\n", ""),
-    ("out", "circle", 7, "", "chunk 1: ReceiptBad\n"),
-    ("plain", "receipt", 7, "", "chunk 1: EventsDiffer\n"),
-    ("twice", "receipt", 7, "", "chunk 1: EventsDiffer\n"),
-    ("circle", "receipt", 7, "", "chunk 1: OutRefused\n"),
-    ("out", "none", 3, "", "read fault\n"),
-];
-
-// Checks an output by a receipt.
-fn check(
-    rt: &impl Abort,
-    alloc: Global,
-    place: &mut MemoryPlace,
-    (output, receipt, status, text, line): Check,
-) -> Result<(), Fail> {
-    let command = ["verify", "--include-events", "t.A", "in", output, receipt];
-    says(rt, alloc, place, &command, status, text, line)
-}
-
-// Checks outputs by receipts.
-fn check_all(rt: &impl Abort, alloc: Global, place: &mut MemoryPlace) -> Result<(), Fail> {
-    say_all(rt, alloc, place, &OF_FIRST)?;
+// Compares the receipt, and the checks.
+fn see_checks(rt: &impl Abort, alloc: Global, place: &mut MemoryPlace) -> Result<(), Fail> {
     assert!(rt; place.file("receipt") == Some(RECEIPT));
-    for row in CHECKS.iter() {
-        check(rt, alloc, place, *row)?;
-    }
-    Ok(())
+    say_all(rt, alloc, place, &CHECKS)
 }
 
 #[test]
 fn outputs_are_verified_by_receipts(rt: HostRuntime) -> Result<(), Fail> {
-    let mut place = recordings(rt.alloc())?;
-    check_all(&rt, rt.alloc(), &mut place)
+    let mut place = with_receipt(&rt, rt.alloc())?;
+    see_checks(&rt, rt.alloc(), &mut place)
 }
 
 // Other filters, and a recording of two chunks.
-const OTHERS: [Said; 6] = [
-    (&["receipt", "twice", "r"], 0, "", ""),
-    (&["scrub", "twice", "o"], 0, "", ""),
-    (&["verify", "twice", "o", "r"], 0, "verified 2\n", ""),
-    (
-        &["verify", "in", "o", "r"],
-        7,
-        "",
-        "chunk 2: ChunksDiffer\n",
-    ),
-    (
-        &["verify", "--exclude-events", "t.B", "twice", "o", "r"],
-        7,
-        "",
-        "chunk 1: EventsDiffer\n",
-    ),
-    (
-        &["verify", "circle", "o", "r"],
-        2,
-        "",
-        "chunk 1 offset 7: ShortHeader\n",
-    ),
-];
+#[rattlefmt::skip]
+static OTHERS: Play = Play {
+    files: FILES,
+    faults: &[],
+    commands: &[
+        (&["receipt", "twice", "r"], 0, "", ""),
+        (&["scrub", "twice", "o"], 0, "", ""),
+        (&["verify", "twice", "o", "r"], 0, "verified 2\n", ""),
+        (&["verify", "in", "o", "r"], 7, "", "chunk 2: ChunksDiffer\n"),
+        (&["verify", "--exclude-events", "t.B", "twice", "o", "r"], 7, "", "chunk 1: EventsDiffer\n"),
+        (&["verify", "circle", "o", "r"], 2, "", "chunk 1 offset 7: ShortHeader\n"),
+    ],
+    left: &[],
+};
 
 #[test]
 fn other_outputs_are_verified(rt: HostRuntime) -> Result<(), Fail> {
-    let mut place = recordings(rt.alloc())?;
-    say_all(&rt, rt.alloc(), &mut place, &OTHERS)
+    see_play(&rt, rt.alloc(), &OTHERS)
 }
 
 // The number of chunks couldn't be written.
 #[test]
 fn a_verdict_is_lost(rt: HostRuntime) -> Result<(), Fail> {
-    let mut place = recordings(rt.alloc())?;
-    say_all(&rt, rt.alloc(), &mut place, &OF_FIRST)?;
-    says_three_bytes(&rt, rt.alloc(), &mut place, &CHECK_OF_FIRST, b"ver")
-}
-
-// The chunk of rings with two equal strings.
-fn rings_with_equal_strings(alloc: Global) -> Result<Vec<u8>, Fail> {
-    let mut bytes = with_classes(alloc, RINGS, 333)?;
-    change(&mut bytes, 353, 2);
-    change(&mut bytes, 356, 0x70);
-    Ok(bytes)
-}
-
-// Scrubs `in` with new keys, and compares the output.
-fn see_renumbered(
-    rt: &impl Abort,
-    alloc: Global,
-    recording: &[u8],
-    list: &str,
-    expected: &[u8],
-) -> Result<(), Fail> {
-    let mut place = place_with(alloc, "in", recording)?;
-    let command = [
-        "scrub",
-        "--renumber",
-        "yes",
-        "--include-events",
-        list,
-        "in",
-        "out",
-    ];
-    says(rt, alloc, &mut place, &command, 0, "", "")?;
-    assert!(rt; place.file("out") == Some(expected));
-    Ok(())
+    let mut place = with_receipt(&rt, rt.alloc())?;
+    says_three_bytes(&rt, rt.alloc(), &mut place, CHECK_OF_FIRST, "ver")
 }
 
 // The second event and its ring.
-const SECOND: [u8; 22] = [
+const SECOND: &[u8] = &[
     3, 9, 0, 0x13, 1, 0, 0, 0, 0, 1, 7, 2, 0, 1, 3, 1, 0x72, 1, 0, 3, 1, 0x73,
 ];
 
-fn see_second(rt: &impl Abort, alloc: Global) -> Result<(), Fail> {
-    let rings = with_classes(alloc, RINGS, 333)?;
-    let expected = with_metadata(alloc, CLASSES_OF_B, &SECOND, 295)?;
-    see_renumbered(rt, alloc, &rings, "t.B", &expected)
-}
-
 // Both events and one ring, to which the two are merged.
-const MERGED: [u8; 27] = [
+const MERGED: &[u8] = &[
     5, 8, 0xAC, 2, 0, 3, 9, 0, 0x13, 1, 0, 0, 0, 0, 1, 7, 2, 0, 1, 3, 1, 0x70, 1, 0, 3, 1, 0x71,
 ];
 
-fn see_merged(rt: &impl Abort, alloc: Global) -> Result<(), Fail> {
-    let equal = rings_with_equal_strings(alloc)?;
-    let expected = with_classes(alloc, &MERGED, 333)?;
-    see_renumbered(rt, alloc, &equal, "*", &expected)
-}
+// Scrubs with new keys of the chunk of rings, and of this chunk with two equal strings.
+#[rattlefmt::skip]
+static NUMBERED: [Scrub; 2] = [
+    (
+        &["scrub", "--renumber", "yes", "--include-events", "t.B", "a.jfr", "b.jfr"],
+        (&[OF_RINGS], &[]), 0, "", (&[Chunk(&[CLASSES_OF_B, SECOND], 295, 68)], &[]),
+    ),
+    (
+        &["scrub", "--renumber", "yes", "--include-events", "*", "a.jfr", "b.jfr"],
+        (&[OF_RINGS], &[(353, 2), (356, 0x70)]), 0, "", (&[Chunk(&[CLASSES, MERGED], 333, 68)], &[]),
+    ),
+];
 
 #[test]
 fn keys_are_numbered(rt: HostRuntime) -> Result<(), Fail> {
-    see_second(&rt, rt.alloc())?;
-    see_merged(&rt, rt.alloc())
+    see_scrubs(&rt, rt.alloc(), &NUMBERED)
 }

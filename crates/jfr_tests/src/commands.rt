@@ -1,30 +1,25 @@
 //! The commands that write text, and the sample.
 ghost use Rattle.std.specs.Prelude.{◌≤◌};
 
-use crate::runs::{
-    Said, place_with, say_all, says, says_three_bytes, see_answer, status_of, words,
-};
-use jfr_fixtures::{RINGS, STRINGS, inert, with_classes};
+use crate::contents::Part::Chunk;
+use crate::contents::{Content, INERT, OF_RINGS};
+use crate::places::{place_of, place_with};
+use crate::plays::{Play, see_play};
+use crate::runs::{SCRUB, failing_sink, says, says_three_bytes, see_run, status_of, words};
+use jfr_fixtures::{CLASSES, STRINGS};
 use jfr_outside::{MemoryPlace, MemorySink, Words};
 use jfr_sample::sample;
 use std::alloc::Global;
 use std::process::Abort;
 use std::test::Fail;
 
-// Puts chunks of rings, of strings that are keys, and with inert records.
-fn put_chunks(place: &mut MemoryPlace, alloc: Global) -> Result<(), Fail> {
-    place.put("rings.jfr", &with_classes(alloc, RINGS, 333)?)?;
-    place.put("strings.jfr", &with_classes(alloc, STRINGS, 330)?)?;
-    place.put("inert.jfr", &inert(alloc)?)?;
-    Ok(())
-}
-
-// A place with these chunks.
-fn small_chunks(alloc: Global) -> Result<MemoryPlace, Fail> {
-    let mut place = MemoryPlace::new(alloc);
-    put_chunks(&mut place, alloc)?;
-    Ok(place)
-}
+// Chunks of rings, of strings that are keys, and with inert records.
+#[rattlefmt::skip]
+const SMALL_CHUNKS: &[(&str, Content)] = &[
+    ("rings.jfr", (&[OF_RINGS], &[])),
+    ("strings.jfr", (&[Chunk(&[CLASSES, STRINGS], 330, 68)], &[])),
+    ("inert.jfr", (&[INERT], &[])),
+];
 
 const SHALLOW: &str = "t.A {\n  n = 300\n  node = t.Node#1\n}\nt.B {\n  node = t.Node#3\n}\n";
 
@@ -88,7 +83,7 @@ t.A 1 5
 t.B 1 3
 ";
 
-const INERT: &str = "version 2.1
+const TOTALS_OF_INERT: &str = "version 2.1
 chunks 1
 bytes 141
 start 1000
@@ -99,7 +94,7 @@ constants 0
 inert 3
 ";
 
-const CLASSES: &str = "chunk 1
+const CLASSES_OF_RINGS: &str = "chunk 1
 long id 5
 java.lang.String id 6
 t.Node id 7
@@ -113,27 +108,27 @@ t.B id 9 super jdk.jfr.Event
 ";
 
 // What the commands that write text write of small chunks.
-const TEXTS: [Said; 9] = [
-    (&["print", "--depth", "0", "rings.jfr"], 0, SHALLOW, ""),
-    (&["print", "--depth", "2", "rings.jfr"], 0, DEEP, ""),
-    (&["print", "--events", "A", "rings.jfr"], 0, DEEP_A, ""),
-    (&["print", "strings.jfr"], 0, KEYS_OF_STRINGS, ""),
-    (
-        &["print", "--json", "--depth", "1", "rings.jfr"],
-        0,
-        JSON,
-        "",
-    ),
-    (&["print", "--categories", "none", "rings.jfr"], 0, "", ""),
-    (&["summary", "rings.jfr"], 0, TOTALS, ""),
-    (&["summary", "inert.jfr"], 0, INERT, ""),
-    (&["metadata", "rings.jfr"], 0, CLASSES, ""),
-];
+#[rattlefmt::skip]
+static TEXTS: Play = Play {
+    files: SMALL_CHUNKS,
+    faults: &[],
+    commands: &[
+        (&["print", "--depth", "0", "rings.jfr"], 0, SHALLOW, ""),
+        (&["print", "--depth", "2", "rings.jfr"], 0, DEEP, ""),
+        (&["print", "--events", "A", "rings.jfr"], 0, DEEP_A, ""),
+        (&["print", "strings.jfr"], 0, KEYS_OF_STRINGS, ""),
+        (&["print", "--json", "--depth", "1", "rings.jfr"], 0, JSON, ""),
+        (&["print", "--categories", "none", "rings.jfr"], 0, "", ""),
+        (&["summary", "rings.jfr"], 0, TOTALS, ""),
+        (&["summary", "inert.jfr"], 0, TOTALS_OF_INERT, ""),
+        (&["metadata", "rings.jfr"], 0, CLASSES_OF_RINGS, ""),
+    ],
+    left: &[],
+};
 
 #[test]
 fn texts_are_written(rt: HostRuntime) -> Result<(), Fail> {
-    let mut place = small_chunks(rt.alloc())?;
-    say_all(&rt, rt.alloc(), &mut place, &TEXTS)
+    see_play(&rt, rt.alloc(), &TEXTS)
 }
 
 const SAMPLE: &str = "events 7
@@ -144,18 +139,16 @@ bytes 418
 kept bytes 362
 ";
 
+static SAMPLED: Play = Play {
+    files: &[],
+    faults: &[],
+    commands: &[(&["sample", "0", "7"], 0, SAMPLE, "")],
+    left: &[],
+};
+
 #[test]
 fn the_sample_is_counted(rt: HostRuntime) -> Result<(), Fail> {
-    let mut place = MemoryPlace::new(rt.alloc());
-    says(
-        &rt,
-        rt.alloc(),
-        &mut place,
-        &["sample", "0", "7"],
-        0,
-        SAMPLE,
-        "",
-    )
+    see_play(&rt, rt.alloc(), &SAMPLED)
 }
 
 // A place with the recording of a sample.
@@ -167,14 +160,12 @@ fn sample_place(alloc: Global, seed: u32, events: u32) -> Result<MemoryPlace, Fa
     Ok(place_with(alloc, "a.jfr", &recording)?)
 }
 
+const SCRUB_OF_FIRST: &[&str] = &["scrub", "--include-events", "t.A", "a.jfr", "b.jfr"];
+
 // Scrubs it, and counts the bytes of what is left.
 fn scrubbed_size(rt: &impl Abort, alloc: Global, place: &mut MemoryPlace) -> Result<usize, Fail> {
-    let line = &["scrub", "--include-events", "t.A", "a.jfr", "b.jfr"];
-    says(rt, alloc, place, line, 0, "", "")?;
-    match place.file("b.jfr") {
-        Some(bytes) => Ok(bytes.len()),
-        None => Ok(0),
-    }
+    says(rt, alloc, place, (SCRUB_OF_FIRST, 0, "", ""))?;
+    Ok(place.file("b.jfr").ok_or("no output")?.len())
 }
 
 // Runs a command that needs no file, and compares the end of what it writes.
@@ -220,32 +211,27 @@ fn the_sample_is_scrubbed_as_a_file(rt: HostRuntime) -> Result<(), Fail> {
 // A stream that fails keeps the text that it took.
 #[test]
 fn faults_of_streams_are_reported(rt: HostRuntime) -> Result<(), Fail> {
-    let mut place = small_chunks(rt.alloc())?;
+    let mut place = place_of(rt.alloc(), TEXTS.files)?;
     let print = &["print", "rings.jfr"];
-    says_three_bytes(&rt, rt.alloc(), &mut place, print, b"t.A")
+    says_three_bytes(&rt, rt.alloc(), &mut place, print, "t.A")
 }
 
-const SCRUB: [&str; 3] = ["scrub", "a.jfr", "b.jfr"];
-
 // A line that can't be written changes no status.
-fn see_cut_line(
-    rt: &impl Abort,
-    alloc: Global,
-    place: &mut MemoryPlace,
-    scrub: &Words,
-) -> Result<(), Fail> {
+fn see_cut_line(rt: &impl Abort, alloc: Global, place: &mut MemoryPlace) -> Result<(), Fail> {
+    let mut err = failing_sink(alloc, 5)?;
     let mut out = MemorySink::new(alloc);
-    let mut err = MemorySink::new(alloc);
-    err.fail(1, 5)?;
-    let status = status_of(alloc, scrub, place, &mut out, &mut err);
-    let found = (status, out.bytes(), err.bytes());
-    see_answer(rt, &SCRUB, found, (2, b"", b"chunk"));
-    Ok(())
+    see_run(
+        rt,
+        alloc,
+        place,
+        &mut out,
+        &mut err,
+        (SCRUB, 2, "", "chunk"),
+    )
 }
 
 #[test]
 fn lines_that_fail_change_no_status(rt: HostRuntime) -> Result<(), Fail> {
-    let scrub = words(rt.alloc(), &SCRUB)?;
     let mut place = place_with(rt.alloc(), "a.jfr", b"")?;
-    see_cut_line(&rt, rt.alloc(), &mut place, &scrub)
+    see_cut_line(&rt, rt.alloc(), &mut place)
 }

@@ -1,6 +1,9 @@
 //! Which descriptions of classes stay.
-use crate::runs::{place_with, says};
-use jfr_fixtures::{JDK_LIKE, NO_POOLS, chunk_of};
+use crate::contents::Part::Chunk;
+use crate::outputs::{Scrub, see_scrubs};
+use crate::places::place_with;
+use crate::runs::says;
+use jfr_fixtures::{JDK_LIKE, NO_POOLS};
 use jfr_outside::MemoryPlace;
 use std::alloc::Global;
 use std::process::Abort;
@@ -52,72 +55,37 @@ const LONG: &[u8] = b"\
     \x03\x05field\x03\x01v\
     \0\0\x01\x01\0\x01\x02\x02\x03\x04\x05\x06\x01\x07\x02\x03\x08\x02\x06\0";
 
-// Scrubs a recording over a place in memory, with the option for events, and gives the place.
-fn scrubbed(
-    rt: &impl Abort,
-    alloc: Global,
-    recording: &[u8],
-    list: &str,
-) -> Result<MemoryPlace, Fail> {
-    let command = ["scrub", "--include-events", list, "a.jfr", "b.jfr"];
-    let mut place = place_with(alloc, "a.jfr", recording)?;
-    says(rt, alloc, &mut place, &command, 0, "", "")?;
-    Ok(place)
-}
+// Scrubs that keep all events, those of `t.A` and those of `t.B`.
+const ALL: &[&str] = &["scrub", "--include-events", "*", "a.jfr", "b.jfr"];
 
-// A chunk of a metadata record, an event, and a checkpoint without pools.
-fn with_event(alloc: Global, metadata: &[u8], event: &[u8]) -> Result<Vec<u8>, Fail> {
-    let last = 68usize.saturating_add(metadata.len());
-    let last = last.saturating_add(event.len()) as u64;
-    Ok(chunk_of(alloc, &[metadata, event, NO_POOLS], last, 68)?)
-}
+const ONLY_A: &[&str] = &["scrub", "--include-events", "t.A", "a.jfr", "b.jfr"];
 
-// A metadata record, an event, the list of events, and the metadata record and the event that stay.
-type Named = (
-    &'static [u8],
-    &'static [u8],
-    &'static str,
-    &'static [u8],
-    &'static [u8],
-);
+const ONLY_B: &[&str] = &["scrub", "--include-events", "t.B", "a.jfr", "b.jfr"];
 
 // A class stays if a class that stays names it, in an annotation too, and however deep.
-const NAMED: [Named; 4] = [
-    (ANNOTATED, &[2, 8], "*", NAMED_BY_A, &[2, 8]),
-    (ANNOTATED, &[2, 10], "*", NAMED_BY_C, &[2, 10]),
-    (LONG_AND_A, &[3, 8, 7], "t.A", LONG_AND_A, &[3, 8, 7]),
-    (LONG_AND_A, &[3, 8, 7], "t.B", LONG, &[]),
+#[rattlefmt::skip]
+static NAMED: [Scrub; 4] = [
+    (
+        ALL, (&[Chunk(&[ANNOTATED, &[2, 8], NO_POOLS], 272, 68)], &[]),
+        0, "", (&[Chunk(&[NAMED_BY_A, &[2, 8], NO_POOLS], 252, 68)], &[]),
+    ),
+    (
+        ALL, (&[Chunk(&[ANNOTATED, &[2, 10], NO_POOLS], 272, 68)], &[]),
+        0, "", (&[Chunk(&[NAMED_BY_C, &[2, 10], NO_POOLS], 214, 68)], &[]),
+    ),
+    (
+        ONLY_A, (&[Chunk(&[LONG_AND_A, &[3, 8, 7], NO_POOLS], 205, 68)], &[]),
+        0, "", (&[Chunk(&[LONG_AND_A, &[3, 8, 7], NO_POOLS], 205, 68)], &[]),
+    ),
+    (
+        ONLY_B, (&[Chunk(&[LONG_AND_A, &[3, 8, 7], NO_POOLS], 205, 68)], &[]),
+        0, "", (&[Chunk(&[LONG, NO_POOLS], 150, 68)], &[]),
+    ),
 ];
-
-// Compares what a recording becomes.
-fn see_scrubbed(
-    rt: &impl Abort,
-    alloc: Global,
-    recording: &[u8],
-    list: &str,
-    expected: &[u8],
-) -> Result<(), Fail> {
-    let place = scrubbed(rt, alloc, recording, list)?;
-    assert!(rt; place.file("b.jfr") == Some(expected), "{list}");
-    Ok(())
-}
-
-fn see_named(
-    rt: &impl Abort,
-    alloc: Global,
-    (metadata, event, list, slim, left): Named,
-) -> Result<(), Fail> {
-    let recording = with_event(alloc, metadata, event)?;
-    let expected = with_event(alloc, slim, left)?;
-    see_scrubbed(rt, alloc, &recording, list, &expected)
-}
 
 #[test]
 fn classes_that_are_named_stay(rt: HostRuntime) -> Result<(), Fail> {
-    for named in NAMED.iter() {
-        see_named(&rt, rt.alloc(), *named)?;
-    }
-    Ok(())
+    see_scrubs(&rt, rt.alloc(), &NAMED)
 }
 
 // Whether a text occurs in bytes.
@@ -132,7 +100,7 @@ fn occurs(bytes: &[u8], text: &str) -> bool {
 
 // Whether a text stays of the chunk that is like the JDK's, with the events of `ThreadPark`. With the events of a
 // class go its name, the names of its own fields, and the categories that only it has.
-const STAYS: [(&str, bool); 9] = [
+static STAYS: [(&str, bool); 9] = [
     ("jdk.ThreadPark", true),
     ("parkedClass", true),
     ("Java Application", true),
@@ -151,9 +119,17 @@ fn see_texts(rt: &impl Abort, output: &[u8]) {
     }
 }
 
+const ONLY_PARK: &[&str] = &["scrub", "--include-events", "ThreadPark", "a.jfr", "b.jfr"];
+
+// Scrubs the chunk, and looks for the texts.
+fn see_scrubbed(rt: &impl Abort, alloc: Global, place: &mut MemoryPlace) -> Result<(), Fail> {
+    says(rt, alloc, place, (ONLY_PARK, 0, "", ""))?;
+    see_texts(rt, place.file("b.jfr").ok_or("no output")?);
+    Ok(())
+}
+
 #[test]
 fn names_of_classes_without_events_go(rt: HostRuntime) -> Result<(), Fail> {
-    let place = scrubbed(&rt, rt.alloc(), &JDK_LIKE, "ThreadPark")?;
-    see_texts(&rt, place.file("b.jfr").ok_or("no output")?);
-    Ok(())
+    let mut place = place_with(rt.alloc(), "a.jfr", &JDK_LIKE)?;
+    see_scrubbed(&rt, rt.alloc(), &mut place)
 }

@@ -1,9 +1,11 @@
 //! Scrubs with filters.
-use crate::runs::run_over_places;
+use crate::contents::Part::{Chunk, JdkAfter, JdkLike, JdkUnnamed};
+use crate::contents::{Content, OF_RINGS};
+use crate::outputs::{Scrub, see_scrub, see_scrubs};
 use jfr_fixtures::{
-    BYTES_LEFT, CLASSES_OF_A, CLASSES_OF_B, ENTER_AND_LOAD_CLASSES, ENTER_CLASSES, JDK_LIKE,
+    BYTES_LEFT, CLASSES, CLASSES_OF_A, CLASSES_OF_B, ENTER_AND_LOAD_CLASSES, ENTER_CLASSES,
     LOAD_CLASSES, NO_EVENT_CLASSES, NO_JDK_EVENT_CLASSES, NO_POOLS, PARK_AND_ENTER_CLASSES,
-    PARK_CLASSES, RINGS, chunk_of, jdk_unnamed, with_classes, with_metadata,
+    PARK_CLASSES,
 };
 use std::alloc::Global;
 use std::process::Abort;
@@ -61,161 +63,95 @@ const UNNAMED: &[u8] = &[
     1, 0, 0x23, 1, 2, 0, 2, 2, 0x14, 4, 1, 0x0A, 2,
 ];
 
-// The three events of the chunk that is like the JDK's, and its metadata record.
-const PARK: (usize, usize) = (145, 156);
+// The three events of the chunk that is like the JDK's.
+const PARK: &[u8] = &[0x8B, 0x80, 0x80, 0, 0x65, 0xE8, 7, 0x32, 1, 1, 1];
 
-const ENTER: (usize, usize) = (156, 167);
+const ENTER: &[u8] = &[0x8B, 0x80, 0x80, 0, 0x66, 0xCC, 8, 0x3C, 2, 2, 2];
 
-const LOAD: (usize, usize) = (167, 178);
+const LOAD: &[u8] = &[0x8B, 0x80, 0x80, 0, 0x67, 0xB0, 9, 0x3E, 0x80, 0, 0];
 
-const METADATA: (usize, usize) = (178, 1269);
+// What stays of it if no event is kept, and if the second is and the later thread of key 2 has no Java name. The
+// bytes that are changed are the first two of the delta of the last checkpoint.
+const NOTHING_LEFT: Content = (
+    &[Chunk(&[NOTHING, NO_JDK_EVENT_CLASSES, NOTHING_LATER], 768, 78)],
+    &[(775, 0xC4), (776, 0xFA)],
+);
 
-// What stays of the chunk that is like the JDK's: its first checkpoint, events, the metadata record (None
-// for its own), and its last checkpoint; the first two bytes of this checkpoint's delta, which seven of
-// 0xFF follow; and where the last checkpoint and the metadata record lie.
-#[derive(Clone, Copy)]
-struct Left {
-    first: &'static [u8],
-    events: &'static [(usize, usize)],
-    classes: Option<&'static [u8]>,
-    last: &'static [u8],
-    delta: [u8; 2],
-    places: (u64, u64),
-}
+const UNNAMED_LEFT: Content = (
+    &[Chunk(&[SYMBOLS, ENTER, ENTER_CLASSES, UNNAMED], 1022, 123)],
+    &[(1029, 0xC6), (1030, 0xF8)],
+);
 
-// A checkpoint with another delta.
-fn moved(alloc: Global, checkpoint: &[u8], delta: [u8; 2]) -> Result<Vec<u8>, Fail> {
-    let mut bytes = Vec::from_slice(alloc, checkpoint)?;
-    if let Some(first) = bytes.get_mut(7) {
-        *first = delta[0];
-    }
-    if let Some(second) = bytes.get_mut(8) {
-        *second = delta[1];
-    }
-    Ok(bytes)
-}
-
-// The chunk of it.
-fn chunk_left(alloc: Global, left: &Left) -> Result<Vec<u8>, Fail> {
-    let last = moved(alloc, left.last, left.delta)?;
-    let mut parts: Vec<&[u8]> = Vec::new(alloc);
-    parts.push(left.first)?;
-    for (from, to) in left.events {
-        parts.push(JDK_LIKE.get(*from..*to).ok_or("no event")?)?;
-    }
-    let own = JDK_LIKE.get(METADATA.0..METADATA.1).ok_or("no metadata")?;
-    parts.push(left.classes.unwrap_or(own))?;
-    parts.push(&last)?;
-    Ok(chunk_of(alloc, &parts, left.places.0, left.places.1)?)
-}
-
-// Scrubs a recording with an option, and compares the output.
-fn filtered(
-    rt: &impl Abort,
-    alloc: Global,
-    recording: &[u8],
-    option: &str,
-    list: &str,
-    expected: &[u8],
-) -> Result<(), Fail> {
-    let command = ["scrub", option, list, "a.jfr", "b.jfr"];
-    run_over_places(rt, alloc, recording, &command, 0, "", Some(expected))
-}
-
-// An option, its list, and what stays.
-type Row = (&'static str, &'static str, Left);
-
-const NOTHING_LEFT: Left = Left {
-    first: NOTHING,
-    events: &[],
-    classes: Some(NO_JDK_EVENT_CLASSES),
-    last: NOTHING_LATER,
-    delta: [0xC4, 0xFA],
-    places: (768, 78),
-};
-
-const UNNAMED_LEFT: Left = Left {
-    first: SYMBOLS,
-    events: &[ENTER],
-    classes: Some(ENTER_CLASSES),
-    last: UNNAMED,
-    delta: [0xC6, 0xF8],
-    places: (1022, 123),
-};
-
+// Events go with the constants and the classes that only they need. These are chosen by their names.
 #[rattlefmt::skip]
-static ROWS: [Row; 7] = [
-    ("--include-events", "ThreadPark", Left {
-        first: THREAD_AND_SYMBOLS, events: &[PARK], classes: Some(PARK_CLASSES),
-        last: ONE_TRACE, delta: [0xBC, 0xF8], places: (1032, 140),
-    }),
-    ("--include-threads", "worker*", Left {
-        first: SYMBOLS, events: &[ENTER], classes: Some(ENTER_CLASSES),
-        last: RENAMED, delta: [0xC6, 0xF8], places: (1022, 123),
-    }),
-    ("--exclude-threads", "main", Left {
-        first: SYMBOLS, events: &[ENTER, LOAD], classes: Some(ENTER_AND_LOAD_CLASSES),
-        last: RENAMED, delta: [0xD5, 0xF7], places: (1135, 134),
-    }),
-    ("--include-threads", "*", Left {
-        first: THREAD_AND_SYMBOLS, events: &[PARK, ENTER], classes: Some(PARK_AND_ENTER_CLASSES),
-        last: ALL_LATER, delta: [0xCF, 0xF7], places: (1141, 151),
-    }),
-    ("--include-categories", "Operating*", Left {
-        first: NOTHING, events: &[LOAD], classes: Some(LOAD_CLASSES),
-        last: NOTHING_LATER, delta: [0x99, 0xF9], places: (939, 89),
-    }),
-    ("--exclude-events", "jdk.?,park", Left {
-        first: THREAD_AND_SYMBOLS, events: &[PARK, ENTER, LOAD], classes: None,
-        last: ALL_LATER, delta: [0xDF, 0xF6], places: (1253, 162),
-    }),
-    ("--include-events", "t.A", NOTHING_LEFT),
+static BY_EVENTS: [Scrub; 3] = [
+    (
+        &["scrub", "--include-events", "ThreadPark", "a.jfr", "b.jfr"], (&[JdkLike], &[]), 0, "",
+        (&[Chunk(&[THREAD_AND_SYMBOLS, PARK, PARK_CLASSES, ONE_TRACE], 1032, 140)], &[(1039, 0xBC), (1040, 0xF8)]),
+    ),
+    (
+        &["scrub", "--exclude-events", "jdk.?,park", "a.jfr", "b.jfr"], (&[JdkLike], &[]), 0, "",
+        (&[JdkAfter(THREAD_AND_SYMBOLS, 1253, 162)], &[(1260, 0xDF), (1261, 0xF6)]),
+    ),
+    (
+        &["scrub", "--include-events", "t.A", "a.jfr", "b.jfr"], (&[JdkLike], &[]), 0, "",
+        NOTHING_LEFT,
+    ),
 ];
 
-// Events go with the constants and the classes that only they need. A second scrub changes nothing.
-fn see_row(rt: &impl Abort, alloc: Global, row: &Row) -> Result<(), Fail> {
-    let expected = chunk_left(alloc, &row.2)?;
-    filtered(rt, alloc, &JDK_LIKE, row.0, row.1, &expected)?;
-    filtered(rt, alloc, &expected, row.0, row.1, &expected)
+// These are chosen by their threads.
+#[rattlefmt::skip]
+static BY_THREADS: [Scrub; 3] = [
+    (
+        &["scrub", "--include-threads", "worker*", "a.jfr", "b.jfr"], (&[JdkLike], &[]), 0, "",
+        (&[Chunk(&[SYMBOLS, ENTER, ENTER_CLASSES, RENAMED], 1022, 123)], &[(1029, 0xC6), (1030, 0xF8)]),
+    ),
+    (
+        &["scrub", "--exclude-threads", "main", "a.jfr", "b.jfr"], (&[JdkLike], &[]), 0, "",
+        (&[Chunk(&[SYMBOLS, ENTER, LOAD, ENTER_AND_LOAD_CLASSES, RENAMED], 1135, 134)], &[(1142, 0xD5), (1143, 0xF7)]),
+    ),
+    (
+        &["scrub", "--include-threads", "*", "a.jfr", "b.jfr"], (&[JdkLike], &[]), 0, "",
+        (&[Chunk(&[THREAD_AND_SYMBOLS, PARK, ENTER, PARK_AND_ENTER_CLASSES, ALL_LATER], 1141, 151)], &[(1148, 0xCF), (1149, 0xF7)]),
+    ),
+];
+
+// This one is chosen by its categories.
+#[rattlefmt::skip]
+static BY_CATEGORIES: [Scrub; 1] = [
+    (
+        &["scrub", "--include-categories", "Operating*", "a.jfr", "b.jfr"], (&[JdkLike], &[]), 0, "",
+        (&[Chunk(&[NOTHING, LOAD, LOAD_CLASSES, NOTHING_LATER], 939, 89)], &[(946, 0x99), (947, 0xF9)]),
+    ),
+];
+
+// Compares what each scrub leaves, and that a second one changes nothing.
+fn see_lasting(rt: &impl Abort, alloc: Global, rows: &[Scrub]) -> Result<(), Fail> {
+    for (command, input, status, line, output) in rows {
+        see_scrub(rt, alloc, (*command, *input, *status, *line, *output))?;
+        see_scrub(rt, alloc, (*command, *output, *status, *line, *output))?;
+    }
+    Ok(())
 }
 
 #[test]
 fn events_are_chosen(rt: HostRuntime) -> Result<(), Fail> {
-    for row in ROWS.iter() {
-        see_row(&rt, rt.alloc(), row)?;
-    }
-    Ok(())
+    see_lasting(&rt, rt.alloc(), &BY_EVENTS)?;
+    see_lasting(&rt, rt.alloc(), &BY_THREADS)?;
+    see_lasting(&rt, rt.alloc(), &BY_CATEGORIES)
 }
-
-// A kind of Java name, a list of threads, and what stays.
-type Thread = (u8, &'static str, Left);
 
 // A thread without a Java name goes by its system name. The empty text is a name.
-static THREADS: [Thread; 3] = [
-    (0, "w", UNNAMED_LEFT),
-    (0, "worker*", NOTHING_LEFT),
-    (1, "w", NOTHING_LEFT),
+#[rattlefmt::skip]
+static THREADS: [Scrub; 3] = [
+    (&["scrub", "--include-threads", "w", "a.jfr", "b.jfr"], (&[JdkUnnamed(0)], &[]), 0, "", UNNAMED_LEFT),
+    (&["scrub", "--include-threads", "worker*", "a.jfr", "b.jfr"], (&[JdkUnnamed(0)], &[]), 0, "", NOTHING_LEFT),
+    (&["scrub", "--include-threads", "w", "a.jfr", "b.jfr"], (&[JdkUnnamed(1)], &[]), 0, "", NOTHING_LEFT),
 ];
-
-fn see_thread(rt: &impl Abort, alloc: Global, thread: &Thread) -> Result<(), Fail> {
-    let recording = jdk_unnamed(alloc, thread.0)?;
-    let expected = chunk_left(alloc, &thread.2)?;
-    filtered(
-        rt,
-        alloc,
-        &recording,
-        "--include-threads",
-        thread.1,
-        &expected,
-    )
-}
 
 #[test]
 fn threads_without_java_names_go_by_system_names(rt: HostRuntime) -> Result<(), Fail> {
-    for thread in THREADS.iter() {
-        see_thread(&rt, rt.alloc(), thread)?;
-    }
-    Ok(())
+    see_scrubs(&rt, rt.alloc(), &THREADS)
 }
 
 // What stays of the rings of constants: the first event with the first ring, the second with the
@@ -232,34 +168,28 @@ const SECOND_WITH_A_BYTE_LEFT: &[u8] = &[
     4, 9, 3, 0xFF, 0x13, 1, 0, 0, 0, 0, 1, 7, 2, 3, 4, 3, 1, 0x72, 4, 3, 3, 1, 0x73,
 ];
 
-// Records and the place of their last checkpoint, a list of events, and the metadata record and the records that
-// are left, with the place of theirs.
-type Ring = (
-    (&'static [u8], u64),
-    &'static str,
-    (&'static [u8], &'static [u8], u64),
-);
-
 // A ring of constants stays whole, or goes whole.
 #[rattlefmt::skip]
-const OF_RINGS: [Ring; 4] = [
-    ((RINGS, 333), "t.A", (CLASSES_OF_A, FIRST_RING, 307)),
-    ((RINGS, 333), "t.B", (CLASSES_OF_B, SECOND_RING, 295)),
-    ((RINGS, 333), "t.C", (NO_EVENT_CLASSES, NO_POOLS, 234)),
-    ((BYTES_LEFT, 334), "B", (CLASSES_OF_B, SECOND_WITH_A_BYTE_LEFT, 296)),
+static RINGS_LEFT: [Scrub; 4] = [
+    (
+        &["scrub", "--include-events", "t.A", "a.jfr", "b.jfr"], (&[OF_RINGS], &[]), 0, "",
+        (&[Chunk(&[CLASSES_OF_A, FIRST_RING], 307, 68)], &[]),
+    ),
+    (
+        &["scrub", "--include-events", "t.B", "a.jfr", "b.jfr"], (&[OF_RINGS], &[]), 0, "",
+        (&[Chunk(&[CLASSES_OF_B, SECOND_RING], 295, 68)], &[]),
+    ),
+    (
+        &["scrub", "--include-events", "t.C", "a.jfr", "b.jfr"], (&[OF_RINGS], &[]), 0, "",
+        (&[Chunk(&[NO_EVENT_CLASSES, NO_POOLS], 234, 68)], &[]),
+    ),
+    (
+        &["scrub", "--include-events", "B", "a.jfr", "b.jfr"], (&[Chunk(&[CLASSES, BYTES_LEFT], 334, 68)], &[]), 0, "",
+        (&[Chunk(&[CLASSES_OF_B, SECOND_WITH_A_BYTE_LEFT], 296, 68)], &[]),
+    ),
 ];
-
-fn see_ring(rt: &impl Abort, alloc: Global, ring: &Ring) -> Result<(), Fail> {
-    let ((records, last), list, (classes, scrubbed, scrubbed_last)) = *ring;
-    let recording = with_classes(alloc, records, last)?;
-    let expected = with_metadata(alloc, classes, scrubbed, scrubbed_last)?;
-    filtered(rt, alloc, &recording, "--include-events", list, &expected)
-}
 
 #[test]
 fn rings_stay_or_go(rt: HostRuntime) -> Result<(), Fail> {
-    for ring in OF_RINGS.iter() {
-        see_ring(&rt, rt.alloc(), ring)?;
-    }
-    Ok(())
+    see_scrubs(&rt, rt.alloc(), &RINGS_LEFT)
 }

@@ -10,11 +10,21 @@ mod commands;
 #[cfg(test)]
 mod constants;
 #[cfg(test)]
+mod contents;
+#[cfg(test)]
 mod descriptions;
+#[cfg(test)]
+mod faults;
 #[cfg(test)]
 mod filters;
 #[cfg(test)]
+mod outputs;
+#[cfg(test)]
 mod parts;
+#[cfg(test)]
+mod places;
+#[cfg(test)]
+mod plays;
 #[cfg(test)]
 mod runs;
 #[cfg(test)]

@@ -1,197 +1,132 @@
 //! The commands that split and join.
-use crate::runs::{place_with, says};
-use jfr_fixtures::PLAIN;
-use jfr_outside::{Call, MemoryPlace, NoMemory, Place};
-use std::alloc::{AllocError, Global};
-use std::process::Abort;
+use crate::contents::Part::Plain;
+use crate::contents::{Content, EMPTY, ONE_PLAIN, THREE_PLAIN, TWO_PLAIN};
+use crate::plays::{Play, see_play, see_plays};
+use jfr_outside::Call;
 use std::test::Fail;
 
-// Three plain chunks.
-fn three_chunks(alloc: Global) -> Result<Vec<u8>, AllocError> {
-    let mut bytes = Vec::from_slice(alloc, PLAIN.as_slice())?;
-    bytes.extend_from_slice(&PLAIN)?;
-    bytes.extend_from_slice(&PLAIN)?;
-    Ok(bytes)
-}
+// A recording of three plain chunks.
+const RECORDING: &[(&str, Content)] = &[("r.jfr", THREE_PLAIN)];
 
-// A place with a recording of them.
-fn three_in_a_place(alloc: Global) -> Result<MemoryPlace, Fail> {
-    let bytes = three_chunks(alloc)?;
-    Ok(place_with(alloc, "r.jfr", &bytes)?)
-}
-
-// How many bytes the files have.
-fn have(rt: &impl Abort, place: &MemoryPlace, files: &[(&str, Option<usize>)]) {
-    for (name, size) in files {
-        assert_eq!(rt; place.file(name).map(|bytes| bytes.len()), *size);
-    }
-}
-
-// How a recording of three plain chunks is cut, and how many bytes its parts have.
-type Cut = (&'static [&'static str], [Option<usize>; 3]);
-
+// It is cut into parts, which are joined again.
 #[rattlefmt::skip]
-const CUTS: [Cut; 3] = [
-    (&["disassemble", "--output", "d", "--max-chunks", "2", "r.jfr"], [Some(206), Some(103), None]),
-    (&["disassemble", "--output", "d", "--max-size", "50", "r.jfr"], [Some(103), Some(103), Some(103)]),
-    (&["disassemble", "--output", "d", "--max-chunks", "5", "--max-size", "206", "r.jfr"], [Some(206), Some(103), None]),
-];
-
-// A recording is cut into parts, which are joined again.
-fn come_back(
-    rt: &impl Abort,
-    alloc: Global,
-    place: &mut MemoryPlace,
-    (split, [first, second, third]): Cut,
-) -> Result<(), Fail> {
-    says(rt, alloc, place, split, 0, "", "")?;
-    says(rt, alloc, place, &["assemble", "d", "o.jfr"], 0, "", "")?;
-    have(
-        rt,
-        place,
-        &[
-            ("d/r_000001.jfr", first),
-            ("d/r_000002.jfr", second),
-            ("d/r_000003.jfr", third),
+static CUTS: [Play; 3] = [
+    Play {
+        files: RECORDING,
+        faults: &[],
+        commands: &[
+            (&["disassemble", "--output", "d", "--max-chunks", "2", "r.jfr"], 0, "", ""),
+            (&["assemble", "d", "o.jfr"], 0, "", ""),
         ],
-    );
-    assert!(rt; place.file("o.jfr") == place.file("r.jfr"));
-    Ok(())
-}
-
-fn see_cut(rt: &impl Abort, alloc: Global, cut: Cut) -> Result<(), Fail> {
-    let mut place = three_in_a_place(alloc)?;
-    come_back(rt, alloc, &mut place, cut)
-}
+        left: &[("d/r_000001.jfr", Some(TWO_PLAIN)), ("d/r_000002.jfr", Some(ONE_PLAIN)), ("d/r_000003.jfr", None), ("o.jfr", Some(THREE_PLAIN))],
+    },
+    Play {
+        files: RECORDING,
+        faults: &[],
+        commands: &[
+            (&["disassemble", "--output", "d", "--max-size", "50", "r.jfr"], 0, "", ""),
+            (&["assemble", "d", "o.jfr"], 0, "", ""),
+        ],
+        left: &[("d/r_000001.jfr", Some(ONE_PLAIN)), ("d/r_000002.jfr", Some(ONE_PLAIN)), ("d/r_000003.jfr", Some(ONE_PLAIN)), ("o.jfr", Some(THREE_PLAIN))],
+    },
+    Play {
+        files: RECORDING,
+        faults: &[],
+        commands: &[
+            (&["disassemble", "--output", "d", "--max-chunks", "5", "--max-size", "206", "r.jfr"], 0, "", ""),
+            (&["assemble", "d", "o.jfr"], 0, "", ""),
+        ],
+        left: &[("d/r_000001.jfr", Some(TWO_PLAIN)), ("d/r_000002.jfr", Some(ONE_PLAIN)), ("d/r_000003.jfr", None), ("o.jfr", Some(THREE_PLAIN))],
+    },
+];
 
 #[test]
 fn parts_come_back(rt: HostRuntime) -> Result<(), Fail> {
-    for cut in CUTS.iter() {
-        see_cut(&rt, rt.alloc(), *cut)?;
-    }
-    Ok(())
+    see_plays(&rt, rt.alloc(), &CUTS)
 }
 
-// Files of a folder, of which one is no recording.
-fn put_files(place: &mut MemoryPlace, first: &[u8]) -> Result<(), NoMemory> {
-    place.put("d/b.jfr", &PLAIN)?;
-    place.put("d/a.jfr", first)?;
-    place.put("d/c.txt", b"")
-}
+// The plain chunk with another start, and this chunk before the plain one.
+const OTHER: Content = (&[Plain], &[(39, 7)]);
 
-// Joins them, and then with an empty one.
-fn join(
-    rt: &impl Abort,
-    alloc: Global,
-    place: &mut MemoryPlace,
-    joined: &[u8],
-) -> Result<(), Fail> {
-    says(rt, alloc, place, &["assemble", "d", "o.jfr"], 0, "", "")?;
-    assert!(rt; place.file("o.jfr") == Some(joined));
-    place.put("d/c.jfr", b"")?;
-    let line = "chunk 3 offset 0: NoChunk\n";
-    says(rt, alloc, place, &["assemble", "d", "p.jfr"], 2, "", line)?;
-    assert!(rt; place.file("p.jfr") == Some(joined));
-    Ok(())
-}
+const JOINED: Content = (&[Plain, Plain], &[(39, 7)]);
 
-// Joins files of which this is the first.
-fn see_joined(rt: &impl Abort, alloc: Global, first: &[u8], joined: &[u8]) -> Result<(), Fail> {
-    let mut place = MemoryPlace::new(alloc);
-    put_files(&mut place, first)?;
-    join(rt, alloc, &mut place, joined)
-}
+// Files are joined by their names, but for those of other kinds; and then with an empty one.
+#[rattlefmt::skip]
+static JOINS: [Play; 2] = [
+    Play {
+        files: &[("d/b.jfr", ONE_PLAIN), ("d/a.jfr", OTHER), ("d/c.txt", EMPTY)],
+        faults: &[],
+        commands: &[(&["assemble", "d", "o.jfr"], 0, "", "")],
+        left: &[("o.jfr", Some(JOINED))],
+    },
+    Play {
+        files: &[("d/b.jfr", ONE_PLAIN), ("d/a.jfr", OTHER), ("d/c.txt", EMPTY), ("o.jfr", JOINED), ("d/c.jfr", EMPTY)],
+        faults: &[],
+        commands: &[(&["assemble", "d", "p.jfr"], 2, "", "chunk 3 offset 0: NoChunk\n")],
+        left: &[("p.jfr", Some(JOINED))],
+    },
+];
 
-// Files are joined by their names, but for those of other kinds.
 #[test]
 fn files_are_joined_in_order(rt: HostRuntime) -> Result<(), Fail> {
-    let mut first = PLAIN;
-    first[39] = 7;
-    let mut joined = Vec::from_slice(rt.alloc(), &first)?;
-    joined.extend_from_slice(&PLAIN)?;
-    see_joined(&rt, rt.alloc(), &first, &joined)
+    see_plays(&rt, rt.alloc(), &JOINS)
 }
 
 // A folder without recordings has no chunk.
+static NO_FILES: Play = Play {
+    files: &[],
+    faults: &[],
+    commands: &[(
+        &["assemble", "e", "o.jfr"],
+        2,
+        "",
+        "chunk 1 offset 0: NoChunk\n",
+    )],
+    left: &[("o.jfr", Some(EMPTY))],
+};
+
 #[test]
 fn an_empty_folder_is_refused(rt: HostRuntime) -> Result<(), Fail> {
-    let mut place = MemoryPlace::new(rt.alloc());
-    let join = &["assemble", "e", "o.jfr"];
-    let line = "chunk 1 offset 0: NoChunk\n";
-    says(&rt, rt.alloc(), &mut place, join, 2, "", line)?;
-    have(&rt, &place, &[("o.jfr", Some(0))]);
-    Ok(())
+    see_play(&rt, rt.alloc(), &NO_FILES)
 }
 
-// The second part can't be created: the first one, of `chunks` chunks, is whole and was finished, so that
-// the next output that is finished is the second.
-fn fail_second(
-    rt: &impl Abort,
-    alloc: Global,
-    place: &mut MemoryPlace,
-    chunks: &str,
-    size: usize,
-) -> Result<(), Fail> {
-    place.fail(Call::Create, 2, 0)?;
-    place.fail(Call::Finish, 2, 0)?;
-    let line = &[
-        "disassemble",
-        "--output",
-        "d",
-        "--max-chunks",
-        chunks,
-        "r.jfr",
-    ];
-    says(rt, alloc, place, line, 4, "", "write fault\n")?;
-    have(
-        rt,
-        place,
-        &[("d/r_000001.jfr", Some(size)), ("d/r_000002.jfr", None)],
-    );
-    assert!(rt; place.create_output("other").is_ok());
-    assert!(rt; place.finish_output().is_err());
-    Ok(())
-}
+// Calls of the outside that fail, and what is left. If the second part can't be created, the first one is whole and
+// was finished, so that the next output that is finished is the second.
+#[rattlefmt::skip]
+static FAULTS: [Play; 4] = [
+    Play {
+        files: RECORDING,
+        faults: &[(Call::Create, 2, 0), (Call::Finish, 2, 0)],
+        commands: &[
+            (&["disassemble", "--output", "d", "--max-chunks", "1", "r.jfr"], 4, "", "write fault\n"),
+            (&["assemble", "d", "o.jfr"], 4, "", "write fault\n"),
+        ],
+        left: &[("d/r_000001.jfr", Some(ONE_PLAIN)), ("d/r_000002.jfr", None), ("o.jfr", Some(ONE_PLAIN))],
+    },
+    Play {
+        files: RECORDING,
+        faults: &[(Call::Create, 2, 0), (Call::Finish, 2, 0)],
+        commands: &[
+            (&["disassemble", "--output", "d", "--max-chunks", "2", "r.jfr"], 4, "", "write fault\n"),
+            (&["assemble", "d", "o.jfr"], 4, "", "write fault\n"),
+        ],
+        left: &[("d/r_000001.jfr", Some(TWO_PLAIN)), ("d/r_000002.jfr", None), ("o.jfr", Some(TWO_PLAIN))],
+    },
+    Play {
+        files: &[("d/a.jfr", ONE_PLAIN), ("d/b.jfr", ONE_PLAIN)],
+        faults: &[(Call::List, 1, 0)],
+        commands: &[(&["assemble", "d", "o.jfr"], 3, "", "read fault\n")],
+        left: &[("o.jfr", None)],
+    },
+    Play {
+        files: &[("d/a.jfr", ONE_PLAIN), ("d/b.jfr", ONE_PLAIN)],
+        faults: &[(Call::Open, 2, 0)],
+        commands: &[(&["assemble", "d", "o.jfr"], 3, "", "read fault\n")],
+        left: &[("o.jfr", Some(ONE_PLAIN))],
+    },
+];
 
-fn see_first_part(rt: &impl Abort, alloc: Global, chunks: &str, size: usize) -> Result<(), Fail> {
-    let mut place = three_in_a_place(alloc)?;
-    fail_second(rt, alloc, &mut place, chunks, size)
-}
-
-// A call that fails while two files are joined, and how many bytes the output has.
-fn fail_join(
-    rt: &impl Abort,
-    alloc: Global,
-    place: &mut MemoryPlace,
-    call: Call,
-    nth: u64,
-    size: Option<usize>,
-) -> Result<(), Fail> {
-    place.put("d/a.jfr", &PLAIN)?;
-    place.put("d/b.jfr", &PLAIN)?;
-    place.fail(call, nth, 0)?;
-    let join = &["assemble", "d", "o.jfr"];
-    says(rt, alloc, place, join, 3, "", "read fault\n")?;
-    have(rt, place, &[("o.jfr", size)]);
-    Ok(())
-}
-
-fn see_join(
-    rt: &impl Abort,
-    alloc: Global,
-    call: Call,
-    nth: u64,
-    size: Option<usize>,
-) -> Result<(), Fail> {
-    let mut place = MemoryPlace::new(alloc);
-    fail_join(rt, alloc, &mut place, call, nth, size)
-}
-
-// Calls of the outside that fail, and what is left.
 #[test]
 fn faults_of_parts_are_reported(rt: HostRuntime) -> Result<(), Fail> {
-    see_first_part(&rt, rt.alloc(), "1", 103)?;
-    see_first_part(&rt, rt.alloc(), "2", 206)?;
-    see_join(&rt, rt.alloc(), Call::List, 1, None)?;
-    see_join(&rt, rt.alloc(), Call::Open, 2, Some(103))
+    see_plays(&rt, rt.alloc(), &FAULTS)
 }

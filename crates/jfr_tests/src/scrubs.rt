@@ -1,119 +1,72 @@
 //! Scrubs of the plain chunk.
-ghost use Rattle.std.specs.Prelude.{◌≤◌};
-
-use crate::runs::{change, place_with, run_over_places, says_steadily, scrub, steady_place};
-use jfr_fixtures::{NO_CLASSES, NO_POOLS, PLAIN, inert, plain_with};
+use crate::contents::Part::{Bytes, Chunk, Plain, Start};
+use crate::contents::{Content, EMPTY, INERT, ONE_PLAIN, TWO_PLAIN, bytes_of};
+use crate::outputs::{
+    Refused, Scrub, run_in_memory, run_steadily, see_output, see_refused, see_scrubs,
+};
+use crate::places::place_of;
+use crate::plays::{Play, see_plays};
+use crate::runs::{SCRUB, Said, say_all, says_steadily};
+use jfr_fixtures::{NO_CLASSES, NO_POOLS};
 use jfr_outside::{Call, MemoryPlace, Place, SteadyPlace};
 use std::alloc::Global;
 use std::process::Abort;
 use std::test::Fail;
 
-const SCRUB: &[&str] = &["scrub", "a.jfr", "b.jfr"];
-
-// The plain chunk `times` times, and then its first `more` bytes.
-fn plain(alloc: Global, times: usize, more: usize) -> Result<Vec<u8>, Fail> {
-    let mut bytes = Vec::new(alloc);
-    push_plain(&mut bytes, times, more)?;
-    Ok(bytes)
-}
-
-// Adds them.
-fn push_plain(bytes: &mut Vec<u8>, times: usize, more: usize) -> Result<(), Fail> {
-    for _ in 0..times {
-        bytes.extend_from_slice(&PLAIN)?;
-    }
-    bytes.extend_from_slice(PLAIN.get(..more).ok_or("no such bytes")?)?;
-    Ok(())
-}
-
-// Scrubs chunks that stay, with reads of at most `size` bytes.
-fn see_plain(rt: &impl Abort, alloc: Global, bytes: &[u8], size: usize) -> Result<(), Fail>
-    requires { 1 ≤ size }
-{
-    let mut place = place_with(alloc, "a.jfr", bytes)?;
-    place.cut(size);
-    scrub(rt, alloc, &mut place, 0, "", Some(bytes))
-}
-
 // Two chunks come out as they are, however reads are cut.
 #[test]
 fn plain_chunks_stay(rt: HostRuntime) -> Result<(), Fail> {
-    let bytes = plain(rt.alloc(), 2, 0)?;
+    let bytes = bytes_of(rt.alloc(), TWO_PLAIN)?;
     for size in 1..=104 {
-        see_plain(&rt, rt.alloc(), &bytes, size)?;
+        run_in_memory(&rt, rt.alloc(), &bytes, size, (SCRUB, 0, "", ""), &bytes)?;
     }
     Ok(())
+}
+
+// Over a steady place too.
+#[test]
+fn plain_chunks_stay_over_a_steady_place(rt: HostRuntime) -> Result<(), Fail> {
+    let bytes = bytes_of(rt.alloc(), TWO_PLAIN)?;
+    let said = (SCRUB, 0, "", "");
+    run_steadily(&rt, rt.alloc(), &bytes, usize::MAX, said, &bytes)
 }
 
 // Records that belong to nothing go.
+static WITHOUT_INERT: [Scrub; 1] = [(SCRUB, (&[INERT], &[]), 0, "", ONE_PLAIN)];
+
 #[test]
 fn inert_records_go(rt: HostRuntime) -> Result<(), Fail> {
-    run_over_places(
-        &rt,
-        rt.alloc(),
-        &inert(rt.alloc())?,
-        SCRUB,
-        0,
-        "",
-        Some(&PLAIN),
-    )
-}
-
-// Changes bytes.
-fn change_all(bytes: &mut [u8], changes: &[(usize, u8)]) {
-    for (at, byte) in changes {
-        change(bytes, *at, *byte);
-    }
-}
-
-// The plain chunk with some bytes changed.
-fn changed(alloc: Global, changes: &[(usize, u8)]) -> Result<Vec<u8>, Fail> {
-    let mut bytes = plain(alloc, 1, 0)?;
-    change_all(&mut bytes, changes);
-    Ok(bytes)
+    see_scrubs(&rt, rt.alloc(), &WITHOUT_INERT)
 }
 
 // Bytes of the plain chunk are changed, and it is refused for the first flaw.
-const CHANGED: [(&[(usize, u8)], &str); 17] = [
-    (&[(0, 0x47)], "chunk 1 offset 0: Magic\n"),
-    (&[(5, 0x01)], "chunk 1 offset 4: Version\n"),
-    (&[(64, 0x01)], "chunk 1 offset 64: Unfinished\n"),
-    (&[(64, 0x01), (67, 0x00)], "chunk 1 offset 64: Unfinished\n"),
-    (&[(67, 0x00)], "chunk 1 offset 67: NotCompact\n"),
-    (&[(15, 0x43)], "chunk 1 offset 8: ChunkSize\n"),
-    (&[(12, 0x40)], "chunk 1 offset 8: ChunkSize\n"),
-    (&[(12, 0x10)], "chunk 1 offset 103: ShortChunk\n"),
-    (&[(96, 0x08)], "chunk 1 offset 96: RecordSize\n"),
-    (&[(96, 0x01)], "chunk 1 offset 96: RecordSize\n"),
-    (&[(31, 0x45)], "chunk 1 offset 24: MetadataPosition\n"),
-    (&[(23, 0x44)], "chunk 1 offset 16: PoolPosition\n"),
-    (&[(100, 0x01)], "chunk 1 offset 100: ChainDelta\n"),
-    (&[(74, 0x02)], "chunk 1 offset 74: StringKind\n"),
-    (&[(74, 0x06)], "chunk 1 offset 74: StringKind\n"),
-    (&[(90, 0x02)], "chunk 1 offset 90: StringIndex\n"),
-    (&[(93, 0x00)], "chunk 1 offset 90: NoClasses\n"),
+#[rattlefmt::skip]
+static CHANGED: [Refused; 17] = [
+    ((&[Plain], &[(0, 0x47)]), "chunk 1 offset 0: Magic\n"),
+    ((&[Plain], &[(5, 0x01)]), "chunk 1 offset 4: Version\n"),
+    ((&[Plain], &[(64, 0x01)]), "chunk 1 offset 64: Unfinished\n"),
+    ((&[Plain], &[(64, 0x01), (67, 0x00)]), "chunk 1 offset 64: Unfinished\n"),
+    ((&[Plain], &[(67, 0x00)]), "chunk 1 offset 67: NotCompact\n"),
+    ((&[Plain], &[(15, 0x43)]), "chunk 1 offset 8: ChunkSize\n"),
+    ((&[Plain], &[(12, 0x40)]), "chunk 1 offset 8: ChunkSize\n"),
+    ((&[Plain], &[(12, 0x10)]), "chunk 1 offset 103: ShortChunk\n"),
+    ((&[Plain], &[(96, 0x08)]), "chunk 1 offset 96: RecordSize\n"),
+    ((&[Plain], &[(96, 0x01)]), "chunk 1 offset 96: RecordSize\n"),
+    ((&[Plain], &[(31, 0x45)]), "chunk 1 offset 24: MetadataPosition\n"),
+    ((&[Plain], &[(23, 0x44)]), "chunk 1 offset 16: PoolPosition\n"),
+    ((&[Plain], &[(100, 0x01)]), "chunk 1 offset 100: ChainDelta\n"),
+    ((&[Plain], &[(74, 0x02)]), "chunk 1 offset 74: StringKind\n"),
+    ((&[Plain], &[(74, 0x06)]), "chunk 1 offset 74: StringKind\n"),
+    ((&[Plain], &[(90, 0x02)]), "chunk 1 offset 90: StringIndex\n"),
+    ((&[Plain], &[(93, 0x00)]), "chunk 1 offset 90: NoClasses\n"),
 ];
-
-fn see_changed(
-    rt: &impl Abort,
-    alloc: Global,
-    changes: &[(usize, u8)],
-    line: &str,
-) -> Result<(), Fail> {
-    let bytes = changed(alloc, changes)?;
-    run_over_places(rt, alloc, &bytes, SCRUB, 2, line, Some(&[]))
-}
 
 #[test]
 fn changed_chunks_are_refused(rt: HostRuntime) -> Result<(), Fail> {
-    for (changes, line) in CHANGED.iter() {
-        see_changed(&rt, rt.alloc(), changes, line)?;
-    }
-    Ok(())
+    see_refused(&rt, rt.alloc(), &CHANGED)
 }
 
-// Metadata records with trees of 16 and of 17 levels, each after its strings; and checkpoints that end
-// too early and too late.
+// Metadata records with trees of 16 and of 17 levels, each after its strings.
 const SIXTEEN_LEVELS: &[u8] = &[
     0x46, 0, 0, 0, 1, 2, 3, 4, 0x72, 0x6F, 0x6F, 0x74, 3, 8, 0x6D, 0x65, 0x74, 0x61, 0x64, 0x61,
     0x74, 0x61, 1, 0, 1, 1, 0, 1, 1, 0, 1, 1, 0, 1, 1, 0, 1, 1, 0, 1, 1, 0, 1, 1, 0, 1, 1, 0, 1, 1,
@@ -126,39 +79,22 @@ const SEVENTEEN_LEVELS: &[u8] = &[
     0, 1, 1, 0, 1, 1, 0, 1, 1, 0, 1, 1, 0, 1, 1, 0, 1, 1, 0, 1, 1, 0, 0,
 ];
 
-const NO_DELTA: &[u8] = &[4, 1, 0, 0];
+// The plain chunk made of its records.
+const OF_RECORDS: Content = (&[Chunk(&[NO_CLASSES, NO_POOLS], 96, 68)], &[]);
 
-const BYTE_LEFT: &[u8] = &[8, 1, 0, 0, 0, 0, 0, 0];
-
-// The metadata record and the checkpoint of a plain chunk, the status and the line.
-type Records = (&'static [u8], &'static [u8], u8, &'static str);
-
-// Records of the plain chunk are others, and it is refused for the first flaw, or stays.
-const OTHER_RECORDS: [Records; 4] = [
-    (NO_CLASSES, NO_POOLS, 0, ""),
-    (NO_CLASSES, NO_DELTA, 2, "chunk 1 offset 100: Short\n"),
-    (NO_CLASSES, BYTE_LEFT, 2, "chunk 1 offset 103: Trailing\n"),
-    (
-        SEVENTEEN_LEVELS,
-        NO_POOLS,
-        2,
-        "chunk 1 offset 138: TreeDeep\n",
-    ),
+// Records of the plain chunk are its own, and it stays, or others, and it is refused for the first flaw: checkpoints
+// that end too early and too late, and a tree that is too deep.
+#[rattlefmt::skip]
+static OTHER_RECORDS: [Scrub; 4] = [
+    (SCRUB, OF_RECORDS, 0, "", OF_RECORDS),
+    (SCRUB, (&[Chunk(&[NO_CLASSES, &[4, 1, 0, 0]], 96, 68)], &[]), 2, "chunk 1 offset 100: Short\n", EMPTY),
+    (SCRUB, (&[Chunk(&[NO_CLASSES, &[8, 1, 0, 0, 0, 0, 0, 0]], 96, 68)], &[]), 2, "chunk 1 offset 103: Trailing\n", EMPTY),
+    (SCRUB, (&[Chunk(&[SEVENTEEN_LEVELS, NO_POOLS], 141, 68)], &[]), 2, "chunk 1 offset 138: TreeDeep\n", EMPTY),
 ];
-
-fn see_records(rt: &impl Abort, alloc: Global, records: &Records) -> Result<(), Fail> {
-    let (metadata, checkpoint, status, line) = *records;
-    let bytes = plain_with(alloc, metadata, checkpoint)?;
-    let left: &[u8] = if status == 0 { &bytes } else { &[] };
-    run_over_places(rt, alloc, &bytes, SCRUB, status, line, Some(left))
-}
 
 #[test]
 fn other_records_are_refused(rt: HostRuntime) -> Result<(), Fail> {
-    for records in OTHER_RECORDS.iter() {
-        see_records(&rt, rt.alloc(), records)?;
-    }
-    Ok(())
+    see_scrubs(&rt, rt.alloc(), &OTHER_RECORDS)
 }
 
 // The tree of 16 levels without the text that it doesn't use.
@@ -168,123 +104,106 @@ const SIXTEEN_LEVELS_SLIM: &[u8] = &[
     1, 0, 0, 1, 0, 0, 1, 0, 0, 1, 0, 0, 1, 0, 0, 0,
 ];
 
+#[rattlefmt::skip]
+static SIXTEEN: [Scrub; 1] = [
+    (SCRUB, (&[Chunk(&[SIXTEEN_LEVELS, NO_POOLS], 138, 68)], &[]), 0, "", (&[Chunk(&[SIXTEEN_LEVELS_SLIM, NO_POOLS], 136, 68)], &[])),
+];
+
 #[test]
 fn sixteen_levels_are_scrubbed(rt: HostRuntime) -> Result<(), Fail> {
-    let deep = plain_with(rt.alloc(), SIXTEEN_LEVELS, NO_POOLS)?;
-    let expected = plain_with(rt.alloc(), SIXTEEN_LEVELS_SLIM, NO_POOLS)?;
-    run_over_places(&rt, rt.alloc(), &deep, SCRUB, 0, "", Some(&expected))
+    see_scrubs(&rt, rt.alloc(), &SIXTEEN)
 }
 
 // A recording that ends early is refused at its end, and the chunks before stay.
-const CUT: [(usize, usize, &str); 5] = [
-    (0, 0, "chunk 1 offset 0: NoChunk\n"),
-    (0, 67, "chunk 1 offset 67: ShortHeader\n"),
-    (0, 68, "chunk 1 offset 68: ShortChunk\n"),
-    (1, 100, "chunk 2 offset 100: ShortChunk\n"),
-    (2, 1, "chunk 3 offset 1: ShortHeader\n"),
+#[rattlefmt::skip]
+static CUT: [Scrub; 5] = [
+    (SCRUB, EMPTY, 2, "chunk 1 offset 0: NoChunk\n", EMPTY),
+    (SCRUB, (&[Start(67)], &[]), 2, "chunk 1 offset 67: ShortHeader\n", EMPTY),
+    (SCRUB, (&[Start(68)], &[]), 2, "chunk 1 offset 68: ShortChunk\n", EMPTY),
+    (SCRUB, (&[Plain, Start(100)], &[]), 2, "chunk 2 offset 100: ShortChunk\n", ONE_PLAIN),
+    (SCRUB, (&[Plain, Plain, Start(1)], &[]), 2, "chunk 3 offset 1: ShortHeader\n", TWO_PLAIN),
 ];
-
-// How many whole chunks there are, how many bytes more, and the line.
-fn see_cut(
-    rt: &impl Abort,
-    alloc: Global,
-    times: usize,
-    more: usize,
-    line: &str,
-) -> Result<(), Fail> {
-    let bytes = plain(alloc, times, more)?;
-    let whole = plain(alloc, times, 0)?;
-    run_over_places(rt, alloc, &bytes, SCRUB, 2, line, Some(&whole))
-}
 
 #[test]
 fn cut_recordings_are_refused(rt: HostRuntime) -> Result<(), Fail> {
-    for (times, more, line) in CUT.iter() {
-        see_cut(&rt, rt.alloc(), *times, *more, line)?;
-    }
-    Ok(())
+    see_scrubs(&rt, rt.alloc(), &CUT)
 }
 
-// A call that fails, the status, the line, and how many bytes of two chunks the output has, if it is there.
-type Failing = (Call, u64, u8, &'static str, Option<usize>);
+// A recording of two chunks.
+const RECORDING: &[(&str, Content)] = &[("a.jfr", TWO_PLAIN)];
 
-const FAILING: [Failing; 5] = [
-    (Call::Open, 1, 3, "read fault\n", None),
-    (Call::Read, 1, 3, "read fault\n", Some(0)),
-    (Call::Create, 1, 4, "write fault\n", None),
-    (Call::Append, 2, 4, "write fault\n", Some(113)),
-    (Call::Finish, 1, 4, "write fault\n", Some(206)),
+const READ_FAULT: &[Said<'static>] = &[(SCRUB, 3, "", "read fault\n")];
+
+const WRITE_FAULT: &[Said<'static>] = &[(SCRUB, 4, "", "write fault\n")];
+
+// Calls of the outside that fail, an input that isn't there, and an output that is there already.
+#[rattlefmt::skip]
+static FAULTS: [Play; 7] = [
+    Play { files: RECORDING, faults: &[(Call::Open, 1, 10)], commands: READ_FAULT, left: &[("b.jfr", None)] },
+    Play { files: RECORDING, faults: &[(Call::Read, 1, 10)], commands: READ_FAULT, left: &[("b.jfr", Some(EMPTY))] },
+    Play { files: RECORDING, faults: &[(Call::Create, 1, 10)], commands: WRITE_FAULT, left: &[("b.jfr", None)] },
+    Play { files: RECORDING, faults: &[(Call::Append, 2, 10)], commands: WRITE_FAULT, left: &[("b.jfr", Some((&[Plain, Start(10)], &[])))] },
+    Play { files: RECORDING, faults: &[(Call::Finish, 1, 10)], commands: WRITE_FAULT, left: &[("b.jfr", Some(TWO_PLAIN))] },
+    Play { files: &[], faults: &[], commands: READ_FAULT, left: &[("b.jfr", None)] },
+    Play { files: &[("a.jfr", TWO_PLAIN), ("b.jfr", (&[Bytes(b"mine")], &[]))], faults: &[], commands: WRITE_FAULT, left: &[("b.jfr", Some((&[Bytes(b"mine")], &[])))] },
 ];
 
-fn see_failing(
-    rt: &impl Abort,
-    alloc: Global,
-    two: &[u8],
-    (call, nth, status, line, left): Failing,
-) -> Result<(), Fail> {
-    let output = match left {
-        Some(count) => Some(two.get(..count).ok_or("no such bytes")?),
-        None => None,
-    };
-    let mut place = place_with(alloc, "a.jfr", two)?;
-    place.fail(call, nth, 10)?;
-    scrub(rt, alloc, &mut place, status, line, output)
+#[test]
+fn faults_are_reported(rt: HostRuntime) -> Result<(), Fail> {
+    see_plays(&rt, rt.alloc(), &FAULTS)
 }
 
-// The input isn't there, or the output is there already.
-fn see_misplaced(
+// A recording, how many bytes a read gives at most, which read fails, and what is said.
+type Failing = (Content, usize, u64, Said<'static>);
+
+// The plain chunk as a file.
+static PLAIN_FILE: [(&str, Content); 1] = [("a.jfr", ONE_PLAIN)];
+
+// A read fails in mid-header, and where the header was refused already.
+#[rattlefmt::skip]
+static IN_HEADER: [Failing; 2] = [
+    (ONE_PLAIN, 40, 2, (SCRUB, 3, "", "read fault\n")),
+    ((&[Plain], &[(0, 0x47)]), 34, 3, (SCRUB, 2, "", "chunk 1 offset 0: Magic\n")),
+];
+
+// Makes a read fail, and compares what is said; the output is empty.
+fn see_failing_in(
     rt: &impl Abort,
     alloc: Global,
     place: &mut MemoryPlace,
-    two: &[u8],
+    (_, size, nth, said): Failing,
 ) -> Result<(), Fail> {
-    scrub(rt, alloc, place, 3, "read fault\n", None)?;
-    place.put("a.jfr", two)?;
-    place.put("b.jfr", b"mine")?;
-    scrub(rt, alloc, place, 4, "write fault\n", Some(b"mine"))
+    place.cut(size.max(1));
+    place.fail(Call::Read, nth, 0)?;
+    see_output(rt, alloc, place, said, &[])
 }
 
-// Calls of the outside that fail.
-#[test]
-fn faults_are_reported(rt: HostRuntime) -> Result<(), Fail> {
-    let two = plain(rt.alloc(), 2, 0)?;
-    for failing in FAILING.iter() {
-        see_failing(&rt, rt.alloc(), &two, *failing)?;
-    }
-    let mut place = MemoryPlace::new(rt.alloc());
-    see_misplaced(&rt, rt.alloc(), &mut place, &two)
+// Does so over a place with the recording.
+fn see_failing(rt: &impl Abort, alloc: Global, failing: Failing) -> Result<(), Fail> {
+    let mut place = place_of(alloc, &[("a.jfr", failing.0)])?;
+    see_failing_in(rt, alloc, &mut place, failing)
 }
 
-// A read fails in mid-header.
-fn see_cut_header(rt: &impl Abort, alloc: Global) -> Result<(), Fail> {
-    let mut place = place_with(alloc, "a.jfr", &PLAIN)?;
-    place.cut(40);
-    place.fail(Call::Read, 2, 0)?;
-    scrub(rt, alloc, &mut place, 3, "read fault\n", Some(&[]))
-}
-
-// A read fails where the header was refused already.
-fn see_refused_header(rt: &impl Abort, alloc: Global, bytes: &[u8]) -> Result<(), Fail> {
-    let mut place = place_with(alloc, "a.jfr", bytes)?;
-    place.cut(34);
-    place.fail(Call::Read, 3, 0)?;
-    let line = "chunk 1 offset 0: Magic\n";
-    scrub(rt, alloc, &mut place, 2, line, Some(&[]))
+// Creates an output, which stays open.
+fn open_output(place: &mut MemoryPlace) -> bool {
+    place.create_output("c.jfr").is_ok()
 }
 
 // An output is open already.
-fn see_open_output(rt: &impl Abort, alloc: Global) -> Result<(), Fail> {
-    let mut place = place_with(alloc, "a.jfr", &PLAIN)?;
-    assert!(rt; place.create_output("c.jfr").is_ok());
-    scrub(rt, alloc, &mut place, 4, "write fault\n", None)
+fn see_open_output(rt: &impl Abort, alloc: Global, place: &mut MemoryPlace) -> Result<(), Fail> {
+    assert!(rt; open_output(place));
+    say_all(rt, alloc, place, WRITE_FAULT)?;
+    assert!(rt; place.file("b.jfr").is_none());
+    Ok(())
 }
 
 #[test]
 fn the_first_event_decides(rt: HostRuntime) -> Result<(), Fail> {
-    see_cut_header(&rt, rt.alloc())?;
-    let bytes = changed(rt.alloc(), &[(0, 0x47)])?;
-    see_refused_header(&rt, rt.alloc(), &bytes)?;
-    see_open_output(&rt, rt.alloc())
+    for failing in IN_HEADER.iter() {
+        see_failing(&rt, rt.alloc(), *failing)?;
+    }
+    let mut place = place_of(rt.alloc(), &PLAIN_FILE)?;
+    see_open_output(&rt, rt.alloc(), &mut place)
 }
 
 const USAGE: &str =
@@ -292,7 +211,7 @@ const USAGE: &str =
 
 // Every other list of words is a usage fault, and nothing is asked of the place: calls that would fail do so
 // after it.
-const OTHER_WORDS: [&[&str]; 21] = [
+static OTHER_WORDS: [&[&str]; 21] = [
     &[],
     &["--help"],
     &["frobnicate", "x"],
@@ -324,6 +243,14 @@ const OTHER_WORDS: [&[&str]; 21] = [
     &["scrub", "--include-events", "A", "a.jfr", "b.jfr", "c.jfr"],
 ];
 
+// What a place says then whose next open and whose next create fail.
+static NEXT: [Said<'static>; 2] = [
+    (SCRUB, 3, "", "read fault\n"),
+    (SCRUB, 4, "", "write fault\n"),
+];
+
+// Makes the next open and the next create fail, runs a command that is a usage fault, and compares that both are still
+// to fail.
 fn misuse(
     rt: &impl Abort,
     alloc: Global,
@@ -332,14 +259,12 @@ fn misuse(
 ) -> Result<(), Fail> {
     place.fail(Call::Open, 1, 0)?;
     place.fail(Call::Create, 1, 0)?;
-    says_steadily(rt, alloc, place, line, 1, USAGE)?;
-    assert!(rt; place.open_input("a.jfr").is_err());
-    assert!(rt; place.create_output("b.jfr").is_err());
-    Ok(())
+    says_steadily(rt, alloc, place, (line, 1, "", USAGE))?;
+    say_all(rt, alloc, place, &NEXT)
 }
 
 fn see_usage(rt: &impl Abort, alloc: Global, line: &[&str]) -> Result<(), Fail> {
-    let mut place = place_with(alloc, "a.jfr", &PLAIN)?;
+    let mut place = place_of(alloc, &PLAIN_FILE)?;
     misuse(rt, alloc, &mut place, line)
 }
 
@@ -352,7 +277,7 @@ fn other_words_are_a_usage_fault(rt: HostRuntime) -> Result<(), Fail> {
 }
 
 // Options in any order, whatever their values are.
-const OPTIONS: [&[&str]; 4] = [
+static OPTIONS: [&[&str]; 4] = [
     &["scrub", "--include-events", "A,B", "a.jfr", "b.jfr"],
     &["scrub", "--exclude-categories", "-", "a.jfr", "b.jfr"],
     &[
@@ -386,7 +311,7 @@ const OPTIONS: [&[&str]; 4] = [
 // Their input isn't there.
 fn see_options(rt: &impl Abort, alloc: Global, line: &[&str]) -> Result<(), Fail> {
     let mut place = SteadyPlace::new(alloc);
-    says_steadily(rt, alloc, &mut place, line, 3, "read fault\n")
+    says_steadily(rt, alloc, &mut place, (line, 3, "", "read fault\n"))
 }
 
 #[test]
@@ -395,18 +320,4 @@ fn options_come_before_the_names(rt: HostRuntime) -> Result<(), Fail> {
         see_options(&rt, rt.alloc(), line)?;
     }
     Ok(())
-}
-
-// Over a steady place plain chunks are scrubbed, and nothing is said.
-fn see_steady(rt: &impl Abort, alloc: Global, two: &[u8]) -> Result<(), Fail> {
-    let mut place = steady_place(alloc, two)?;
-    says_steadily(rt, alloc, &mut place, SCRUB, 0, "")?;
-    assert!(rt; place.file("b.jfr") == Some(two));
-    Ok(())
-}
-
-#[test]
-fn plain_chunks_stay_over_a_steady_place(rt: HostRuntime) -> Result<(), Fail> {
-    let two = plain(rt.alloc(), 2, 0)?;
-    see_steady(&rt, rt.alloc(), &two)
 }

@@ -1,8 +1,8 @@
 //! Runs of a command over a place in memory, and what they leave there.
-use jfr_cli::run;
+use crate::runs::{status_of, words};
 use jfr_fixtures::{RINGS, STRINGS, with_classes};
-use jfr_outside::{Call, MemoryPlace, MemorySink, Place, Sink, Words};
-use std::alloc::Global;
+use jfr_outside::{Call, MemoryPlace, MemorySink, NoMemory, Place, Words};
+use std::alloc::{AllocError, Global};
 use std::test::Fail;
 
 /// The names of all outputs that the commands of these tests make.
@@ -58,40 +58,68 @@ impl Run {
     pub(crate) fn has_open_output(&mut self) -> bool {
         self.place.finish_output().is_ok()
     }
+
+    // Makes a call fail and keep at most this many bytes.
+    fn set_fault(&mut self, fault: Fault, keep: usize) -> Result<(), NoMemory> {
+        match fault {
+            Fault::Never => Ok(()),
+            Fault::Of(call, nth) => self.place.fail(call, nth, keep),
+            Fault::Write(nth) => self.out.fail(nth, keep),
+        }
+    }
+
+    // Runs a command.
+    fn start(&mut self, alloc: Global, words: &Words) {
+        self.status = status_of(alloc, words, &mut self.place, &mut self.out, &mut self.err);
+    }
 }
 
 // The receipt of the first chunk, of four entries: the two events refer to the entries 0 and 2, and these to 1 and 3.
 const RECEIPT: &[u8] = &[4, 0, 0, 0, 2, 0, 1, 1, 1, 0, 3, 1, 2];
 
-// The first `chunks` of two chunks in a.jfr, and one in each file of the folder d. A receipt is in c.
-fn place_with(alloc: Global, chunks: usize) -> Result<MemoryPlace, Fail> {
-    let rings = with_classes(alloc, RINGS, 333)?;
-    let strings = with_classes(alloc, STRINGS, 330)?;
-    let mut place = MemoryPlace::new(alloc);
-    let mut recording = Vec::new(alloc);
+// The first `chunks` of two chunks.
+fn recording_of(alloc: Global, chunks: usize) -> Result<Vec<u8>, AllocError> {
+    let mut bytes = Vec::new(alloc);
     if chunks > 0 {
-        recording.extend_from_slice(&rings)?;
-        place.put("d/1.jfr", &rings)?;
+        bytes.extend_from_slice(&with_classes(alloc, RINGS, 333)?)?;
     }
     if chunks > 1 {
-        recording.extend_from_slice(&strings)?;
-        place.put("d/2.jfr", &strings)?;
+        bytes.extend_from_slice(&with_classes(alloc, STRINGS, 330)?)?;
     }
-    place.put("a.jfr", &recording)?;
+    Ok(bytes)
+}
+
+// Puts the first `chunks` of them in a.jfr, and one in each file of the folder d. A receipt is in c.
+fn put_chunks(place: &mut MemoryPlace, alloc: Global, chunks: usize) -> Result<(), Fail> {
+    place.put("a.jfr", &recording_of(alloc, chunks)?)?;
     place.put("c", RECEIPT)?;
+    if chunks > 0 {
+        place.put("d/1.jfr", &with_classes(alloc, RINGS, 333)?)?;
+    }
+    if chunks > 1 {
+        place.put("d/2.jfr", &with_classes(alloc, STRINGS, 330)?)?;
+    }
+    Ok(())
+}
+
+// A place with these files, whose reads give at most 50 bytes.
+fn place_with(alloc: Global, chunks: usize) -> Result<MemoryPlace, Fail> {
+    let mut place = MemoryPlace::new(alloc);
+    put_chunks(&mut place, alloc, chunks)?;
+    place.cut(50);
     Ok(place)
 }
 
-/// The status of a run of the top call. This function has no clauses, so a test that calls it is proved without those
-/// of `run`, which would take most of the time.
-pub(crate) fn status_of<P: Place, O: Sink, E: Sink>(
-    alloc: Global,
-    words: &Words,
-    place: &mut P,
-    out: &mut O,
-    err: &mut E,
-) -> u8 {
-    run(alloc, words, place, out, err)
+// What a run over the first chunks finds, in which a call fails and keeps at most this many bytes.
+fn ready(alloc: Global, chunks: usize, fault: Fault, keep: usize) -> Result<Run, Fail> {
+    let mut run = Run {
+        status: 0,
+        place: place_with(alloc, chunks)?,
+        out: MemorySink::new(alloc),
+        err: MemorySink::new(alloc),
+    };
+    run.set_fault(fault, keep)?;
+    Ok(run)
 }
 
 /// Runs a command over the first chunks, with reads of at most 50 bytes, and a call that fails and keeps at
@@ -103,24 +131,8 @@ pub(crate) fn run_once(
     fault: Fault,
     keep: usize,
 ) -> Result<Run, Fail> {
-    let mut words = Words::new(alloc);
-    for word in command {
-        words.push(word)?;
-    }
-    let mut place = place_with(alloc, chunks)?;
-    let mut out = MemorySink::new(alloc);
-    let mut err = MemorySink::new(alloc);
-    place.cut(50);
-    match fault {
-        Fault::Never => {}
-        Fault::Of(call, nth) => place.fail(call, nth, keep)?,
-        Fault::Write(nth) => out.fail(nth, keep)?,
-    }
-    let status = status_of(alloc, &words, &mut place, &mut out, &mut err);
-    Ok(Run {
-        status,
-        place,
-        out,
-        err,
-    })
+    let words = words(alloc, command)?;
+    let mut run = ready(alloc, chunks, fault, keep)?;
+    run.start(alloc, &words);
+    Ok(run)
 }

@@ -1,5 +1,5 @@
 //! What is left after a call that failed.
-use crate::runs::{Fault, OUTPUTS, Run, run_once};
+use crate::faults::runs::{Fault, OUTPUTS, Run, run_once};
 use std::alloc::Global;
 use std::test::Fail;
 

@@ -1,7 +1,8 @@
 //! Chunks with many checkpoints.
-use crate::scrub::see_scrub;
+use crate::faults::scrub::see_scrub;
 use jfr_fixtures::{CLASSES, NO_EVENT_CLASSES, NO_POOLS, with_metadata};
 use std::alloc::{AllocError, Global};
+use std::process::Abort;
 use std::test::Fail;
 
 const CHECKPOINTS: u64 = 50_000;
@@ -37,6 +38,16 @@ const WITH_NODES: Chain = Chain {
     ],
 };
 
+// Adds the checkpoints of a chain.
+fn push_chain(records: &mut Vec<u8>, chain: &Chain) -> Result<(), AllocError> {
+    records.extend_from_slice(chain.first)?;
+    records.extend_from_slice(chain.second)?;
+    for _ in 2..CHECKPOINTS {
+        records.extend_from_slice(chain.later)?;
+    }
+    Ok(())
+}
+
 // A chunk of a metadata record and the checkpoints of a chain, the last of which starts at `last`.
 fn chained(
     alloc: Global,
@@ -44,12 +55,21 @@ fn chained(
     chain: &Chain,
     last: u64,
 ) -> Result<Vec<u8>, AllocError> {
-    let mut records = Vec::from_slice(alloc, chain.first)?;
-    records.extend_from_slice(chain.second)?;
-    for _ in 2..CHECKPOINTS {
-        records.extend_from_slice(chain.later)?;
-    }
+    let mut records = Vec::new(alloc);
+    push_chain(&mut records, chain)?;
     with_metadata(alloc, metadata, &records, last)
+}
+
+// Scrubs a long chain, of which this is left.
+fn see_chain(
+    rt: &impl Abort,
+    alloc: Global,
+    chain: &Chain,
+    last: u64,
+    left: &[u8],
+) -> Result<(), Fail> {
+    let chunk = chained(alloc, CLASSES, chain, last)?;
+    see_scrub(rt, alloc, &chunk, 0, "", left)
 }
 
 // A long chain stays. Where its nodes go, since nothing reaches them, the deltas become those of what is
@@ -57,11 +77,8 @@ fn chained(
 #[test]
 fn long_chains_are_scrubbed(rt: HostRuntime) -> Result<(), Fail> {
     let alloc = rt.alloc();
-    let later = 15 * (CHECKPOINTS - 2);
-    let left = chained(alloc, NO_EVENT_CLASSES, &EMPTY, 234 + 7 + later)?;
-    let empty = chained(alloc, CLASSES, &EMPTY, 325 + 7 + later)?;
-    see_scrub(&rt, alloc, &empty, 0, "", &left)?;
-    let last = 325 + 14 + 22 * (CHECKPOINTS - 2);
-    let full = chained(alloc, CLASSES, &WITH_NODES, last)?;
-    see_scrub(&rt, alloc, &full, 0, "", &left)
+    let more = CHECKPOINTS - 2;
+    let left = chained(alloc, NO_EVENT_CLASSES, &EMPTY, 234 + 7 + 15 * more)?;
+    see_chain(&rt, alloc, &EMPTY, 325 + 7 + 15 * more, &left)?;
+    see_chain(&rt, alloc, &WITH_NODES, 325 + 14 + 22 * more, &left)
 }

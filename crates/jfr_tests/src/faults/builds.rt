@@ -1,6 +1,6 @@
 //! Each call of a build fails in turn.
-use crate::runs::status_of;
-use jfr_outside::{Call, MemoryPlace, MemorySink, Words};
+use crate::runs::says;
+use jfr_outside::{Call, MemoryPlace, NoMemory};
 use std::alloc::Global;
 use std::process::Abort;
 use std::test::Fail;
@@ -28,36 +28,25 @@ const ROWS: [Row; 11] = [
     (Call::Finish, 2, 0, "", Some(WHOLE)),
 ];
 
-// The words of the command.
-fn words(alloc: Global) -> Result<Words, Fail> {
-    let mut words = Words::new(alloc);
-    words.push("build")?;
-    words.push("t")?;
-    words.push("o")?;
-    Ok(words)
-}
-
 // The length of a file, if it exists.
 fn len_of(file: Option<&[u8]>) -> Option<usize> {
     Some(file?.len())
+}
+
+// Puts the text, and makes a call fail.
+fn prepare(place: &mut MemoryPlace, call: Call, nth: u64) -> Result<(), NoMemory> {
+    place.put("t", TEXT)?;
+    place.cut(40);
+    place.fail(call, nth, 10)
 }
 
 // Builds the text, and compares what is left after a call fails.
 fn see_fault(rt: &impl Abort, alloc: Global, row: Row) -> Result<(), Fail> {
     let (call, nth, status, line, left) = row;
     let mut place = MemoryPlace::new(alloc);
-    place.put("t", TEXT)?;
-    place.cut(40);
-    place.fail(call, nth, 10)?;
-    let mut out = MemorySink::new(alloc);
-    let mut err = MemorySink::new(alloc);
-    let words = words(alloc)?;
-    assert_eq!(rt;
-        status_of(alloc, &words, &mut place, &mut out, &mut err),
-        status
-    );
-    assert_eq!(rt; err.bytes(), line.as_bytes());
-    assert!(rt; out.bytes().is_empty());
+    prepare(&mut place, call, nth)?;
+    let said = (["build", "t", "o"].as_slice(), status, "", line);
+    says(rt, alloc, &mut place, said)?;
     assert_eq!(rt; len_of(place.file("o")), left);
     Ok(())
 }

@@ -1,9 +1,10 @@
 //! A recording with one chunk more than `disassemble` may make parts of, over a place of whose contents a contract
 //! knows nothing.
-use crate::runs::status_of;
+use crate::runs::says_steadily;
 use jfr_fixtures::PLAIN;
-use jfr_outside::{Fault, MemorySink, Place, Words};
+use jfr_outside::{Fault, Place, Words};
 use std::alloc::Global;
+use std::process::Abort;
 use std::test::Fail;
 
 // How many parts a recording may have.
@@ -68,33 +69,31 @@ impl Place for Chunks {
     }
 }
 
+// How many chunks more than parts there may be, the status, the line, and how many parts are finished.
+type Row = (u64, u8, &'static str, u64);
+
+const ROWS: [Row; 2] = [(0, 0, "", PARTS), (1, 6, "too many parts\n", PARTS - 1)];
+
+// Splits a recording, and compares.
+fn see_parts(rt: &impl Abort, alloc: Global, row: Row) -> Result<(), Fail> {
+    let (more, status, line, finished) = row;
+    let mut place = Chunks {
+        left: PARTS.saturating_add(more),
+        at: 0,
+        created: 0,
+        finished: 0,
+    };
+    let command = ["disassemble", "--max-chunks", "1", "a.jfr"];
+    says_steadily(rt, alloc, &mut place, (&command, status, "", line))?;
+    assert_eq!(rt; place.created, PARTS);
+    assert_eq!(rt; place.finished, finished);
+    Ok(())
+}
+
 #[test]
 fn too_many_parts_are_refused(rt: HostRuntime) -> Result<(), Fail> {
-    let alloc = rt.alloc();
-    for (more, status, line, finished) in [
-        (0, 0, "", PARTS),
-        (1, 6, "too many parts\n", PARTS - 1),
-    ] {
-        let mut place = Chunks {
-            left: PARTS + more,
-            at: 0,
-            created: 0,
-            finished: 0,
-        };
-        let mut words = Words::new(alloc);
-        words.push("disassemble")?;
-        words.push("--max-chunks")?;
-        words.push("1")?;
-        words.push("a.jfr")?;
-        let mut out = MemorySink::new(alloc);
-        let mut err = MemorySink::new(alloc);
-        assert_eq!(rt;
-            status_of(alloc, &words, &mut place, &mut out, &mut err),
-            status
-        );
-        assert_eq!(rt; err.bytes(), line.as_bytes());
-        assert_eq!(rt; place.created, PARTS);
-        assert_eq!(rt; place.finished, finished);
+    for row in ROWS.iter() {
+        see_parts(&rt, rt.alloc(), *row)?;
     }
     Ok(())
 }

@@ -1,6 +1,6 @@
 //! Each call of each command fails in turn, keeping nothing or ten bytes.
-use crate::runs::{BOTH, FIRST, Fault, Run, run_once};
-use crate::state_after::{Command, Left, is_left, leaves_same};
+use crate::faults::runs::{BOTH, FIRST, Fault, Run, run_once};
+use crate::faults::state_after::{Command, Left, is_left, leaves_same};
 use jfr_outside::Call;
 use std::alloc::Global;
 use std::process::Abort;
@@ -119,6 +119,26 @@ fn closes_output(fault: Fault) -> bool {
     }
 }
 
+// Compares the status and the line of a run.
+fn see_answer(rt: &impl Abort, run: &Run, (status, line): (u8, &str)) {
+    assert_eq!(rt; run.status, status);
+    assert_eq!(rt; run.err.bytes(), line.as_bytes());
+}
+
+// Compares what a run left.
+fn see_left(
+    rt: &impl Abort,
+    alloc: Global,
+    command: &Command,
+    run: &Run,
+    left: Left,
+    keep: usize,
+) -> Result<(), Fail> {
+    let holds = is_left(alloc, command, run, left, keep)?;
+    assert!(rt; holds);
+    Ok(())
+}
+
 // A run in which a call fails: its status, its line, and what is left.
 fn see_fault(
     rt: &impl Abort,
@@ -129,11 +149,8 @@ fn see_fault(
     keep: usize,
 ) -> Result<Run, Fail> {
     let mut run = run_once(alloc, command.words, 2, fault, keep)?;
-    let (status, line) = answer_to(fault);
-    assert_eq!(rt; run.status, status);
-    assert_eq!(rt; run.err.bytes(), line.as_bytes());
-    let holds = is_left(alloc, command, &run, left, keep)?;
-    assert!(rt; holds);
+    see_answer(rt, &run, answer_to(fault));
+    see_left(rt, alloc, command, &run, left, keep)?;
     let open = run.has_file() && !closes_output(fault);
     assert_eq!(rt; run.has_open_output(), open);
     Ok(run)
@@ -142,8 +159,7 @@ fn see_fault(
 // A run that makes fewer calls than the one that were to fail: it is done.
 fn see_whole(rt: &impl Abort, alloc: Global, command: &Command, fault: Fault) -> Result<(), Fail> {
     let run = run_once(alloc, command.words, 2, fault, 0)?;
-    assert_eq!(rt; run.status, 0);
-    assert!(rt; run.err.bytes().is_empty());
+    see_answer(rt, &run, (0, ""));
     let whole = run_once(alloc, command.words, 2, Fault::Never, 0)?;
     assert!(rt; leaves_same(&run, &whole));
     Ok(())

@@ -1,5 +1,5 @@
 //! Recordings that end anywhere in their first chunk.
-use crate::scrub::see_scrub;
+use crate::faults::scrub::see_scrub;
 use jfr_fixtures::{JDK_LIKE, PLAIN};
 use std::alloc::Global;
 use std::process::Abort;

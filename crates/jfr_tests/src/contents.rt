@@ -1,0 +1,88 @@
+//! What files have, as constants.
+use jfr_fixtures::{
+    CLASSES, JDK_LIKE, NO_CLASSES, NO_POOLS, PLAIN, RINGS, UNKNOWN, chunk_of, jdk_unnamed,
+};
+use std::alloc::{AllocError, Global};
+
+/// A part of a file.
+#[derive(Clone, Copy)]
+pub(crate) enum Part {
+    /// These bytes.
+    Bytes(&'static [u8]),
+    /// The plain chunk.
+    Plain,
+    /// The first bytes of the plain chunk.
+    Start(usize),
+    /// A chunk of these records, by the places of its last checkpoint and of its metadata record.
+    Chunk(&'static [&'static [u8]], u64, u64),
+    /// The chunk that is like the JDK's.
+    JdkLike,
+    /// This chunk with another first checkpoint, by the places of its last checkpoint and of its metadata record.
+    JdkAfter(&'static [u8], u64, u64),
+    /// This chunk, where the later thread of key 2 has a Java name of this kind.
+    JdkUnnamed(u8),
+}
+
+/// The chunk of rings.
+pub(crate) const OF_RINGS: Part = Part::Chunk(&[CLASSES, RINGS], 333, 68);
+
+/// The plain chunk with inert records: a metadata record and a checkpoint that aren't at the positions in the header,
+/// and between these and those that are, a record whose type is no class.
+pub(crate) const INERT: Part = Part::Chunk(
+    &[NO_CLASSES, NO_POOLS, UNKNOWN, NO_CLASSES, NO_POOLS],
+    134,
+    106,
+);
+
+/// Parts, one after another, and the places of bytes that are changed then, with what they become.
+pub(crate) type Content = (&'static [Part], &'static [(usize, u8)]);
+
+/// No bytes.
+pub(crate) const EMPTY: Content = (&[], &[]);
+
+/// The plain chunk, once, twice, and three times.
+pub(crate) const ONE_PLAIN: Content = (&[Part::Plain], &[]);
+
+pub(crate) const TWO_PLAIN: Content = (&[Part::Plain, Part::Plain], &[]);
+
+pub(crate) const THREE_PLAIN: Content = (&[Part::Plain, Part::Plain, Part::Plain], &[]);
+
+// The bytes of a part.
+fn part_bytes(alloc: Global, part: Part) -> Result<Vec<u8>, AllocError> {
+    match part {
+        Part::Bytes(bytes) => Vec::from_slice(alloc, bytes),
+        Part::Plain => Vec::from_slice(alloc, &PLAIN),
+        Part::Start(size) => Vec::from_slice(alloc, &PLAIN[..size.min(103)]),
+        Part::Chunk(records, last, metadata) => chunk_of(alloc, records, last, metadata),
+        Part::JdkLike => Vec::from_slice(alloc, &JDK_LIKE),
+        Part::JdkAfter(first, last, metadata) => {
+            chunk_of(alloc, &[first, &JDK_LIKE[145..]], last, metadata)
+        }
+        Part::JdkUnnamed(kind) => jdk_unnamed(alloc, kind),
+    }
+}
+
+// Adds parts.
+fn push_parts(bytes: &mut Vec<u8>, alloc: Global, parts: &[Part]) -> Result<(), AllocError> {
+    for part in parts {
+        bytes.extend_from_slice(&part_bytes(alloc, *part)?)?;
+    }
+    Ok(())
+}
+
+// Changes bytes.
+fn change(bytes: &mut [u8], changes: &[(usize, u8)]) {
+    for (at, byte) in changes {
+        if let Some(there) = bytes.get_mut(*at) {
+            *there = *byte;
+        }
+    }
+}
+
+/// The bytes of a content.
+pub(crate) fn bytes_of(alloc: Global, (parts, changes): Content) -> Result<Vec<u8>, AllocError> {
+    let mut bytes = Vec::new(alloc);
+    push_parts(&mut bytes, alloc, parts)?;
+    change(&mut bytes, changes);
+    Ok(bytes)
+}
