@@ -5,20 +5,13 @@
 //! written.
 #![tactic(auto)]
 
-mod counts;
-mod file_place;
-mod stream_sink;
-#[cfg(test)]
-mod tests;
-
-use file_place::FilePlace;
 use jfr_cli::{NO_MEMORY, run};
 use jfr_outside::Words;
+use jfr_system::{FilePlace, StreamSink};
 use std::alloc::{AllocGlobal, Global};
 use std::env::Env;
 use std::process::ExitCode;
 use std::{env, io};
-use stream_sink::StreamSink;
 
 // The words after the program's name.
 fn words_of<R: Env + AllocGlobal>(rt: &R, alloc: Global) -> io::Result<Words> {

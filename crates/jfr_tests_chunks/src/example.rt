@@ -15,7 +15,7 @@ use std::process::Abort;
 use std::test::Fail;
 
 // The program, from a recording to the names of its threads. It can be copied as a start: `thread_names` reads the
-// recording from any place, here from one in memory (`jfr/src/file_place.rt` is one over files), and each function
+// recording from any place, here from one in memory (jfr_system has one over files), and each function
 // calls the ones after it.
 
 // The Java names of the threads of a recording's events, in order. The recording is the place's open input.

@@ -1,4 +1,4 @@
-//! Tests of places and sinks, of how a recording is cut, and of the loop over its chunks, as tables.
+//! Tests of places and sinks, also of real files, of how a recording is cut, and of the loop over its chunks, as tables.
 #![tactic(auto)]
 
 #[cfg(test)]
@@ -9,3 +9,5 @@ mod outside;
 mod places;
 #[cfg(test)]
 mod plan;
+#[cfg(test)]
+mod real_files;

@@ -139,8 +139,9 @@ static OTHERS: [Line; 6] = [
 
 // Other lines that are no orders.
 #[rattlefmt::skip]
-static NO_OTHERS: [&[&str]; 17] = [
+static NO_OTHERS: [&[&str]; 18] = [
     &[],
+    &[""],
     &["", ""],
     &["frobnicate", "x"],
     &["disassemble", "--output", "", "a"],

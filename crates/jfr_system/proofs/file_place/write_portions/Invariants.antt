@@ -1,7 +1,7 @@
 use Rattle.std.specs.Prelude.{◌≡◌, ◌++◌}
 use Rattle.std.specs.Io.KnownBytes.{Appends}
 use Rattle.jfr_outside.specs.World.{bytes_in}
-use Rattle.jfr.proofs.file_place.write_portions.Given as goal
+use Rattle.jfr_system.proofs.file_place.write_portions.Given as goal
 
 abbrev pub invariant-loop-portion : goal.invariant-loop-portion
 invariant-loop-portion g l = record {

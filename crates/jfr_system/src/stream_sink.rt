@@ -3,7 +3,7 @@
 ghost use Rattle.std.specs.Prelude.{◌≡◌, OnOk};
 ghost use Rattle.std.specs.Io.KnownBytes.{Appends};
 ghost use Rattle.jfr_outside.specs.Counts.{Counts};
-ghost use Rattle.jfr.specs.Edges.{unseen};
+ghost use Rattle.jfr_system.specs.Edges.{unseen};
 
 use crate::counts::failed;
 use jfr_outside::{Fault, Sink};

@@ -1,6 +1,6 @@
 use Rattle.std.proofs.Common.{refl}
-use Rattle.jfr.proofs.Untold.{untold_leaves, untold_prefix, nothing_on_ok, nothing_if_ok}
-use Rattle.jfr.proofs.file_place.FilePlacePlace.TheImpl.Goals as goal
+use Rattle.jfr_system.proofs.Untold.{untold_leaves, untold_prefix, nothing_on_ok, nothing_if_ok}
+use Rattle.jfr_system.proofs.file_place.FilePlacePlace.TheImpl.Goals as goal
 
 pub open_input-tells : goal.open_input-tells
 open_input-tells g c = record { contents = untold_leaves c.result _ _; there = nothing_on_ok c.result; reads = c.ensures.reads; writes = c.ensures.writes; same = refl; steady = λ _ _. tt }

@@ -1,8 +1,8 @@
 use Rattle.std.specs.Io.KnownBytes.{Appends}
 use Rattle.std.proofs.Common.{ap, subst, ◌∙◌}
 use Rattle.std.proofs.KnownBytes.{Appends-nil}
-use Rattle.jfr.proofs.Pieces.{left_less, none_left, wrote_more}
-use Rattle.jfr.proofs.file_place.write_portions.Goals as goal
+use Rattle.jfr_system.proofs.Pieces.{left_less, none_left, wrote_more}
+use Rattle.jfr_system.proofs.file_place.write_portions.Goals as goal
 
 pub loop-portion-init : goal.loop-portion-init
 loop-portion-init g c = record { wrote = Appends-nil (g.W.Write.contents c.args.writer.now); left = ap (λ i. i.rest.now) c.into_iter-portion-iterator.ensures.into_iter_gives ∙ c.chunks-portion-items.ensures.rest }

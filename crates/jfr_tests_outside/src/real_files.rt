@@ -1,6 +1,6 @@
 //! Tests of real files, for what no clause can say about them.
-use crate::file_place::FilePlace;
 use jfr_outside::{Fault, Place};
+use jfr_system::FilePlace;
 use std::alloc::Global;
 use std::process::Abort;
 use std::test::Fail;
@@ -37,6 +37,49 @@ fn no_names<P: Place>(rt: &impl Abort, place: &mut P, alloc: Global) {
     }
 }
 
+// Compares what calls say when there is no file and nothing is open.
+fn see_nothing<P: Place>(rt: &impl Abort, place: &mut P) {
+    assert!(rt; place.open_input(NAME).is_err());
+    assert!(rt; place.append(b"a").is_err());
+}
+
+// Writes the file.
+fn write_file<P: Place>(rt: &impl Abort, place: &mut P, large: &[u8]) {
+    assert!(rt; place.create_output(NAME).is_ok());
+    assert!(rt; place.append(b"ab").is_ok());
+    assert!(rt;
+        place
+            .append_pieces(&[b"cd".as_slice(), large, b"".as_slice(), b"e".as_slice()])
+            .is_ok()
+    );
+    assert!(rt; place.append(b"f").is_ok());
+    assert!(rt; place.finish_output().is_ok());
+}
+
+// Compares what calls say when the output is finished, and the file is there.
+fn see_finished<P: Place>(rt: &impl Abort, place: &mut P) {
+    assert!(rt; place.append_pieces(&[b"g".as_slice()]).is_err());
+    assert!(rt; place.create_output(NAME).is_err());
+}
+
+// Reads the start of the file.
+fn read_start<P: Place>(rt: &impl Abort, place: &mut P) {
+    let mut front = [0; 5];
+    assert!(rt; place.open_input(NAME).is_ok());
+    assert!(rt; place.read(&mut front) == Ok(5));
+    assert_eq!(rt; front, *b"abcd\x07");
+    place.shut_input();
+    assert!(rt; place.read(&mut front).is_err());
+}
+
+// Writes the file, and reads its start.
+fn write_and_read<P: Place>(rt: &impl Abort, place: &mut P, large: &[u8]) {
+    see_nothing(rt, place);
+    write_file(rt, place, large);
+    see_finished(rt, place);
+    read_start(rt, place);
+}
+
 #[test]
 fn what_is_written_is_read_back(rt: HostRuntime) -> Result<(), Fail> {
     let alloc = rt.alloc();
@@ -44,28 +87,8 @@ fn what_is_written_is_read_back(rt: HostRuntime) -> Result<(), Fail> {
     let _ = fs::remove_file(&rt, NAME);
     // More bytes than one call writes.
     let large = vec![in alloc; 7u8; 1_100_000]?;
-    let mut place = FilePlace::new(&rt, alloc);
-    assert!(rt; place.open_input(NAME).is_err());
-    assert!(rt; place.append(b"a").is_err());
-    assert!(rt; place.create_output(NAME).is_ok());
-    assert!(rt; place.append(b"ab").is_ok());
-    assert!(rt;
-        place
-            .append_pieces(&[b"cd".as_slice(), &large, b"".as_slice(), b"e".as_slice()])
-            .is_ok()
-    );
-    assert!(rt; place.append(b"f").is_ok());
-    assert!(rt; place.finish_output().is_ok());
-    assert!(rt; place.append_pieces(&[b"g".as_slice()]).is_err());
-    assert!(rt; place.create_output(NAME).is_err());
+    write_and_read(&rt, &mut FilePlace::new(&rt, alloc), &large);
     assert_eq!(rt; fs::metadata(&rt, NAME)?.len(), 1_100_006);
-
-    let mut front = [0; 5];
-    assert!(rt; place.open_input(NAME).is_ok());
-    assert!(rt; place.read(&mut front) == Ok(5));
-    assert_eq!(rt; front, *b"abcd\x07");
-    place.shut_input();
-    assert!(rt; place.read(&mut front).is_err());
     fs::remove_file(&rt, NAME)?;
     Ok(())
 }

@@ -1,6 +1,6 @@
 use Rattle.std.proofs.KnownBytes.{Appends-nil}
-use Rattle.jfr.proofs.Pieces.{wrote_next}
-use Rattle.jfr.proofs.file_place.write_each.Goals as goal
+use Rattle.jfr_system.proofs.Pieces.{wrote_next}
+use Rattle.jfr_system.proofs.file_place.write_each.Goals as goal
 
 pub loop-piece-init : goal.loop-piece-init
 loop-piece-init g c = Appends-nil (g.W.Write.contents c.args.writer.now)

@@ -4,7 +4,7 @@ ghost use Rattle.std.specs.Prelude.{◌≡◌, ◌≤◌, length, IfOk, IsSome, 
 ghost use Rattle.std.specs.Io.KnownBytes.{Appends};
 ghost use Rattle.jfr_outside.specs.Counts.{Counts};
 ghost use Rattle.jfr_outside.specs.World.{bytes_in};
-ghost use Rattle.jfr.specs.Edges.{untold, Grew, Took};
+ghost use Rattle.jfr_system.specs.Edges.{untold, Grew, Took};
 
 use crate::counts::failed;
 use jfr_outside::{Fault, Place, Words};
