@@ -10,7 +10,7 @@ use std::alloc::Global;
 use std::process::Abort;
 use std::test::Fail;
 
-// Copies the next four bytes of the input to the output, or as many as there are.
+// Copies the next four bytes of the input to the output, or fewer at its end.
 fn copy_whole<P: Place>(place: &mut P) -> Result<(), Fault> {
     let mut bytes = [0; 4];
     let count = place.read(&mut bytes)?;

@@ -51,7 +51,7 @@ fn copy<P: Place>(alloc: Global, place: &mut P, strict: bool) -> Ending {
     make_stream(alloc, place, Copying { strict }, "a", "b")
 }
 
-// Adds as many plain chunks, and the first bytes of another one.
+// Adds this number of plain chunks, and the first `more` bytes of another one.
 fn push_chunks(bytes: &mut Vec<u8>, chunks: usize, more: usize) -> Result<(), AllocError> {
     for _ in 0..chunks {
         bytes.extend_from_slice(&PLAIN)?;
@@ -93,7 +93,7 @@ static ROWS: [Row; 13] = [
     Row { chunks: 2, more: 0, size: 999, script: Some((Call::Finish, 1, 0)), answer: Ending::WriteFault, copied: Some(206) },
 ];
 
-// Compares what b has: as many of these bytes, if it exists.
+// The file b has the first `copied` of these bytes, or doesn't exist.
 fn see_output(rt: &impl Abort, place: &MemoryPlace, bytes: &[u8], copied: Option<usize>) {
     match copied {
         Some(count) => {

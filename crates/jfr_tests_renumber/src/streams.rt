@@ -88,7 +88,7 @@ fn renumber(alloc: Global, place: &mut MemoryPlace) -> Ending {
     renumber_stream(alloc, place, "in", "out", &filter)
 }
 
-// Compares what the output has: as many of the expected bytes, if it exists.
+// The output has the first `written` of the expected bytes, or doesn't exist.
 fn compare_output(rt: &impl Abort, place: &MemoryPlace, expected: &[u8], written: Option<usize>) {
     match written {
         Some(count) => {

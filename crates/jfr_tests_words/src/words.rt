@@ -297,7 +297,7 @@ fn is_asked(order: &Order, asked: &Asked) -> bool {
     is_asked_print(order, asked) || is_asked_scrub(order, asked) || is_asked_other(order, asked)
 }
 
-// Whether what was read is what a line asks for.
+// Whether a line was read as the order that it asks for.
 fn is_read(read: Result<Order, WordsFault>, asked: &Asked) -> bool {
     match read {
         Ok(order) => is_asked(&order, asked),
