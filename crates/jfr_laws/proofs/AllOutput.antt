@@ -10,9 +10,9 @@ use Rattle.jfr_frame.specs.Records.{IsRecord, Tiles, Rising, record_bytes}
 use Rattle.jfr_frame.proofs.RecordLaws.{record_one, some_bytes, rising_of}
 use Rattle.jfr_pool.specs.declared.link.Link.{Link}
 use Rattle.jfr_pool.specs.declared.entry.EntryAt.{EntryAt}
+use Rattle.jfr_meta.specs.Body.{Body}
 use Rattle.jfr_chunk.specs.Parts.{Parts, EventAt, events_of, event_records, AreParts, metadata_at}
 use Rattle.jfr_chunk.specs.Scrub.{OutputRecord, Whole, Chained, Rebuilt, Written, output_record_by, is_kept_or_metadata, output_records, written_anew, written_bytes, written, record_of, moved}
-use Rattle.jfr_chunk.specs.Metas.{rebuilt}
 use Rattle.jfr_laws.proofs.ReadBack.{moved_frame}
 use Rattle.jfr_laws.proofs.Suits.{Suits}
 use Rattle.jfr_laws.proofs.Quiet.{no_metadata_event}
@@ -182,33 +182,33 @@ event_kept p a f i t =
     let e = map_in (λ (e : EventAt). e.record_of) (events_of p) f (subst (λ z. In z f) (sym (event_records_of p a)) j) in
     in_any (λ (e : EventAt). e.record_of.at == f.at) (events_of p) e.0 e.1 (is_eq e.0.record_of.at f.at (ap (λ (z : Framed). z.at) e.2))
 
-module _ (p : Parts) (a : AreParts p) (kept : List EventAt) (are : AreEvents p kept) (good : GoodAnew p.bytes (written_anew p kept)) (marks : List Bool) (b : List ℕ) (s : Leading p kept marks b)
-    (m : Classes) (suits : Suits p kept m) (holds : AllByRecursion (IsOutputRecordIn p.bytes (remaining_of p marks) m) (output_records p kept)) (reads : MetadataReads p kept a m) (small : length b < 2 ^ 63) where
+module _ (new : Option (List ℕ)) (p : Parts) (a : AreParts p) (kept : List EventAt) (are : AreEvents p kept) (good : GoodAnew p.bytes (written_anew new p)) (marks : List Bool) (b : List ℕ) (s : Leading new p kept marks b)
+    (m : Classes) (suits : Suits p kept m) (holds : AllByRecursion (IsOutputRecordIn p.bytes (remaining_of p marks) m) (output_records new p kept)) (held : Body) (reads : MetadataReads new p a held m) (small : length b < 2 ^ 63) where
   abbrev q : Parts
-  q = new_parts p a kept are good marks b s m suits holds reads
+  q = new_parts new p a kept are good marks b s m suits holds held reads
 
   abbrev valid : AreParts q
-  valid = parts_are_valid p a kept are good marks b s m suits holds reads small
+  valid = parts_are_valid new p a kept are good marks b s m suits holds held reads small
 
   abbrev remaining : List EntryAt
   remaining = remaining_of p marks
 
   abbrev ws : List Written
-  ws = written_of p kept marks
+  ws = written_of new p kept marks
 
   abbrev output_records_there : Framed → Bool
   output_records_there f = is_kept_or_metadata q (events_of q) f
 
   abbrev new_there : Framed → Option (List ℕ)
-  new_there f = written_anew q (events_of q) f
+  new_there f = written_anew new q f
 
   rising : Rising 68 (map (λ w. record_of w.output_record) ws)
   rising =
-      subst (Rising 68) (sym (written_records p.bytes remaining b (output_records p kept) 68 None))
-      (output_records_rise (all_links p) (is_kept_or_metadata p kept) (written_anew p kept) 68 p.records (rising_of p.bytes 68 68 (length p.bytes) p.records (omega arith) a.records))
+      subst (Rising 68) (sym (written_records p.bytes remaining b (output_records new p kept) 68 None))
+      (output_records_rise (all_links p) (is_kept_or_metadata p kept) (written_anew new p) 68 p.records (rising_of p.bytes 68 68 (length p.bytes) p.records (omega arith) a.records))
 
   -- Where the metadata record becomes in what is written what it became in it.
-  module _ (settles : new_there valid.metadata_record ≡ metadata_new p kept a) where
+  module _ (settles : new_there valid.metadata_record ≡ metadata_new new p a) where
     -- A record of the output at the offset of its metadata record is the metadata record.
     pub is_metadata : (f : Framed) → IsRecord b f → f.at ≡ metadata_at b → f ≡ valid.metadata_record
     is_metadata f i e = record_one b f valid.metadata_record i (all_in (IsRecord b) q.records valid.metadata_record (recorded q valid) (contains_in q.records valid.metadata_record valid.metadata_there.listed)) (e ∙ sym valid.metadata_there.place)
@@ -237,10 +237,10 @@ module _ (p : Parts) (a : AreParts p) (kept : List EventAt) (are : AreEvents p k
         metadata_place : (r : Framed) → (record_of w.output_record).at ≡ r.at → r.at ≡ metadata_at p.bytes → f.at ≡ metadata_at b
         metadata_place r g h = written_at w.output_record ∙ (sym (moved_there ws 68 w rising i) ∙ (ap (moved ws) (g ∙ h) ∙ sym s.metadata))
 
-        at_metadata : (r : Framed) → IsRecord p.bytes r → (record_of w.output_record).at ≡ r.at → r.at ≡ metadata_at p.bytes → (o : Option (List ℕ)) → written_anew p kept r ≡ o → (output_records_there f ≡ true) × (new_there f ≡ o)
+        at_metadata : (r : Framed) → IsRecord p.bytes r → (record_of w.output_record).at ≡ r.at → r.at ≡ metadata_at p.bytes → (o : Option (List ℕ)) → written_anew new p r ≡ o → (output_records_there f ≡ true) × (new_there f ≡ o)
         at_metadata r i g h o z =
             let k = metadata_place r g h in
-            let n : new_there f ≡ o = ap new_there (is_metadata f stands_there k) ∙ (settles ∙ (ap (written_anew p kept) (sym (of_metadata r i h)) ∙ z)) in
+            let n : new_there f ≡ o = ap new_there (is_metadata f stands_there k) ∙ (settles ∙ (ap (written_anew new p) (sym (of_metadata r i h)) ∙ z)) in
             (or_right (is_kept (events_of q) f) (f.at == metadata_at b) (is_eq f.at (metadata_at b) k), n)
 
         not_metadata : is_event_class m f.type_id ≡ true → (t : Bool) → (f.at == metadata_at b) ≡ t → new_there f ≡ None
@@ -250,9 +250,9 @@ module _ (p : Parts) (a : AreParts p) (kept : List EventAt) (are : AreEvents p k
             let u : is_event_class m f.type_id ≡ false = ap (is_event_class m) z ∙ no_metadata_event m in
             let x : true ≡ false = sym e ∙ u in
             cc
-        not_metadata e false y = ap (λ t. if t then rebuilt q (events_of q) f.size else None) y
+        not_metadata e false y = ap (λ t. if t then new else None) y
 
-        by_cause : (r : Framed) → w.output_record ≡ Whole r → In p.records r → (u v : Bool) → is_kept kept r ≡ u → (r.at == metadata_at p.bytes) ≡ v → (u || v) ≡ true → written_anew p kept r ≡ None → (output_records_there f ≡ true) × (new_there f ≡ None)
+        by_cause : (r : Framed) → w.output_record ≡ Whole r → In p.records r → (u v : Bool) → is_kept kept r ≡ u → (r.at == metadata_at p.bytes) ≡ v → (u || v) ≡ true → written_anew new p r ≡ None → (output_records_there f ≡ true) × (new_there f ≡ None)
         by_cause r e o true v x y z n =
             let t : is_event_class m f.type_id ≡ true = ap (λ z. is_event_class m (frame_by z w.at (length (written_bytes p.bytes remaining w))).type_id) e ∙ (kept_is_event p a kept are m suits r o x).0 in
             let u : is_kept (events_of q) f ≡ true = event_kept q valid f listed t in
@@ -265,16 +265,16 @@ module _ (p : Parts) (a : AreParts p) (kept : List EventAt) (are : AreEvents p k
         by_output_record : (t : OutputRecord) → w.output_record ≡ t → Stays p.bytes remaining b (all_links q) output_records_there new_there t f
         by_output_record (Chained j l) e = tt
         by_output_record (Whole r) e =
-            let x = whole_output_records (all_links p) (is_kept_or_metadata p kept) (written_anew p kept) p.records r (subst (In (output_records p kept)) e (in_written p.bytes remaining b (output_records p kept) 68 None w i)) in
+            let x = whole_output_records (all_links p) (is_kept_or_metadata p kept) (written_anew new p) p.records r (subst (In (output_records new p kept)) e (in_written p.bytes remaining b (output_records new p kept) 68 None w i)) in
             by_cause r e x.0 (is_kept kept r) (r.at == metadata_at p.bytes) refl refl x.1 x.2
         by_output_record (Rebuilt r y) e =
-            let x = anew_output_records (all_links p) (is_kept_or_metadata p kept) (written_anew p kept) p.records r y (subst (In (output_records p kept)) e (in_written p.bytes remaining b (output_records p kept) 68 None w i)) in
-            let t = anew_only p kept r y x.1 in
+            let x = anew_output_records (all_links p) (is_kept_or_metadata p kept) (written_anew new p) p.records r y (subst (In (output_records new p kept)) e (in_written p.bytes remaining b (output_records new p kept) 68 None w i)) in
+            let t = anew_only new p r y x.1 in
             let h : r.at ≡ metadata_at p.bytes = grind (arith, nat_tests) in
             at_metadata r (all_in (IsRecord p.bytes) p.records r (recorded p a) x.0) (ap (λ z. (record_of z).at) e) h (Some y) x.1
 
     -- So all of it stays.
-    pub output_records_settled : output_records q (events_of q) ≡ new_output_records p.bytes remaining 0 68 None (output_records p kept)
+    pub output_records_settled : output_records new q (events_of q) ≡ new_output_records p.bytes remaining 0 68 None (output_records new p kept)
     output_records_settled =
-        output_records_again p.bytes remaining b (all_links q) output_records_there new_there (output_records p kept) 0 68 None [] (length b) valid.records (ap (enumerate_from 0) (reverse-reverse (links p kept marks))) tt
+        output_records_again p.bytes remaining b (all_links q) output_records_there new_there (output_records new p kept) 0 68 None [] (length b) valid.records (ap (enumerate_from 0) (reverse-reverse (links new p kept marks))) tt
         (all_each (OutputRecordsWhole p.bytes remaining b (all_links q) output_records_there new_there) ws whole_again)
