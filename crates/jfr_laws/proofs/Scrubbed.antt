@@ -45,14 +45,14 @@ module _ (names : Names) (p : Parts) (a : AreParts p) (flags : List Bool) where
   abbrev marks : List Bool
   marks = reached_marks p kept
 
-  abbrev new : Option (List ℕ)
-  new = new_metadata names p kept
+  abbrev slim : Option (List ℕ)
+  slim = new_metadata names p kept
 
-  out_is : out new p kept marks ≡ scrub_of names p kept
+  out_is : out slim p kept marks ≡ scrub_of names p kept
   unfolding scrub_with remain
   out_is = refl
 
-  good : GoodAnew p.bytes (written_anew new p)
+  good : GoodAnew p.bytes (written_anew slim p)
   good = good_anew names p a kept
 
   -- The classes that are left, and that they suit.
@@ -63,43 +63,43 @@ module _ (names : Names) (p : Parts) (a : AreParts p) (flags : List Bool) where
   m = n.classes
 
   abbrev held : Body
-  held = shown_body names p kept new
+  held = shown_body names p kept slim
 
-  holds : AllByRecursion (IsOutputRecordIn p.bytes (remaining_of p marks) m) (output_records new p kept)
+  holds : AllByRecursion (IsOutputRecordIn p.bytes (remaining_of p marks) m) (output_records slim p kept)
   holds =
-      records_too p.bytes p.classes m (remaining_of p marks) (left_agree p m (has_nodes p a) kept n.suits (event_of_chunk p a kept are) marks (marks_reached p a flags)) (output_records new p kept) (is_ready new p kept marks a good).valid
+      records_too p.bytes p.classes m (remaining_of p marks) (left_agree p m (has_nodes p a) kept n.suits (event_of_chunk p a kept are) marks (marks_reached p a flags)) (output_records slim p kept) (is_ready slim p kept marks a good).valid
 
   -- The output after a header that leads to it.
-  module _ (b : List ℕ) (s : Leading new p kept marks b) (small : length b < 2 ^ 63) where
+  module _ (b : List ℕ) (s : Leading slim p kept marks b) (small : length b < 2 ^ 63) where
     abbrev parts : Parts
-    parts = new_parts new p a kept are good marks b s m n.suits holds held n.reads
+    parts = new_parts slim p a kept are good marks b s m n.suits holds held n.reads
 
     abbrev valid : AreParts parts
-    valid = parts_are_valid new p a kept are good marks b s m n.suits holds held n.reads small
+    valid = parts_are_valid slim p a kept are good marks b s m n.suits holds held n.reads small
 
-    shown_size : (w : Option (List ℕ)) → (shown_frame p.bytes w a.metadata_record (found new p a kept are good marks b s).place).size ≡ new_size p w
+    shown_size : (w : Option (List ℕ)) → (shown_frame p.bytes w a.metadata_record (found slim p a kept are good marks b s).place).size ≡ new_size p w
     shown_size None = record_length p.bytes a.metadata_record (metadata_stands p a) ∙ sym (size_is p a)
     shown_size (Some x) = refl
 
     copied : AreCopied p parts (marked marks p.entries) parts.entries
-    copied = are_copied p parts (marked marks p.entries) parts.entries (entries_copied new p a kept are good marks b s m n.suits holds held n.reads)
+    copied = are_copied p parts (marked marks p.entries) parts.entries (entries_copied slim p a kept are good marks b s m n.suits holds held n.reads)
 
     -- Its metadata record becomes what it is.
-    new_again : SameRecords p parts kept (events_of parts) → new_metadata names parts (events_of parts) ≡ new
+    new_again : SameRecords p parts kept (events_of parts) → new_metadata names parts (events_of parts) ≡ slim
     new_again events =
-        settles_again names p a kept are n parts valid refl events (same_body new p a kept are good marks b s m n.suits holds held n.reads)
-        (size_is parts valid ∙ (ap (λ (z : Framed). z.size) (metadata_is new p a kept are good marks b s m n.suits holds held n.reads small) ∙ (shown_size (metadata_new new p a) ∙ ap (new_size p) (new_is new p a))))
+        settles_again names p a kept are n parts valid refl events (same_body slim p a kept are good marks b s m n.suits holds held n.reads)
+        (size_is parts valid ∙ (ap (λ (z : Framed). z.size) (metadata_is slim p a kept are good marks b s m n.suits holds held n.reads small) ∙ (shown_size (metadata_new slim p a) ∙ ap (new_size p) (new_is slim p a))))
 
-    same_again : SameRecords p parts kept (events_of parts) → ((number : ℕ) → number < length parts.entries → Reached parts (events_of parts) number) → b ≡ out new p kept marks → scrub_of names parts (events_of parts) ≡ b
+    same_again : SameRecords p parts kept (events_of parts) → ((number : ℕ) → number < length parts.entries → Reached parts (events_of parts) number) → b ≡ out slim p kept marks → scrub_of names parts (events_of parts) ≡ b
     unfolding scrub_with
     same_again events reached e =
         ap (λ z. assembled parts (remain parts (events_of parts)) (output_records z parts (events_of parts))) (new_again events)
-        ∙ nothing_changes new p a kept are good marks b s m n.suits holds held n.reads small reached (new_is new parts valid ∙ sym (new_is new p a)) e
+        ∙ nothing_changes slim p a kept are good marks b s m n.suits holds held n.reads small reached (new_is slim parts valid ∙ sym (new_is slim p a)) e
 
     parts_kept : b ≡ scrub_of names p kept → fronts.Whole b → length b ≤ length p.bytes → IsKept names p kept
     unfolding remain
     parts_kept e w l =
-        let records = records_copied new p a kept are good marks b s m n.suits holds held n.reads in
+        let records = records_copied slim p a kept are good marks b s m n.suits holds held n.reads in
         let reached = all_reached p parts a valid flags n.suits records copied (copied_length p parts (marked marks p.entries) parts.entries copied) in
         let events = same_events p parts a valid flags n.suits records copied in
         record {
@@ -118,7 +118,7 @@ module _ (names : Names) (p : Parts) (a : AreParts p) (flags : List Bool) where
 
   pub scrubbed_kept : fronts.Whole p.bytes → IsKept names p kept
   scrubbed_kept whole =
-      let b : List ℕ = out new p kept marks in
-      let shorter : length b ≤ length p.bytes = out_shorter new p kept marks a good in
+      let b : List ℕ = out slim p kept marks in
+      let shorter : length b ≤ length p.bytes = out_shorter slim p kept marks a good in
       let small = whole_small p.bytes whole in
-      parts_kept b (out_leading new p kept marks a good whole) (omega arith) out_is (out_whole new p kept marks a good whole) shorter
+      parts_kept b (out_leading slim p kept marks a good whole) (omega arith) out_is (out_whole slim p kept marks a good whole) shorter

@@ -19,9 +19,9 @@ whole_or (Some x) r = Rebuilt r x
 
 -- The code's `OutputRecord`, as an output record, given the new metadata record, if there is one.
 abbrev pub output_record_as : Option (List ℕ) → contents.OutputRecord → OutputRecord
-output_record_as new (declared_records.Event number r) = Whole r
-output_record_as new (declared_records.Metadata r) = whole_or new r
-output_record_as new (declared_records.Chained number l) = Chained number l
+output_record_as slim (declared_records.Event number r) = Whole r
+output_record_as slim (declared_records.Metadata r) = whole_or slim r
+output_record_as slim (declared_records.Chained number l) = Chained number l
 
 -- The code's `OutputRecord` is `Metadata` exactly if its record starts at this offset.
 abbrev pub ShowsMetadata : ℕ → contents.OutputRecord → Type 0
@@ -30,9 +30,9 @@ ShowsMetadata place (declared_records.Metadata r) = (r.at == place) ≡ true
 ShowsMetadata place (declared_records.Chained number l) = (l.frame.at == place) ≡ false
 
 -- This is the new metadata record if these events are kept, for some set of names.
-pub record IsNewMetadata (p : Parts) (kept : List EventAt) (new : Option (List ℕ)) : Type 0 where
+pub record IsNewMetadata (p : Parts) (kept : List EventAt) (slim : Option (List ℕ)) : Type 0 where
   pub names : Names
-  pub is : new ≡ new_metadata names p kept
+  pub is : slim ≡ new_metadata names p kept
 
 -- The events of some of the records.
 abbrev pub events_from : Parts → List Framed → List EventAt
@@ -75,7 +75,7 @@ pub record IsCursor (p : Parts) (flags : List Bool) (c : Cursor) : Type 0 where
 
 -- The output records for the records from the cursor's on, given the new metadata record, if there is one.
 abbrev pub remaining_output_records : Option (List ℕ) → Parts → List Bool → Cursor → List OutputRecord
-remaining_output_records new p flags c = filter_map (output_record_of new p (kept_by p flags)) (drop c.frame p.records)
+remaining_output_records slim p flags c = filter_map (output_record_of slim p (kept_by p flags)) (drop c.frame p.records)
 
 -- Whether the event with this number starts at this offset and is kept.
 abbrev pub is_kept_at : List EventAt → List Bool → ℕ → ℕ → Bool

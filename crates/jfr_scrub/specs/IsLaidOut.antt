@@ -11,13 +11,13 @@ use Rattle.jfr_scrub.specs.Pieces.{EntryIsCopied, EventIsCopied, IsHeaded, Piece
 -- metadata record that is built anew are made, in the order of `kinds`. Each kept event, each entry that
 -- remains, and a metadata record that isn't built anew is in one copied piece. The counts are those of the
 -- kept events and of the entries that remain.
-pub record IsLaidOut (new : Option (List ℕ)) (p : Parts) (kept : List EventAt) (laid : PieceList) (event_count entry_count : ℕ) : Type 0 where
-  pub becomes : joined laid ≡ scrub_with new p kept
+pub record IsLaidOut (slim : Option (List ℕ)) (p : Parts) (kept : List EventAt) (laid : PieceList) (event_count entry_count : ℕ) : Type 0 where
+  pub becomes : joined laid ≡ scrub_with slim p kept
   pub of_chunk : laid.chunk ≡ p.bytes
   pub made : IsHeaded laid
-  pub kinds : made_parts laid.pieces ≡ all_made new p kept
+  pub kinds : made_parts laid.pieces ≡ all_made slim p kept
   pub events_copied : AllByRecursion (EventIsCopied laid.pieces) kept
   pub entries_copied : AllByRecursion (EntryIsCopied laid.pieces) (remain p kept)
-  pub metadata_copied : new ≡ None → MetadataIsCopied laid.pieces p
+  pub metadata_copied : slim ≡ None → MetadataIsCopied laid.pieces p
   pub events : event_count ≡ length kept
   pub entries : entry_count ≡ length (remain p kept)

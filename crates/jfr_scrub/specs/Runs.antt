@@ -45,7 +45,7 @@ pub record IsRun (p : Parts) (flags : List Bool) (c d : Cursor) (from to : ℕ) 
   pub tiles : Tiles p.bytes from records to
   pub within : to ≤ length p.bytes
   pub others : AllByRecursion (λ r. (r.at == metadata_at p.bytes) ≡ false) records
-  pub output_records : (new : Option (List ℕ)) → remaining_output_records new p flags c ≡ map (λ r. Whole r) records ++ remaining_output_records new p flags d
+  pub output_records : (slim : Option (List ℕ)) → remaining_output_records slim p flags c ≡ map (λ r. Whole r) records ++ remaining_output_records slim p flags d
 
 -- The cursor has moved past a run.
 pub record Passes (p : Parts) (flags : List Bool) (c d : Cursor) : Type 0 where
