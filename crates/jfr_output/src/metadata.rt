@@ -15,8 +15,9 @@ use jfr_layout::{ClassInfo, Classes};
 use jfr_meta::{Ids, slim, staying};
 use std::alloc::Global;
 
-/// The metadata record without the event classes that neither the kept events need nor the filter describes; `None` if the output keeps
-/// the record of the chunk, since the new one would be longer.
+/// The metadata record without the event classes that the output doesn't describe: those that no kept event
+/// needs, and whose names no pattern of `Side::Describe` matches. `None` if the output keeps the record of the
+/// chunk, since the new one would be longer.
 pub fn slim_metadata(alloc: Global, chunk: &Chunk, kept: &Kept, filter: &Filter) -> Result<Option<Vec<u8>>, NoMemory>
     requires { length kept.now ≡ length (events_of chunk.now) }
     ensures exact { IfOk result (λ found. option_map (λ v. v.items) found ≡ new_metadata (describes filter.now) chunk.now (kept_by chunk.now kept.now)) }
@@ -39,7 +40,7 @@ fn staying_classes(alloc: Global, chunk: &Chunk, kept: &Kept, filter: &Filter) -
     staying(alloc, chunk.metadata(), used.ids())
 }
 
-/// The classes of the kept events, and those that the filter describes.
+/// The classes of the kept events, and those that the filter describes without events.
 fn used_classes(alloc: Global, chunk: &Chunk, kept: &Kept, filter: &Filter) -> Result<UsedClasses, NoMemory>
     requires { length kept.now ≡ length (events_of chunk.now) }
     ensures { IfOk result (λ used. (id : ℕ) → is_in used.ids id ≡ is_used (describes filter.now) chunk.now (kept_by chunk.now kept.now) id) }
@@ -55,7 +56,7 @@ fn used_classes(alloc: Global, chunk: &Chunk, kept: &Kept, filter: &Filter) -> R
     Ok(used)
 }
 
-/// Adds the classes that the filter describes.
+/// Adds the classes that the filter describes, whether or not events of them are kept.
 fn add_described(used: &mut UsedClasses, classes: &Classes, filter: &Filter) -> Result<(), NoMemory>
     ensures { OnOk result ((id : ℕ) → is_in used.new.ids id ≡ (is_in used.old.ids id || is_described (describes filter.now) classes.now id)) }
 {
