@@ -26,4 +26,5 @@ pub mod UsedLaws
 mod FilterRows
 mod ThreadRows
 mod RingRows
+mod WindowRows
 mod Rows

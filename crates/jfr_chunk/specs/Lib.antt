@@ -2,6 +2,7 @@ pub mod Parts
 pub mod Refusal
 pub mod Paths
 pub mod Reach
+pub mod Windows
 pub mod Chosen
 pub mod Written
 pub mod Metas

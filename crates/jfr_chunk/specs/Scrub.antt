@@ -10,7 +10,7 @@ use Rattle.jfr_pool.specs.declared.link.Link.{Link}
 use Rattle.jfr_pool.specs.declared.entry.EntryAt.{EntryAt}
 use Rattle.jfr_chunk.specs.Parts.{Parts, EventAt, metadata_at}
 use Rattle.jfr_chunk.specs.Reach.{remain}
-use Rattle.jfr_chunk.specs.Metas.{rebuilt}
+use Rattle.jfr_chunk.specs.Metas.{Names, new_metadata}
 use Rattle.jfr_chunk.specs.Written.{Group, by_pool, distance, checkpoint_bytes}
 
 -- What is written for a record: all its bytes; for a chained checkpoint, a new one with its remaining
@@ -23,26 +23,26 @@ pub data OutputRecord : Type 0 where
 -- What is written for a record, given its number and link if it is a chained checkpoint, whether it is
 -- written at all, and the bytes to write instead, if any.
 abbrev pub output_record_by : Option (ℕ × Link) → Bool → Option (List ℕ) → Framed → Option OutputRecord
-output_record_by (Some l) other new r = Some (Chained l.0 l.1)
+output_record_by (Some l) other slim r = Some (Chained l.0 l.1)
 output_record_by None true None r = Some (Whole r)
 output_record_by None true (Some x) r = Some (Rebuilt r x)
-output_record_by None false new r = None
+output_record_by None false slim r = None
 
 -- Whether a record is that of a kept event, or the metadata record at the position in the header.
 abbrev pub is_kept_or_metadata : Parts → List EventAt → Framed → Bool
 is_kept_or_metadata p kept r = list_any (λ e. e.record_of.at == r.at) kept || (r.at == metadata_at p.bytes)
 
--- The bytes to write instead of a record: for the metadata record, if it is built anew.
-abbrev pub written_anew : Parts → List EventAt → Framed → Option (List ℕ)
-written_anew p kept r = if r.at == metadata_at p.bytes then rebuilt p kept r.size else None
+-- The bytes to write instead of a record: for the metadata record the new one, if there is one.
+abbrev pub written_anew : Option (List ℕ) → Parts → Framed → Option (List ℕ)
+written_anew slim p r = if r.at == metadata_at p.bytes then slim else None
 
--- What is written for a record, if anything is.
-abbrev pub output_record_of : Parts → List EventAt → Framed → Option OutputRecord
-output_record_of p kept r = output_record_by (find (λ l. l.1.frame.at == r.at) (enumerate_from 0 (reverse p.chain))) (is_kept_or_metadata p kept r) (written_anew p kept r) r
+-- What is written for a record, if anything is, given the new metadata record, if there is one.
+abbrev pub output_record_of : Option (List ℕ) → Parts → List EventAt → Framed → Option OutputRecord
+output_record_of slim p kept r = output_record_by (find (λ l. l.1.frame.at == r.at) (enumerate_from 0 (reverse p.chain))) (is_kept_or_metadata p kept r) (written_anew slim p r) r
 
 -- The output records of a chunk, in order.
-abbrev pub output_records : Parts → List EventAt → List OutputRecord
-output_records p kept = filter_map (output_record_of p kept) p.records
+abbrev pub output_records : Option (List ℕ) → Parts → List EventAt → List OutputRecord
+output_records slim p kept = filter_map (output_record_of slim p kept) p.records
 
 -- An output record with its offset in the output, and the offset there of the chained checkpoint before it,
 -- if there is one.
@@ -104,6 +104,10 @@ assembled p remaining ss =
     let body = flat_map (written_bytes p.bytes remaining) ws in
     header_with p.bytes (68 + length body) (last_at None ws) (moved ws (metadata_at p.bytes)) ++ body
 
--- The output chunk if these events are kept.
-unfoldable pub scrub_of : Parts → List EventAt → List ℕ
-scrub_of p kept = assembled p (remain p kept) (output_records p kept)
+-- The output chunk if these events are kept, given the new metadata record, if there is one.
+unfoldable pub scrub_with : Option (List ℕ) → Parts → List EventAt → List ℕ
+scrub_with slim p kept = assembled p (remain p kept) (output_records slim p kept)
+
+-- The output chunk if these events are kept, and described those classes whose names are in the set.
+abbrev pub scrub_of : Names → Parts → List EventAt → List ℕ
+scrub_of names p kept = scrub_with (new_metadata names p kept) p kept

@@ -1,9 +1,9 @@
-//! A filter: the patterns of six options, and which events they keep.
-ghost use Rattle.std.specs.Prelude.{◌≡◌, ◌↔◌, IsTrue, OnOk, OnErr, IsSome, None, Err};
+//! A filter: the patterns of eight options, and a time window.
+ghost use Rattle.std.specs.Prelude.{◌≡◌, ◌↔◌, IsTrue, OnOk, OnErr, IsSome, Some, None, Err};
 ghost use Rattle.std.specs.Str.{chars};
 ghost use Rattle.jfr_base.specs.Texts.{text_in};
 ghost use Rattle.jfr_filter.specs.declared.side.FilterFault.TheVariants.{EmptyPattern};
-ghost use Rattle.jfr_filter.specs.Filters.{nothing_given, given_at, with_patterns, event_matches, category_matches, allows, allows_class, allows_thread, keeps, some_matches};
+ghost use Rattle.jfr_filter.specs.Filters.{nothing_given, given_at, with_patterns, event_matches, category_matches, allows, allows_class, allows_thread, has_window, keeps, some_matches};
 ghost use Rattle.jfr_filter.specs.Patterns.{patterns_in, has_empty_part};
 
 use crate::list::{has_empty_part, patterns_of};
@@ -13,7 +13,8 @@ use jfr_base::Words;
 use std::alloc::Global;
 use std::marker::Model;
 
-/// Which events are kept. Contracts see a filter as the patterns of each option that is given.
+/// Which events are kept, and which classes are described without events. Contracts see a filter as what each
+/// option says that is given.
 #[derive(Drop)]
 pub struct Filter {
     alloc: Global,
@@ -23,6 +24,10 @@ pub struct Filter {
     exclude_categories: Option<Words>,
     include_threads: Option<Words>,
     exclude_threads: Option<Words>,
+    from: Option<i64>,
+    to: Option<i64>,
+    always: Option<Words>,
+    describe: Option<Words>,
 }
 
 impl Model for Filter {
@@ -30,11 +35,11 @@ impl Model for Filter {
 
     ghost Value = { Given };
 
-    ghost view = { λ f. record { include_events = f.include_events; exclude_events = f.exclude_events; include_categories = f.include_categories; exclude_categories = f.exclude_categories; include_threads = f.include_threads; exclude_threads = f.exclude_threads } };
+    ghost view = { λ f. record { include_events = f.include_events; exclude_events = f.exclude_events; include_categories = f.include_categories; exclude_categories = f.exclude_categories; include_threads = f.include_threads; exclude_threads = f.exclude_threads; from = f.from; to = f.to; always = f.always; describe = f.describe } };
 }
 
 impl Filter {
-    /// The filter without patterns, which keeps every event. It allocates nothing.
+    /// The filter without options, which keeps every event. It allocates nothing.
     pub fn new(alloc: Global) -> Filter
         ensures { result ≡ nothing_given }
     {
@@ -46,6 +51,10 @@ impl Filter {
             exclude_categories: None,
             include_threads: None,
             exclude_threads: None,
+            from: None,
+            to: None,
+            always: None,
+            describe: None,
         }
     }
 
@@ -67,6 +76,8 @@ impl Filter {
             Side::ExcludeCategories => &self.exclude_categories,
             Side::IncludeThreads => &self.include_threads,
             Side::ExcludeThreads => &self.exclude_threads,
+            Side::Always => &self.always,
+            Side::Describe => &self.describe,
         }
     }
 
@@ -90,12 +101,49 @@ impl Filter {
             Side::ExcludeCategories => self.exclude_categories = patterns,
             Side::IncludeThreads => self.include_threads = patterns,
             Side::ExcludeThreads => self.exclude_threads = patterns,
+            Side::Always => self.always = patterns,
+            Side::Describe => self.describe = patterns,
         }
         Ok(())
     }
 
-    /// Whether the event is kept: every given option allows it, by the name and the categories of its class,
-    /// and by its thread text, if it has one. It allocates nothing.
+    /// Begins the time window at this moment, in nanoseconds since 1970 in UTC. It allocates nothing.
+    pub fn set_from(&mut self, nanoseconds: i64)
+        ensures { self.new ≡ record self.old { from = Some nanoseconds } }
+    {
+        self.from = Some(nanoseconds);
+    }
+
+    /// Ends the time window before this moment, in nanoseconds since 1970 in UTC. It allocates nothing.
+    pub fn set_to(&mut self, nanoseconds: i64)
+        ensures { self.new ≡ record self.old { to = Some nanoseconds } }
+    {
+        self.to = Some(nanoseconds);
+    }
+
+    /// The first moment of the time window, if one is given.
+    pub fn from(&self) -> Option<i64>
+        ensures { result ≡ self.now.from }
+    {
+        self.from
+    }
+
+    /// The first moment after the time window, if one is given.
+    pub fn to(&self) -> Option<i64>
+        ensures { result ≡ self.now.to }
+    {
+        self.to
+    }
+
+    /// Whether a time window is given.
+    pub fn has_window(&self) -> bool
+        ensures { result ≡ has_window self.now }
+    {
+        self.from.is_some() || self.to.is_some()
+    }
+
+    /// Whether the event is kept, the time window aside: every given option allows it, by the name and the
+    /// categories of its class, and by its thread text, if it has one. It allocates nothing.
     #[tactic(auto, using(crate::proofs::KeepLaws::keeps_by_parts))]
     pub fn keeps(&self, name: &str, categories: &Words, thread: Option<&str>) -> bool
         ensures { result ≡ keeps self.now (chars name.now) categories.now (text_in thread.entry) }
@@ -136,8 +184,8 @@ impl Filter {
         true
     }
 
-    /// Whether some pattern of the option matches the text: a class name for the options for events, a
-    /// category or a thread text for the others. It allocates nothing.
+    /// Whether some pattern of the option matches the text: a category or a thread text for the options for
+    /// these, a class name for the others. It allocates nothing.
     pub fn matches(&self, side: Side, text: &str) -> bool
         ensures { result ≡ some_matches self.now side (chars text.now) }
     {
@@ -145,8 +193,13 @@ impl Filter {
             return false;
         };
         match side {
-            Side::IncludeEvents | Side::ExcludeEvents => any_event(patterns, text),
-            _ => any_text(patterns, text),
+            Side::IncludeCategories
+            | Side::ExcludeCategories
+            | Side::IncludeThreads
+            | Side::ExcludeThreads => any_text(patterns, text),
+            Side::IncludeEvents | Side::ExcludeEvents | Side::Always | Side::Describe => {
+                any_event(patterns, text)
+            }
         }
     }
 

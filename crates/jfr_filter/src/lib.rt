@@ -1,6 +1,6 @@
-//! Filters: which events are kept, by patterns.
+//! Filters: which events are kept, by patterns and by a time window.
 //!
-//! A `Filter` holds the patterns of six options. `keeps` decides by an event's class name, its categories and
+//! A `Filter` holds the patterns of eight options, and the bounds of a time window. `keeps` decides by an event's class name, its categories and
 //! its thread text; `allows_class` and `allows_thread` are the two parts of it. `matches` tests one text with
 //! the patterns of one option. Read `specs/Patterns.antt` first, for what a pattern matches, and then
 //! `specs/Filters.antt`, for which events are kept.

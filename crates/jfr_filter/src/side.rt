@@ -21,6 +21,10 @@ pub enum Side {
     IncludeThreads,
     /// Drops the events whose thread text matches.
     ExcludeThreads,
+    /// Keeps the events whose class name or simple name matches, whatever the time window.
+    Always,
+    /// Keeps the descriptions of the event classes whose name or simple name matches, even without events.
+    Describe,
 }
 
 /// Why a list of patterns was not added.

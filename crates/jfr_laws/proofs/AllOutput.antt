@@ -10,9 +10,9 @@ use Rattle.jfr_frame.specs.Records.{IsRecord, Tiles, Rising, record_bytes}
 use Rattle.jfr_frame.proofs.RecordLaws.{record_one, some_bytes, rising_of}
 use Rattle.jfr_pool.specs.declared.link.Link.{Link}
 use Rattle.jfr_pool.specs.declared.entry.EntryAt.{EntryAt}
+use Rattle.jfr_meta.specs.Body.{Body}
 use Rattle.jfr_chunk.specs.Parts.{Parts, EventAt, events_of, event_records, AreParts, metadata_at}
 use Rattle.jfr_chunk.specs.Scrub.{OutputRecord, Whole, Chained, Rebuilt, Written, output_record_by, is_kept_or_metadata, output_records, written_anew, written_bytes, written, record_of, moved}
-use Rattle.jfr_chunk.specs.Metas.{rebuilt}
 use Rattle.jfr_laws.proofs.ReadBack.{moved_frame}
 use Rattle.jfr_laws.proofs.Suits.{Suits}
 use Rattle.jfr_laws.proofs.Quiet.{no_metadata_event}
@@ -57,11 +57,11 @@ module _ (c : List ℕ) (remaining : List EntryAt) (b : List ℕ) where
       let some : at < at + n = some_bytes b (new_link c remaining at older i l).frame t.1 in
       (omega arith, rising_earlier (at + 1) (at + n) (enumerate_from (j + 1) (new_links c remaining (at + n) (Some at) ss)) (omega arith) (links_rise ss (j + 1) (at + n) (Some at) to t.2))
 
-  module _ (all : List Numbered) (whole : Framed → Bool) (new : Framed → Option (List ℕ)) where
+  module _ (all : List Numbered) (whole : Framed → Bool) (slim : Framed → Option (List ℕ)) where
     -- What was written of a record that stayed whole, or was built anew, stays so.
     abbrev pub Stays : OutputRecord → Framed → Type 0
-    Stays (Whole r) f = (whole f ≡ true) × (new f ≡ None)
-    Stays (Rebuilt r x) f = (whole f ≡ true) × (new f ≡ Some x)
+    Stays (Whole r) f = (whole f ≡ true) × (slim f ≡ None)
+    Stays (Rebuilt r x) f = (whole f ≡ true) × (slim f ≡ Some x)
     Stays (Chained j l) f = Unit {0}
 
     abbrev pub OutputRecordsWhole : Written → Type 0
@@ -69,7 +69,7 @@ module _ (c : List ℕ) (remaining : List EntryAt) (b : List ℕ) where
 
     -- What stays of the records that were written.
     output_records_again : (ss : List OutputRecord) (j at : ℕ) (older : Option ℕ) (done : List Numbered) (to : ℕ) → Tiles b at (frames at older ss) to → all ≡ done ++ enumerate_from j (new_links c remaining at older ss) → Low at done
-        → AllByRecursion OutputRecordsWhole (written c remaining at older ss) → output_records_in all whole new (frames at older ss) ≡ new_output_records c remaining j at older ss
+        → AllByRecursion OutputRecordsWhole (written c remaining at older ss) → output_records_in all whole slim (frames at older ss) ≡ new_output_records c remaining j at older ss
     output_records_again [] j at older done to t e a w = refl
     output_records_again (Whole r ∷ ss) j at older done to t e a w =
         let n : ℕ = length (record_bytes c r) in
@@ -77,8 +77,8 @@ module _ (c : List ℕ) (remaining : List EntryAt) (b : List ℕ) where
         let todo : List Numbered = enumerate_from j (new_links c remaining (at + n) older ss) in
         let some : at < at + n = some_bytes b f t.1 in
         let none : numbered_at all at ≡ None = ap (λ z. numbered_at z at) e ∙ (after_low at at done todo (omega arith) a ∙ none_rising at (at + n) todo some (links_rise ss j (at + n) older to t.2)) in
-        ap (λ o. cons_option (output_record_by o (whole f) (new f) f) (output_records_in all whole new (frames (at + n) older ss))) none
-        ∙ ((λ i. cons_option (output_record_by None (w.0.0 i) (w.0.1 i) f) (output_records_in all whole new (frames (at + n) older ss)))
+        ap (λ o. cons_option (output_record_by o (whole f) (slim f) f) (output_records_in all whole slim (frames (at + n) older ss))) none
+        ∙ ((λ i. cons_option (output_record_by None (w.0.0 i) (w.0.1 i) f) (output_records_in all whole slim (frames (at + n) older ss)))
         ∙ ap (λ z. Whole f ∷ z) (output_records_again ss j (at + n) older done to t.2 e (low_more at (at + n) done (omega arith) a) w.1))
     output_records_again (Rebuilt r x ∷ ss) j at older done to t e a w =
         let n : ℕ = length x in
@@ -86,8 +86,8 @@ module _ (c : List ℕ) (remaining : List EntryAt) (b : List ℕ) where
         let todo : List Numbered = enumerate_from j (new_links c remaining (at + n) older ss) in
         let some : at < at + n = some_bytes b f t.1 in
         let none : numbered_at all at ≡ None = ap (λ z. numbered_at z at) e ∙ (after_low at at done todo (omega arith) a ∙ none_rising at (at + n) todo some (links_rise ss j (at + n) older to t.2)) in
-        ap (λ o. cons_option (output_record_by o (whole f) (new f) f) (output_records_in all whole new (frames (at + n) older ss))) none
-        ∙ ((λ i. cons_option (output_record_by None (w.0.0 i) (w.0.1 i) f) (output_records_in all whole new (frames (at + n) older ss)))
+        ap (λ o. cons_option (output_record_by o (whole f) (slim f) f) (output_records_in all whole slim (frames (at + n) older ss))) none
+        ∙ ((λ i. cons_option (output_record_by None (w.0.0 i) (w.0.1 i) f) (output_records_in all whole slim (frames (at + n) older ss)))
         ∙ ap (λ z. Rebuilt f x ∷ z) (output_records_again ss j (at + n) older done to t.2 e (low_more at (at + n) done (omega arith) a) w.1))
     output_records_again (Chained i l ∷ ss) j at older done to t e a w =
         let n : ℕ = length (chained_bytes c remaining at older i l) in
@@ -96,7 +96,7 @@ module _ (c : List ℕ) (remaining : List EntryAt) (b : List ℕ) where
         let some : at < at + n = some_bytes b m.frame t.1 in
         let found : numbered_at all at ≡ Some (j, m) = ap (λ z. numbered_at z at) e ∙ (after_low at at done ((j, m) ∷ todo) (omega arith) a ∙ rw (is_eq at at refl) refl) in
         let low = low_append (at + n) done (j, m) (low_more at (at + n) done (omega arith) a) some in
-        ap (λ o. cons_option (output_record_by o (whole m.frame) (new m.frame) m.frame) (output_records_in all whole new (frames (at + n) (Some at) ss))) found
+        ap (λ o. cons_option (output_record_by o (whole m.frame) (slim m.frame) m.frame) (output_records_in all whole slim (frames (at + n) (Some at) ss))) found
         ∙ ap (λ z. Chained j m ∷ z) (output_records_again ss (j + 1) (at + n) (Some at) (done ++ ((j, m) ∷ [])) to t.2 (e ∙ sym (append_assoc done ((j, m) ∷ []) todo)) low w.1)
 
   -- What is written stays.
@@ -117,14 +117,14 @@ module _ (c : List ℕ) (remaining : List EntryAt) (b : List ℕ) where
   written_records (Chained j l ∷ ss) at older = ap (λ z. l.frame ∷ z) (written_records ss (at + length (chained_bytes c remaining at older j l)) (Some at))
 
 -- A record stays whole by the test, or is built anew.
-whole_output_records : (all : List Numbered) (whole : Framed → Bool) (new : Framed → Option (List ℕ)) (rs : List Framed) (r : Framed) → In (output_records_in all whole new rs) (Whole r) → In rs r × (whole r ≡ true) × (new r ≡ None)
-whole_output_records all whole new rs r i =
-    let x = in_filter_map (output_record_in all whole new) rs (Whole r) i in
-    by_case x.0 (numbered_at all x.0.at) (whole x.0) refl (new x.0) refl x.1 x.2
+whole_output_records : (all : List Numbered) (whole : Framed → Bool) (slim : Framed → Option (List ℕ)) (rs : List Framed) (r : Framed) → In (output_records_in all whole slim rs) (Whole r) → In rs r × (whole r ≡ true) × (slim r ≡ None)
+whole_output_records all whole slim rs r i =
+    let x = in_filter_map (output_record_in all whole slim) rs (Whole r) i in
+    by_case x.0 (numbered_at all x.0.at) (whole x.0) refl (slim x.0) refl x.1 x.2
   where
-    by_case : (x : Framed) (o : Option Numbered) (t : Bool) → whole x ≡ t → (w : Option (List ℕ)) → new x ≡ w → In rs x → output_record_by o t w x ≡ Some (Whole r) → In rs r × (whole r ≡ true) × (new r ≡ None)
+    by_case : (x : Framed) (o : Option Numbered) (t : Bool) → whole x ≡ t → (w : Option (List ℕ)) → slim x ≡ w → In rs x → output_record_by o t w x ≡ Some (Whole r) → In rs r × (whole r ≡ true) × (slim r ≡ None)
     by_case x (Some l) t q w z i e = cc
-    by_case x None true q None z i e = let h : x ≡ r = cc in (subst (In rs) h i, subst (λ z. whole z ≡ true) h q, subst (λ y. new y ≡ None) h z)
+    by_case x None true q None z i e = let h : x ≡ r = cc in (subst (In rs) h i, subst (λ z. whole z ≡ true) h q, subst (λ y. slim y ≡ None) h z)
     by_case x None true q (Some y) z i e = cc
     by_case x None false q w z i e = cc
 
@@ -133,32 +133,32 @@ bytes_anew (Whole f) = []
 bytes_anew (Rebuilt f z) = z
 bytes_anew (Chained j l) = []
 
-anew_output_records : (all : List Numbered) (whole : Framed → Bool) (new : Framed → Option (List ℕ)) (rs : List Framed) (r : Framed) (y : List ℕ) → In (output_records_in all whole new rs) (Rebuilt r y) → In rs r × (new r ≡ Some y)
-anew_output_records all whole new rs r y i =
-    let x = in_filter_map (output_record_in all whole new) rs (Rebuilt r y) i in
-    by_case x.0 (numbered_at all x.0.at) (whole x.0) (new x.0) refl x.1 x.2
+anew_output_records : (all : List Numbered) (whole : Framed → Bool) (slim : Framed → Option (List ℕ)) (rs : List Framed) (r : Framed) (y : List ℕ) → In (output_records_in all whole slim rs) (Rebuilt r y) → In rs r × (slim r ≡ Some y)
+anew_output_records all whole slim rs r y i =
+    let x = in_filter_map (output_record_in all whole slim) rs (Rebuilt r y) i in
+    by_case x.0 (numbered_at all x.0.at) (whole x.0) (slim x.0) refl x.1 x.2
   where
-    by_case : (x : Framed) (o : Option Numbered) (t : Bool) (w : Option (List ℕ)) → new x ≡ w → In rs x → output_record_by o t w x ≡ Some (Rebuilt r y) → In rs r × (new r ≡ Some y)
+    by_case : (x : Framed) (o : Option Numbered) (t : Bool) (w : Option (List ℕ)) → slim x ≡ w → In rs x → output_record_by o t w x ≡ Some (Rebuilt r y) → In rs r × (slim r ≡ Some y)
     by_case x (Some l) t w z i e = cc
     by_case x None true None z i e = cc
     by_case x None true (Some v) z i e =
         let g : Rebuilt x v ≡ Rebuilt r y = cc in
         let h : x ≡ r = ap (λ s. record_of s) g in
         let u : v ≡ y = ap bytes_anew g in
-        (subst (In rs) h i, subst (λ f. new f ≡ Some y) h (z ∙ ap (λ z. Some z) u))
+        (subst (In rs) h i, subst (λ f. slim f ≡ Some y) h (z ∙ ap (λ z. Some z) u))
     by_case x None false w z i e = cc
 
 -- What stays of records that rise does.
-output_records_rise : (all : List Numbered) (whole : Framed → Bool) (new : Framed → Option (List ℕ)) (p : ℕ) (rs : List Framed) → Rising p rs → Rising p (map record_of (output_records_in all whole new rs))
-output_records_rise all whole new p [] a = tt
-output_records_rise all whole new p (r ∷ rs) a = by_output_record (output_record_in all whole new r) refl (output_records_rise all whole new (r.at + 1) rs a.1)
+output_records_rise : (all : List Numbered) (whole : Framed → Bool) (slim : Framed → Option (List ℕ)) (p : ℕ) (rs : List Framed) → Rising p rs → Rising p (map record_of (output_records_in all whole slim rs))
+output_records_rise all whole slim p [] a = tt
+output_records_rise all whole slim p (r ∷ rs) a = by_output_record (output_record_in all whole slim r) refl (output_records_rise all whole slim (r.at + 1) rs a.1)
   where
-    by_output_record : (o : Option OutputRecord) → output_record_in all whole new r ≡ o → Rising (r.at + 1) (map record_of (output_records_in all whole new rs)) → Rising p (map record_of (cons_option o (output_records_in all whole new rs)))
-    by_output_record None q i = let j : p ≤ r.at = a.0 in rising_more p (r.at + 1) (map record_of (output_records_in all whole new rs)) (omega arith) i
+    by_output_record : (o : Option OutputRecord) → output_record_in all whole slim r ≡ o → Rising (r.at + 1) (map record_of (output_records_in all whole slim rs)) → Rising p (map record_of (cons_option o (output_records_in all whole slim rs)))
+    by_output_record None q i = let j : p ≤ r.at = a.0 in rising_more p (r.at + 1) (map record_of (output_records_in all whole slim rs)) (omega arith) i
     by_output_record (Some s) q i =
-        let e : (record_of s).at ≡ r.at = output_record_place all whole new r s q in
+        let e : (record_of s).at ≡ r.at = output_record_place all whole slim r s q in
         let j : p ≤ r.at = a.0 in
-        (omega arith, subst (λ z. Rising (z + 1) (map record_of (output_records_in all whole new rs))) (sym e) i)
+        (omega arith, subst (λ z. Rising (z + 1) (map record_of (output_records_in all whole slim rs))) (sym e) i)
 
 -- Rising records from an offset on start at this offset or after it.
 rising_in : (p : ℕ) (rs : List Framed) (r : Framed) → Rising p rs → In rs r → p ≤ r.at
@@ -182,33 +182,33 @@ event_kept p a f i t =
     let e = map_in (λ (e : EventAt). e.record_of) (events_of p) f (subst (λ z. In z f) (sym (event_records_of p a)) j) in
     in_any (λ (e : EventAt). e.record_of.at == f.at) (events_of p) e.0 e.1 (is_eq e.0.record_of.at f.at (ap (λ (z : Framed). z.at) e.2))
 
-module _ (p : Parts) (a : AreParts p) (kept : List EventAt) (are : AreEvents p kept) (good : GoodAnew p.bytes (written_anew p kept)) (marks : List Bool) (b : List ℕ) (s : Leading p kept marks b)
-    (m : Classes) (suits : Suits p kept m) (holds : AllByRecursion (IsOutputRecordIn p.bytes (remaining_of p marks) m) (output_records p kept)) (reads : MetadataReads p kept a m) (small : length b < 2 ^ 63) where
+module _ (slim : Option (List ℕ)) (p : Parts) (a : AreParts p) (kept : List EventAt) (are : AreEvents p kept) (good : GoodAnew p.bytes (written_anew slim p)) (marks : List Bool) (b : List ℕ) (s : Leading slim p kept marks b)
+    (m : Classes) (suits : Suits p kept m) (holds : AllByRecursion (IsOutputRecordIn p.bytes (remaining_of p marks) m) (output_records slim p kept)) (held : Body) (reads : MetadataReads slim p a held m) (small : length b < 2 ^ 63) where
   abbrev q : Parts
-  q = new_parts p a kept are good marks b s m suits holds reads
+  q = new_parts slim p a kept are good marks b s m suits holds held reads
 
   abbrev valid : AreParts q
-  valid = parts_are_valid p a kept are good marks b s m suits holds reads small
+  valid = parts_are_valid slim p a kept are good marks b s m suits holds held reads small
 
   abbrev remaining : List EntryAt
   remaining = remaining_of p marks
 
   abbrev ws : List Written
-  ws = written_of p kept marks
+  ws = written_of slim p kept marks
 
   abbrev output_records_there : Framed → Bool
   output_records_there f = is_kept_or_metadata q (events_of q) f
 
   abbrev new_there : Framed → Option (List ℕ)
-  new_there f = written_anew q (events_of q) f
+  new_there f = written_anew slim q f
 
   rising : Rising 68 (map (λ w. record_of w.output_record) ws)
   rising =
-      subst (Rising 68) (sym (written_records p.bytes remaining b (output_records p kept) 68 None))
-      (output_records_rise (all_links p) (is_kept_or_metadata p kept) (written_anew p kept) 68 p.records (rising_of p.bytes 68 68 (length p.bytes) p.records (omega arith) a.records))
+      subst (Rising 68) (sym (written_records p.bytes remaining b (output_records slim p kept) 68 None))
+      (output_records_rise (all_links p) (is_kept_or_metadata p kept) (written_anew slim p) 68 p.records (rising_of p.bytes 68 68 (length p.bytes) p.records (omega arith) a.records))
 
   -- Where the metadata record becomes in what is written what it became in it.
-  module _ (settles : new_there valid.metadata_record ≡ metadata_new p kept a) where
+  module _ (settles : new_there valid.metadata_record ≡ metadata_new slim p a) where
     -- A record of the output at the offset of its metadata record is the metadata record.
     pub is_metadata : (f : Framed) → IsRecord b f → f.at ≡ metadata_at b → f ≡ valid.metadata_record
     is_metadata f i e = record_one b f valid.metadata_record i (all_in (IsRecord b) q.records valid.metadata_record (recorded q valid) (contains_in q.records valid.metadata_record valid.metadata_there.listed)) (e ∙ sym valid.metadata_there.place)
@@ -237,10 +237,10 @@ module _ (p : Parts) (a : AreParts p) (kept : List EventAt) (are : AreEvents p k
         metadata_place : (r : Framed) → (record_of w.output_record).at ≡ r.at → r.at ≡ metadata_at p.bytes → f.at ≡ metadata_at b
         metadata_place r g h = written_at w.output_record ∙ (sym (moved_there ws 68 w rising i) ∙ (ap (moved ws) (g ∙ h) ∙ sym s.metadata))
 
-        at_metadata : (r : Framed) → IsRecord p.bytes r → (record_of w.output_record).at ≡ r.at → r.at ≡ metadata_at p.bytes → (o : Option (List ℕ)) → written_anew p kept r ≡ o → (output_records_there f ≡ true) × (new_there f ≡ o)
+        at_metadata : (r : Framed) → IsRecord p.bytes r → (record_of w.output_record).at ≡ r.at → r.at ≡ metadata_at p.bytes → (o : Option (List ℕ)) → written_anew slim p r ≡ o → (output_records_there f ≡ true) × (new_there f ≡ o)
         at_metadata r i g h o z =
             let k = metadata_place r g h in
-            let n : new_there f ≡ o = ap new_there (is_metadata f stands_there k) ∙ (settles ∙ (ap (written_anew p kept) (sym (of_metadata r i h)) ∙ z)) in
+            let n : new_there f ≡ o = ap new_there (is_metadata f stands_there k) ∙ (settles ∙ (ap (written_anew slim p) (sym (of_metadata r i h)) ∙ z)) in
             (or_right (is_kept (events_of q) f) (f.at == metadata_at b) (is_eq f.at (metadata_at b) k), n)
 
         not_metadata : is_event_class m f.type_id ≡ true → (t : Bool) → (f.at == metadata_at b) ≡ t → new_there f ≡ None
@@ -250,9 +250,9 @@ module _ (p : Parts) (a : AreParts p) (kept : List EventAt) (are : AreEvents p k
             let u : is_event_class m f.type_id ≡ false = ap (is_event_class m) z ∙ no_metadata_event m in
             let x : true ≡ false = sym e ∙ u in
             cc
-        not_metadata e false y = ap (λ t. if t then rebuilt q (events_of q) f.size else None) y
+        not_metadata e false y = ap (λ t. if t then slim else None) y
 
-        by_cause : (r : Framed) → w.output_record ≡ Whole r → In p.records r → (u v : Bool) → is_kept kept r ≡ u → (r.at == metadata_at p.bytes) ≡ v → (u || v) ≡ true → written_anew p kept r ≡ None → (output_records_there f ≡ true) × (new_there f ≡ None)
+        by_cause : (r : Framed) → w.output_record ≡ Whole r → In p.records r → (u v : Bool) → is_kept kept r ≡ u → (r.at == metadata_at p.bytes) ≡ v → (u || v) ≡ true → written_anew slim p r ≡ None → (output_records_there f ≡ true) × (new_there f ≡ None)
         by_cause r e o true v x y z n =
             let t : is_event_class m f.type_id ≡ true = ap (λ z. is_event_class m (frame_by z w.at (length (written_bytes p.bytes remaining w))).type_id) e ∙ (kept_is_event p a kept are m suits r o x).0 in
             let u : is_kept (events_of q) f ≡ true = event_kept q valid f listed t in
@@ -265,16 +265,16 @@ module _ (p : Parts) (a : AreParts p) (kept : List EventAt) (are : AreEvents p k
         by_output_record : (t : OutputRecord) → w.output_record ≡ t → Stays p.bytes remaining b (all_links q) output_records_there new_there t f
         by_output_record (Chained j l) e = tt
         by_output_record (Whole r) e =
-            let x = whole_output_records (all_links p) (is_kept_or_metadata p kept) (written_anew p kept) p.records r (subst (In (output_records p kept)) e (in_written p.bytes remaining b (output_records p kept) 68 None w i)) in
+            let x = whole_output_records (all_links p) (is_kept_or_metadata p kept) (written_anew slim p) p.records r (subst (In (output_records slim p kept)) e (in_written p.bytes remaining b (output_records slim p kept) 68 None w i)) in
             by_cause r e x.0 (is_kept kept r) (r.at == metadata_at p.bytes) refl refl x.1 x.2
         by_output_record (Rebuilt r y) e =
-            let x = anew_output_records (all_links p) (is_kept_or_metadata p kept) (written_anew p kept) p.records r y (subst (In (output_records p kept)) e (in_written p.bytes remaining b (output_records p kept) 68 None w i)) in
-            let t = anew_only p kept r y x.1 in
+            let x = anew_output_records (all_links p) (is_kept_or_metadata p kept) (written_anew slim p) p.records r y (subst (In (output_records slim p kept)) e (in_written p.bytes remaining b (output_records slim p kept) 68 None w i)) in
+            let t = anew_only slim p r y x.1 in
             let h : r.at ≡ metadata_at p.bytes = grind (arith, nat_tests) in
             at_metadata r (all_in (IsRecord p.bytes) p.records r (recorded p a) x.0) (ap (λ z. (record_of z).at) e) h (Some y) x.1
 
     -- So all of it stays.
-    pub output_records_settled : output_records q (events_of q) ≡ new_output_records p.bytes remaining 0 68 None (output_records p kept)
+    pub output_records_settled : output_records slim q (events_of q) ≡ new_output_records p.bytes remaining 0 68 None (output_records slim p kept)
     output_records_settled =
-        output_records_again p.bytes remaining b (all_links q) output_records_there new_there (output_records p kept) 0 68 None [] (length b) valid.records (ap (enumerate_from 0) (reverse-reverse (links p kept marks))) tt
+        output_records_again p.bytes remaining b (all_links q) output_records_there new_there (output_records slim p kept) 0 68 None [] (length b) valid.records (ap (enumerate_from 0) (reverse-reverse (links slim p kept marks))) tt
         (all_each (OutputRecordsWhole p.bytes remaining b (all_links q) output_records_there new_there) ws whole_again)

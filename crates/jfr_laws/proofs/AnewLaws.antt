@@ -17,11 +17,11 @@ use Rattle.jfr_chunk.specs.Parts.{Parts, EventAt, AreParts, metadata_at}
 use Rattle.jfr_layout.specs.Staying.{staying}
 use Rattle.jfr_meta.specs.Stays.{ids_below, HasHead, IsStay, stay_of}
 use Rattle.jfr_meta.specs.Slimmed.{slim_body, bytes_of_body, table_len, IsSlim, slim_in}
-use Rattle.jfr_chunk.specs.Metas.{used_by, stays_in, slim_of, rebuilt}
-use Rattle.jfr_chunk.specs.Scrub.{written_anew}
+use Rattle.jfr_chunk.specs.Metas.{Names, used_by, is_described, is_used, stays_in, slim_of, rebuilt}
 use Rattle.jfr_laws.proofs.Five.{StandsAnew, read_back}
 use Rattle.jfr_meta.proofs.Lists.{nothing_each}
 use Rattle.jfr_laws.proofs.Premises.{GoodAnew}
+use Rattle.jfr_laws.proofs.Whole.{or_right}
 use Rattle.jfr_meta.proofs.SlimLaws.{Describes, told_well, is_slim}
 use Rattle.jfr_meta.proofs.StayLaws.{is_stay}
 use Rattle.jfr_layout.proofs.StayingLaws.{stay_well, staying_sound}
@@ -41,33 +41,26 @@ texts_of [] e = tt
 texts_of (x ∷ xs) e = let h = and_parts (scalars x) (list_all scalars xs) e in (text_of x h.0, texts_of xs h.1)
 
 -- What is built anew has few bytes.
-pub record IsAnew (p : Parts) (kept : List EventAt) (room : ℕ) (x : List ℕ) : Type 0 where
-  pub bytes : x ≡ bytes_of_body (slim_of p kept)
-  pub all : list_all scalars (slim_of p kept).strings ≡ true
-  pub small : table_len (slim_of p kept) < 536870912
+pub record IsAnew (names : Names) (p : Parts) (kept : List EventAt) (room : ℕ) (x : List ℕ) : Type 0 where
+  pub bytes : x ≡ bytes_of_body (slim_of names p kept)
+  pub all : list_all scalars (slim_of names p kept).strings ≡ true
+  pub small : table_len (slim_of names p kept) < 536870912
   pub fits : length x ≤ room
 
-pub is_anew : (p : Parts) (kept : List EventAt) (room : ℕ) (x : List ℕ) → rebuilt p kept room ≡ Some x → IsAnew p kept room x
+pub is_anew : (names : Names) (p : Parts) (kept : List EventAt) (room : ℕ) (x : List ℕ) → rebuilt names p kept room ≡ Some x → IsAnew names p kept room x
 unfolding rebuilt slim_in
-is_anew p kept room x e =
-    by_tests (list_all scalars (slim_of p kept).strings) refl (nat_lt (table_len (slim_of p kept)) (2 ^ 29)) refl (nat_le (length (bytes_of_body (slim_of p kept))) room) refl e
+is_anew names p kept room x e =
+    by_tests (list_all scalars (slim_of names p kept).strings) refl (nat_lt (table_len (slim_of names p kept)) (2 ^ 29)) refl (nat_le (length (bytes_of_body (slim_of names p kept))) room) refl e
   where
-    by_tests : (s : Bool) → list_all scalars (slim_of p kept).strings ≡ s → (t : Bool) → nat_lt (table_len (slim_of p kept)) (2 ^ 29) ≡ t → (u : Bool) → nat_le (length (bytes_of_body (slim_of p kept))) room ≡ u
-        → (if s then (if t && u then Some (bytes_of_body (slim_of p kept)) else None) else None) ≡ Some x → IsAnew p kept room x
+    by_tests : (s : Bool) → list_all scalars (slim_of names p kept).strings ≡ s → (t : Bool) → nat_lt (table_len (slim_of names p kept)) (2 ^ 29) ≡ t → (u : Bool) → nat_le (length (bytes_of_body (slim_of names p kept))) room ≡ u
+        → (if s then (if t && u then Some (bytes_of_body (slim_of names p kept)) else None) else None) ≡ Some x → IsAnew names p kept room x
     by_tests true v true q true r e =
-        let h : x ≡ bytes_of_body (slim_of p kept) = cc in
-        let l : length (bytes_of_body (slim_of p kept)) ≤ room = grind (arith, nat_tests) in
+        let h : x ≡ bytes_of_body (slim_of names p kept) = cc in
+        let l : length (bytes_of_body (slim_of names p kept)) ≤ room = grind (arith, nat_tests) in
         record { bytes = h; all = v; small = grind (arith, nat_tests); fits = omega (arith, ap length h) }
     by_tests true v true q false r e = cc
     by_tests true v false q u r e = cc
     by_tests false v t q u r e = cc
-
-anew_room : (p : Parts) (kept : List EventAt) (r : Framed) (x : List ℕ) → written_anew p kept r ≡ Some x → rebuilt p kept r.size ≡ Some x
-anew_room p kept r x e = by_test (r.at == metadata_at p.bytes) e
-  where
-    by_test : (t : Bool) → (if t then rebuilt p kept r.size else None) ≡ Some x → rebuilt p kept r.size ≡ Some x
-    by_test true e = e
-    by_test false e = cc
 
 pub some_class : (k : Classes) (id : ℕ) → is_event_class k id ≡ true → (c : Class) × (find_class k id ≡ Some c)
 unfolding is_event_class
@@ -85,15 +78,23 @@ any_of (d ∷ k) id c e = by_test (d.id == id) e (any_of k id c)
     by_test true e g = refl
     by_test false e g = g e
 
-module _ (p : Parts) (a : AreParts p) (kept : List EventAt) where
+described_has : (names : Names) (k : Classes) (id : ℕ) → is_described names k id ≡ true → has_id k id ≡ true
+described_has names [] id e = e
+described_has names (c ∷ k) id e = by_tests (c.id == id) (names c.name) e (described_has names k id)
+  where
+    by_tests : (t u : Bool) → ((t && u) || is_described names k id) ≡ true → (is_described names k id ≡ true → has_id k id ≡ true) → (t || has_id k id) ≡ true
+    by_tests true u e f = refl
+    by_tests false u e f = f e
+
+module _ (names : Names) (p : Parts) (a : AreParts p) (kept : List EventAt) where
   abbrev k : Classes
   k = p.classes
 
   abbrev used : ℕ → Bool
-  used = used_by kept
+  used = is_used names p kept
 
   abbrev stays : ℕ → Bool
-  stays = stays_in p kept
+  stays = stays_in names p kept
 
   pub d : Describes p.body.strings (class_elements p.body.strings p.body.root) p.classes
   unfolding described
@@ -109,6 +110,10 @@ module _ (p : Parts) (a : AreParts p) (kept : List EventAt) where
   pub stay : IsStay p.body.strings ts k used stays
   stay = subst (IsStay p.body.strings ts k used) (sym stays_is) (is_stay p.body.strings ts k used (sym d.classes) d.sound (nothing_each (class_flaws p.body.strings) ts d.good))
 
+  -- A class whose name is in the set stays.
+  pub described_stays : (id : ℕ) → is_described names k id ≡ true → stays id ≡ true
+  described_stays id e = stay.has.uses id (described_has names k id e) (or_right (used_by kept id) (is_described names k id) e)
+
   closed : (us : List Tree) → class_elements p.body.strings p.body.root ≡ Some us → (t : Tree) (id other : ℕ) → Contains us t → HasHead p.body.strings t id → stays id ≡ true → Contains (ids_below p.body.strings t) other → has_id k other ≡ true → stays other ≡ true
   closed us e t id other i h s n o =
       let q : us ≡ ts = (let z : Some us ≡ Some ts = sym e ∙ d.there in cc) in
@@ -123,12 +128,7 @@ module _ (p : Parts) (a : AreParts p) (kept : List EventAt) where
   pub agree_left : (id : ℕ) (c : Class) → find_class k id ≡ Some c → stays id ≡ true → Agree k (staying stays k) id
   agree_left id c e s = (stay_well k stays d.sound (fields_closed p.body.strings ts k stays (sym d.classes) (closed ts d.there) (nothing_each (class_flaws p.body.strings) ts d.good) d.sound)).agree id c e s
 
-  pub stands_anew : (room : ℕ) (x : List ℕ) → IsAnew p kept room x → StandsAnew x (slim_of p kept)
+  pub stands_anew : (room : ℕ) (x : List ℕ) → IsAnew names p kept room x → StandsAnew x (slim_of names p kept)
   unfolding slim_body
   stands_anew room x n =
-      read_back p.body.start p.body.duration p.body.id (slim_of p kept).strings (slim_of p kept).root x slim.indices (omega (arith, slim.levels, shallow p.bytes a.metadata_record p.body p.classes a.metadata)) n.small (texts_of (slim_of p kept).strings n.all) n.bytes
-
-  pub good_anew : GoodAnew p.bytes (written_anew p kept)
-  good_anew r x i e =
-      let n = is_anew p kept r.size x (anew_room p kept r x e) in
-      ((stands_anew r.size x n).is_record, n.fits)
+      read_back p.body.start p.body.duration p.body.id (slim_of names p kept).strings (slim_of names p kept).root x slim.indices (omega (arith, slim.levels, shallow p.bytes a.metadata_record p.body p.classes a.metadata)) n.small (texts_of (slim_of names p kept).strings n.all) n.bytes

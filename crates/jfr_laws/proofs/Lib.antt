@@ -42,6 +42,7 @@ pub mod Again
 pub mod Reslim
 pub mod SlimAgain
 pub mod Settles
+pub mod Clocks
 pub mod Scrubbed
 pub mod SameTexts
 pub mod Settled

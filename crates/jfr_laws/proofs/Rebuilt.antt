@@ -21,7 +21,6 @@ use Rattle.jfr_pool.specs.declared.entry.EntryAt.{EntryAt}
 use Rattle.jfr_pool.specs.Chains.{IsChain}
 use Rattle.jfr_pool.specs.Entries.{AreEntries, inline}
 use Rattle.jfr_chunk.specs.Parts.{Parts, EventAt, HasFields, events_of, event_records, AreParts, StartsAt, pools_at, metadata_at}
-use Rattle.jfr_chunk.specs.Metas.{rebuilt}
 use Rattle.jfr_chunk.specs.Scrub.{moved, output_records, is_kept_or_metadata, written_anew}
 use Rattle.jfr_chunk.proofs.AllLaws.{all_in}
 use Rattle.jfr_worklist.specs.Members.{In}
@@ -45,7 +44,7 @@ use Rattle.jfr_laws.proofs.Chosen.{is_kept}
 use Rattle.jfr_laws.proofs.Premises.{GoodAnew, all_links, on_whole, recorded}
 use Rattle.jfr_laws.proofs.Quiet.{quiet_records}
 use Rattle.jfr_laws.proofs.Kept.{CopiedRecord, fields_back, events_back}
-use Rattle.jfr_laws.proofs.Whole.{shown_body, remaining_of, written_of, is_ready, metadata_found, metadata_new, MetadataReads, Leading}
+use Rattle.jfr_laws.proofs.Whole.{remaining_of, written_of, is_ready, metadata_found, metadata_new, MetadataReads, Leading}
 
 pub none_numbered : (xs : List Link) → enumerate_from 0 xs ≡ [] → xs ≡ []
 none_numbered [] e = refl
@@ -60,22 +59,22 @@ pub chain_new : (c : List ℕ) (rs : List Framed) (ls : List Link) → (ls ≡ [
 chain_new c rs [] n h = absurd (n refl)
 chain_new c rs (l ∷ ls) n h = linked_chain c rs l ls h
 
-module _ (p : Parts) (kept : List EventAt) (marks : List Bool) where
+module _ (slim : Option (List ℕ)) (p : Parts) (kept : List EventAt) (marks : List Bool) where
   abbrev new_records : List Framed
-  new_records = map (new_frame p.bytes (remaining_of p marks)) (written_of p kept marks)
+  new_records = map (new_frame p.bytes (remaining_of p marks)) (written_of slim p kept marks)
 
   abbrev pub links : List Link
-  links = new_links p.bytes (remaining_of p marks) 68 None (output_records p kept)
+  links = new_links p.bytes (remaining_of p marks) 68 None (output_records slim p kept)
 
   abbrev entries : Classes → List EntryAt
-  entries m = new_entries p.bytes (remaining_of p marks) m 0 68 None (output_records p kept)
+  entries m = new_entries p.bytes (remaining_of p marks) m 0 68 None (output_records slim p kept)
 
   abbrev pub parts_with : List ℕ → Body → Classes → Parts
   parts_with b body m = record { bytes = b; records = new_records; chain = reverse links; body = body; classes = m; entries = entries m }
 
 -- What is built anew is the metadata record's.
-pub anew_only : (p : Parts) (kept : List EventAt) (r : Framed) (x : List ℕ) → written_anew p kept r ≡ Some x → (r.at == metadata_at p.bytes) ≡ true
-anew_only p kept r x e = by_test (r.at == metadata_at p.bytes) (rebuilt p kept r.size) e
+pub anew_only : (slim : Option (List ℕ)) (p : Parts) (r : Framed) (x : List ℕ) → written_anew slim p r ≡ Some x → (r.at == metadata_at p.bytes) ≡ true
+anew_only slim p r x e = by_test (r.at == metadata_at p.bytes) slim e
   where
     by_test : (t : Bool) (o : Option (List ℕ)) → (if t then o else None) ≡ Some x → t ≡ true
     by_test true o e = refl
@@ -110,38 +109,38 @@ kept_is_event p a kept are m suits r i t =
     let h : is_event_class m r.type_id ≡ true = subst (λ (z : Framed). is_event_class m z.type_id ≡ true) g (suits.event e.0 e.1) in
     (h, suits.before r.type_id h)
 
-module _ (p : Parts) (a : AreParts p) (kept : List EventAt) (are : AreEvents p kept) (good : GoodAnew p.bytes (written_anew p kept)) (marks : List Bool) (b : List ℕ) (s : Leading p kept marks b) where
+module _ (slim : Option (List ℕ)) (p : Parts) (a : AreParts p) (kept : List EventAt) (are : AreEvents p kept) (good : GoodAnew p.bytes (written_anew slim p)) (marks : List Bool) (b : List ℕ) (s : Leading slim p kept marks b) where
   abbrev remaining : List EntryAt
   remaining = remaining_of p marks
 
   abbrev rs : List Framed
-  rs = new_records p kept marks
+  rs = new_records slim p kept marks
 
   abbrev ls : List Link
-  ls = links p kept marks
+  ls = links slim p kept marks
 
   tiles : Tiles b 68 rs (length b)
   tiles =
-      let r = is_ready p kept marks a good in
-      subst (Tiles b 68 rs) (sym s.size) (tiles_back p.bytes remaining p.classes b (output_records p kept) 68 None r.valid r.deltas s.held)
+      let r = is_ready slim p kept marks a good in
+      subst (Tiles b 68 rs) (sym s.size) (tiles_back p.bytes remaining p.classes b (output_records slim p kept) 68 None r.valid r.deltas s.held)
 
   some_links : ls ≡ [] → ⊥
   some_links e =
-      let r = is_ready p kept marks a good in
-      some_chain p.bytes p.records (pools_at p.bytes) p.chain a.chain (none_numbered (reverse p.chain) (sym r.order ∙ no_links p.bytes remaining (output_records p kept) 68 None e))
+      let r = is_ready slim p kept marks a good in
+      some_chain p.bytes p.records (pools_at p.bytes) p.chain a.chain (none_numbered (reverse p.chain) (sym r.order ∙ no_links p.bytes remaining (output_records slim p kept) 68 None e))
 
   chain : length b < 2 ^ 63 → IsChain b rs (pools_at b) (reverse ls)
   chain small =
-      let r = is_ready p kept marks a good in
-      let l = linked_back p.bytes remaining p.classes b rs small (output_records p kept) [] 68 None r.valid r.deltas tt s.held refl in
-      let e : last_from None ls ≡ pools_at b = sym (last_back p.bytes remaining (output_records p kept) 68 None) ∙ sym s.pools in
+      let r = is_ready slim p kept marks a good in
+      let l = linked_back p.bytes remaining p.classes b rs small (output_records slim p kept) [] 68 None r.valid r.deltas tt s.held refl in
+      let e : last_from None ls ≡ pools_at b = sym (last_back p.bytes remaining (output_records slim p kept) 68 None) ∙ sym s.pools in
       subst (λ z. IsChain b rs z (reverse ls)) e (chain_new b rs ls some_links l)
 
-  abbrev pub found : Found p.bytes remaining p.classes b a.metadata_record (metadata_new p kept a) 68 (written_of p kept marks)
-  found = metadata_found p kept marks a good b s.held
+  abbrev pub found : Found p.bytes remaining p.classes b a.metadata_record (metadata_new slim p a) 68 (written_of slim p kept marks)
+  found = metadata_found slim p kept marks a good b s.held
 
   abbrev metadata_record : Framed
-  metadata_record = shown_frame p.bytes (metadata_new p kept a) a.metadata_record found.place
+  metadata_record = shown_frame p.bytes (metadata_new slim p a) a.metadata_record found.place
 
   shown_at : (w : Option (List ℕ)) → (shown_frame p.bytes w a.metadata_record found.place).at ≡ found.place
   shown_at None = refl
@@ -153,18 +152,18 @@ module _ (p : Parts) (a : AreParts p) (kept : List EventAt) (are : AreEvents p k
 
   metadata_there : StartsAt rs (metadata_at b) 0 metadata_record
   metadata_there =
-      let e : found.place ≡ metadata_at b = sym (s.metadata ∙ (ap (moved (written_of p kept marks)) (sym a.metadata_there.place) ∙ found.leads)) in
-      record { listed = in_contains rs metadata_record found.listed; place = shown_at (metadata_new p kept a) ∙ e; type_is = shown_type (metadata_new p kept a) }
+      let e : found.place ≡ metadata_at b = sym (s.metadata ∙ (ap (moved (written_of slim p kept marks)) (sym a.metadata_there.place) ∙ found.leads)) in
+      record { listed = in_contains rs metadata_record found.listed; place = shown_at (metadata_new slim p a) ∙ e; type_is = shown_type (metadata_new slim p a) }
 
   -- Under classes that suit what is kept.
-  module _ (m : Classes) (suits : Suits p kept m) (holds : AllByRecursion (IsOutputRecordIn p.bytes remaining m) (output_records p kept)) (reads : MetadataReads p kept a m) where
-    pub metadata_read : (body : Body) × IsMetadata b metadata_record body m × SameBody (shown_body p kept (metadata_new p kept a)) body
+  module _ (m : Classes) (suits : Suits p kept m) (holds : AllByRecursion (IsOutputRecordIn p.bytes remaining m) (output_records slim p kept)) (held : Body) (reads : MetadataReads slim p a held m) where
+    pub metadata_read : (body : Body) × IsMetadata b metadata_record body m × SameBody held body
     metadata_read = reads b found.place found.held
 
-    are_entries : AreEntries b m 0 (reverse (reverse ls)) (entries p kept marks m)
+    are_entries : AreEntries b m 0 (reverse (reverse ls)) (entries slim p kept marks m)
     are_entries =
-        let r = is_ready p kept marks a good in
-        subst (λ z. AreEntries b m 0 z (entries p kept marks m)) (sym (reverse-reverse ls)) (entries_back p.bytes remaining m b (output_records p kept) 0 68 None holds r.deltas s.held)
+        let r = is_ready slim p kept marks a good in
+        subst (λ z. AreEntries b m 0 z (entries slim p kept marks m)) (sym (reverse-reverse ls)) (entries_back p.bytes remaining m b (output_records slim p kept) 0 68 None holds r.deltas s.held)
 
     abbrev is_event : Framed → Bool
     is_event r = is_event_class m r.type_id
@@ -179,12 +178,12 @@ module _ (p : Parts) (a : AreParts p) (kept : List EventAt) (are : AreEvents p k
     fields : AllByRecursion (HasFields b m) (event_records m rs)
     fields =
         let f = if_passes (HasFields p.bytes p.classes) (λ r. is_event_class p.classes r.type_id) p.records (recursion_from_All (HasFields p.bytes p.classes) (event_records p.classes p.records) a.events) in
-        fields_back p.bytes remaining m b (output_records p kept) 68 None holds
-        (on_whole (IfPasses is_event (HasFields p.bytes m)) (all_links p) (is_kept_or_metadata p kept) (written_anew p kept) p.records (passes_too p.records f)) s.held
+        fields_back p.bytes remaining m b (output_records slim p kept) 68 None holds
+        (on_whole (IfPasses is_event (HasFields p.bytes m)) (all_links p) (is_kept_or_metadata p kept) (written_anew slim p) p.records (passes_too p.records f)) s.held
 
     -- The parts of what is written.
     abbrev pub new_parts : Parts
-    new_parts = parts_with p kept marks b metadata_read.0 m
+    new_parts = parts_with slim p kept marks b metadata_read.0 m
 
     -- These are the parts of the output.
     pub parts_are_valid : length b < 2 ^ 63 → AreParts new_parts
@@ -198,23 +197,23 @@ module _ (p : Parts) (a : AreParts p) (kept : List EventAt) (are : AreEvents p k
       events = All-from_recursion (HasFields b m) (event_records m rs) fields;
     }
 
-    pub metadata_is : (small : length b < 2 ^ 63) → (parts_are_valid small).metadata_record ≡ shown_frame p.bytes (metadata_new p kept a) a.metadata_record found.place
+    pub metadata_is : (small : length b < 2 ^ 63) → (parts_are_valid small).metadata_record ≡ shown_frame p.bytes (metadata_new slim p a) a.metadata_record found.place
     unfolding parts_are_valid
     metadata_is small = refl
 
-    pub same_body : SameBody (shown_body p kept (metadata_new p kept a)) new_parts.body
+    pub same_body : SameBody held new_parts.body
     same_body = metadata_read.2
 
     -- The entries are copies of those that are left.
-    pub entries_copied : Each (IsCopy p.bytes b) remaining (entries p kept marks m)
+    pub entries_copied : Each (IsCopy p.bytes b) remaining (entries slim p kept marks m)
     entries_copied =
-        let r = is_ready p kept marks a good in
-        let same = entries_same_back p.bytes remaining m b (output_records p kept) (reverse p.chain) 0 68 None holds r.deltas s.held r.order in
-        let e : entries_by_number remaining (chained_of (output_records p kept)) ≡ remaining = ap (entries_by_number remaining) r.order ∙ all_numbers p.bytes p.classes marks (reverse p.chain) p.entries a.entries in
-        subst (λ z. Each (IsCopy p.bytes b) z (entries p kept marks m)) e same
+        let r = is_ready slim p kept marks a good in
+        let same = entries_same_back p.bytes remaining m b (output_records slim p kept) (reverse p.chain) 0 68 None holds r.deltas s.held r.order in
+        let e : entries_by_number remaining (chained_of (output_records slim p kept)) ≡ remaining = ap (entries_by_number remaining) r.order ∙ all_numbers p.bytes p.classes marks (reverse p.chain) p.entries a.entries in
+        subst (λ z. Each (IsCopy p.bytes b) z (entries slim p kept marks m)) e same
 
     -- The event records are copies of the kept ones.
     pub records_copied : Each (CopiedRecord p.bytes b m) (filter (is_kept kept) (event_records p.classes p.records)) (event_records m rs)
     records_copied =
         subst (λ z. Each (CopiedRecord p.bytes b m) z (event_records m rs)) (same_both (is_kept kept) (λ r. is_event_class m r.type_id) (λ r. is_event_class p.classes r.type_id) p.records (kept_is_event p a kept are m suits))
-        (events_back p.bytes remaining m b (all_links p) (is_kept kept) (written_anew p kept) (metadata_at p.bytes) (anew_only p kept) p.records 68 None (quiet_records p a m) s.held)
+        (events_back p.bytes remaining m b (all_links p) (is_kept kept) (written_anew slim p) (metadata_at p.bytes) (anew_only slim p) p.records 68 None (quiet_records p a m) s.held)

@@ -1,5 +1,5 @@
 -- The output with its header: it is whole, and no longer than the chunk.
-use Rattle.std.specs.Prelude.{◌≡◌, ℕ, ◌+◌, ◌^◌, ◌<◌, ◌≤◌, Bool, true, false, ◌==◌, ◌||◌, List, [], ◌∷◌, length, Option, Some, None}
+use Rattle.std.specs.Prelude.{◌≡◌, ℕ, ◌+◌, ◌^◌, ◌<◌, ◌≤◌, Bool, true, false, ◌==◌, ◌||◌, List, [], ◌∷◌, length, Option, Some, None, if◌then◌else◌}
 use Rattle.std.specs.List.{AllByRecursion}
 use Rattle.std.proofs.Common.{ap, arith, refl, sym, ◌∙◌}
 use Rattle.jfr_base.proofs.HoldLaws.{Holds}
@@ -21,7 +21,6 @@ use Rattle.jfr_laws.proofs.Header.{whole_small}
 use Rattle.jfr_laws.proofs.Assembled.{HeaderLeads, headed_size, headed_held, headed_leads, headed_whole}
 use Rattle.jfr_laws.proofs.OutputRecords.{bytes_from}
 use Rattle.jfr_laws.proofs.Lengths.{length_back, last_bound, sizes_within}
-use Rattle.jfr_chunk.specs.Metas.{slim_of}
 use Rattle.jfr_laws.proofs.Metadata.{SameBody}
 use Rattle.jfr_laws.proofs.Found.{Found, found_back, shown_bytes, shown_frame}
 use Rattle.jfr_laws.proofs.Premises.{all_links, IsCheckpoint, GoodAnew, Ready, recorded, metadata_stands, chained_checkpoints, ready}
@@ -52,26 +51,25 @@ no_link_at c all f a s t = by_find (numbered_at all f.at) refl
 abbrev pub remaining_of : Parts → List Bool → List EntryAt
 remaining_of p marks = marked marks p.entries
 
--- What is built anew of the metadata record, if anything is.
-abbrev pub metadata_new : (p : Parts) → List EventAt → AreParts p → Option (List ℕ)
-metadata_new p kept a = written_anew p kept a.metadata_record
+-- What is written in place of the metadata record, if anything is.
+abbrev pub metadata_new : Option (List ℕ) → (p : Parts) → AreParts p → Option (List ℕ)
+metadata_new slim p a = written_anew slim p a.metadata_record
 
--- What the metadata record that is written holds, but for the places in its tree.
-abbrev pub shown_body : (p : Parts) → List EventAt → Option (List ℕ) → Body
-shown_body p kept None = p.body
-shown_body p kept (Some x) = slim_of p kept
+pub new_is : (slim : Option (List ℕ)) (p : Parts) (a : AreParts p) → metadata_new slim p a ≡ slim
+new_is slim p a = ap (λ t. if t then slim else None) (is_eq a.metadata_record.at (metadata_at p.bytes) a.metadata_there.place)
 
--- At whichever offset the metadata record of the output is, it is read with these classes.
-abbrev pub MetadataReads : (p : Parts) → List EventAt → AreParts p → Classes → Type 0
-MetadataReads p kept a m = (b : List ℕ) (place : ℕ) → Holds b (length b) place (shown_bytes p.bytes (metadata_new p kept a) a.metadata_record) → (body : Body) × IsMetadata b (shown_frame p.bytes (metadata_new p kept a) a.metadata_record place) body m × SameBody (shown_body p kept (metadata_new p kept a)) body
+-- At whichever offset the metadata record of the output is, it is read with these classes, and holds this, but for
+-- the places in its tree.
+abbrev pub MetadataReads : Option (List ℕ) → (p : Parts) → AreParts p → Body → Classes → Type 0
+MetadataReads slim p a held m = (b : List ℕ) (place : ℕ) → Holds b (length b) place (shown_bytes p.bytes (metadata_new slim p a) a.metadata_record) → (body : Body) × IsMetadata b (shown_frame p.bytes (metadata_new slim p a) a.metadata_record place) body m × SameBody held body
 
-module _ (p : Parts) (kept : List EventAt) (marks : List Bool) where
+module _ (slim : Option (List ℕ)) (p : Parts) (kept : List EventAt) (marks : List Bool) where
   -- What is written, and its bytes.
   abbrev pub written_of : List Written
-  written_of = written p.bytes (remaining_of p marks) 68 None (output_records p kept)
+  written_of = written p.bytes (remaining_of p marks) 68 None (output_records slim p kept)
 
   abbrev pub body_of : List ℕ
-  body_of = bytes_from p.bytes (remaining_of p marks) 68 None (output_records p kept)
+  body_of = bytes_from p.bytes (remaining_of p marks) 68 None (output_records slim p kept)
 
   -- The offsets of the output's last checkpoint and of its metadata record.
   abbrev pub last_of : ℕ
@@ -86,29 +84,29 @@ module _ (p : Parts) (kept : List EventAt) (marks : List Bool) where
 
   -- The chunk of it.
   abbrev pub out : List ℕ
-  out = assembled p (remaining_of p marks) (output_records p kept)
+  out = assembled p (remaining_of p marks) (output_records slim p kept)
 
   out_size : length out ≡ 68 + length body_of
   out_size = headed_size p.bytes body_of last_of metadata_of
 
-  module _ (a : AreParts p) (good : GoodAnew p.bytes (written_anew p kept)) where
-    pub is_ready : Ready p (remaining_of p marks) (output_records p kept)
-    is_ready = ready p a (is_kept_or_metadata p kept) (written_anew p kept) good marks
+  module _ (a : AreParts p) (good : GoodAnew p.bytes (written_anew slim p)) where
+    pub is_ready : Ready p (remaining_of p marks) (output_records slim p kept)
+    is_ready = ready p a (is_kept_or_metadata p kept) (written_anew slim p) good marks
 
     body_fits : 68 + length body_of ≤ length p.bytes
     body_fits =
-        let l = length_back p.bytes (remaining_of p marks) p.classes (output_records p kept) 68 None is_ready.valid is_ready.deltas in
-        let s = sizes_within p.bytes (all_links p) (is_kept_or_metadata p kept) (written_anew p kept) (only_records p.bytes (all_links p) (chained_checkpoints p a)) p.records 68 (length p.bytes) a.records in
+        let l = length_back p.bytes (remaining_of p marks) p.classes (output_records slim p kept) 68 None is_ready.valid is_ready.deltas in
+        let s = sizes_within p.bytes (all_links p) (is_kept_or_metadata p kept) (written_anew slim p) (only_records p.bytes (all_links p) (chained_checkpoints p a)) p.records 68 (length p.bytes) a.records in
         omega (arith, l, s)
 
     pub out_shorter : length out ≤ length p.bytes
     out_shorter = omega (arith, body_fits, out_size)
 
     -- The metadata record is found if the body is there.
-    pub metadata_found : (b : List ℕ) → Holds b (length b) 68 body_of → Found p.bytes (remaining_of p marks) p.classes b a.metadata_record (metadata_new p kept a) 68 written_of
+    pub metadata_found : (b : List ℕ) → Holds b (length b) 68 body_of → Found p.bytes (remaining_of p marks) p.classes b a.metadata_record (metadata_new slim p a) 68 written_of
     metadata_found b h =
         let f : Framed = a.metadata_record in
-        found_back p.bytes (remaining_of p marks) p.classes b (all_links p) (is_kept_or_metadata p kept) (written_anew p kept) f (metadata_stands p a)
+        found_back p.bytes (remaining_of p marks) p.classes b (all_links p) (is_kept_or_metadata p kept) (written_anew slim p) f (metadata_stands p a)
         (no_link_at p.bytes (all_links p) f (chained_checkpoints p a) (metadata_stands p a) a.metadata_there.type_is)
         (or_right (is_kept kept f) (f.at == metadata_at p.bytes) (is_eq f.at (metadata_at p.bytes) a.metadata_there.place))
         p.records 68 None (recorded p a) (contains_in p.records f a.metadata_there.listed) is_ready.valid is_ready.deltas h
@@ -121,8 +119,8 @@ module _ (p : Parts) (kept : List EventAt) (marks : List Bool) where
       out_leading =
           let f = metadata_found out (headed_held p.bytes body_of last_of metadata_of) in
           let m : metadata_of ≡ f.place = ap (moved written_of) (sym a.metadata_there.place) ∙ f.leads in
-          let w : f.place + length (shown_bytes p.bytes (metadata_new p kept a) a.metadata_record) ≤ length out = f.held.within in
-          let l = last_bound p.bytes (remaining_of p marks) (output_records p kept) 68 None tt in
+          let w : f.place + length (shown_bytes p.bytes (metadata_new slim p a) a.metadata_record) ≤ length out = f.held.within in
+          let l = last_bound p.bytes (remaining_of p marks) (output_records slim p kept) 68 None tt in
           headed_leads p.bytes body_of last_of metadata_of (omega (arith, l, body_fits, small)) (omega (arith, m, w, out_shorter, small))
 
       pub out_whole : fronts.Whole out

@@ -23,7 +23,7 @@ use Rattle.jfr_laws.proofs.Premises.{all_links, IsCheckpoint, chained_checkpoint
 use Rattle.jfr_output.specs.declared.output_records.Cursor.{Cursor}
 use Rattle.jfr_output.specs.declared.output_records.OutputRecord as contents
 use Rattle.jfr_output.specs.declared.output_records.OutputRecord.TheVariants as declared_records
-use Rattle.jfr_output.specs.OutputRecords.{IsChosen, IsCursor, IsKeptEvent, ShowsEvent, ShowsMetadata, output_record_in, events_from, event_there, link_there, remaining_output_records, is_kept_at, event_after, linked_at, link_after}
+use Rattle.jfr_output.specs.OutputRecords.{IsChosen, IsCursor, IsKeptEvent, ShowsEvent, ShowsMetadata, output_record_as, events_from, event_there, link_there, remaining_output_records, is_kept_at, event_after, linked_at, link_after}
 use Rattle.jfr_output.proofs.OutputRecordLaws.{Rises, rises_given, rises_marked, Stands, at_head, past_head, elsewhere, found_place, any_found, Occurs, AllOccur, in_order}
 
 -- Where an event, or a numbered checkpoint, starts.
@@ -252,28 +252,28 @@ chosen_event p flags c r at link event metadata (Some (declared_records.Metadata
 chosen_event p flags c r at link event metadata (Some (declared_records.Chained number x)) b e h = tt
 
 -- What stays from a record on.
-pub output_records_at : (p : Parts) (flags : List Bool) (c : Cursor) (r : Framed) → slice_get p.records c.frame ≡ Some r →
-    remaining_output_records p flags c ≡ cons_option (output_record_of p (kept_by p flags) r) (filter_map (output_record_of p (kept_by p flags)) (drop (c.frame + 1) p.records))
-output_records_at p flags c r e = ap (filter_map (output_record_of p (kept_by p flags))) (drop_at p.records c.frame r e)
+pub output_records_at : (new : Option (List ℕ)) (p : Parts) (flags : List Bool) (c : Cursor) (r : Framed) → slice_get p.records c.frame ≡ Some r →
+    remaining_output_records new p flags c ≡ cons_option (output_record_of new p (kept_by p flags) r) (filter_map (output_record_of new p (kept_by p flags)) (drop (c.frame + 1) p.records))
+output_records_at new p flags c r e = ap (filter_map (output_record_of new p (kept_by p flags))) (drop_at p.records c.frame r e)
 
-pub output_records_none : (p : Parts) (flags : List Bool) (c : Cursor) → length p.records ≤ c.frame → remaining_output_records p flags c ≡ []
-output_records_none p flags c h = ap (filter_map (output_record_of p (kept_by p flags))) (drop_all c.frame p.records h)
+pub output_records_none : (new : Option (List ℕ)) (p : Parts) (flags : List Bool) (c : Cursor) → length p.records ≤ c.frame → remaining_output_records new p flags c ≡ []
+output_records_none new p flags c h = ap (filter_map (output_record_of new p (kept_by p flags))) (drop_all c.frame p.records h)
 
-pub output_record_next : (p : Parts) (flags : List Bool) (c d : Cursor) (frames : List Framed) (at : ℕ) (o : Option contents.OutputRecord) → frames ≡ p.records → option_map (λ r. r.at) (slice_get frames c.frame) ≡ Some at → d.frame ≡ c.frame + 1 →
-    IfSome (slice_get p.records c.frame) (λ r. option_map (output_record_in p flags) o ≡ output_record_of p (kept_by p flags) r) → remaining_output_records p flags c ≡ cons_option (option_map (output_record_in p flags) o) (remaining_output_records p flags d)
-output_record_next p flags c d frames at o e h f g = by_record (slice_get p.records c.frame) refl (ap (λ rs. option_map (λ r. r.at) (slice_get rs c.frame)) (sym e) ∙ h) g
+pub output_record_next : (new : Option (List ℕ)) (p : Parts) (flags : List Bool) (c d : Cursor) (frames : List Framed) (at : ℕ) (o : Option contents.OutputRecord) → frames ≡ p.records → option_map (λ r. r.at) (slice_get frames c.frame) ≡ Some at → d.frame ≡ c.frame + 1 →
+    IfSome (slice_get p.records c.frame) (λ r. option_map (output_record_as new) o ≡ output_record_of new p (kept_by p flags) r) → remaining_output_records new p flags c ≡ cons_option (option_map (output_record_as new) o) (remaining_output_records new p flags d)
+output_record_next new p flags c d frames at o e h f g = by_record (slice_get p.records c.frame) refl (ap (λ rs. option_map (λ r. r.at) (slice_get rs c.frame)) (sym e) ∙ h) g
   where
-    by_record : (x : Option Framed) → slice_get p.records c.frame ≡ x → option_map (λ r. r.at) x ≡ Some at → IfSome x (λ r. option_map (output_record_in p flags) o ≡ output_record_of p (kept_by p flags) r) → remaining_output_records p flags c ≡ cons_option (option_map (output_record_in p flags) o) (remaining_output_records p flags d)
+    by_record : (x : Option Framed) → slice_get p.records c.frame ≡ x → option_map (λ r. r.at) x ≡ Some at → IfSome x (λ r. option_map (output_record_as new) o ≡ output_record_of new p (kept_by p flags) r) → remaining_output_records new p flags c ≡ cons_option (option_map (output_record_as new) o) (remaining_output_records new p flags d)
     by_record None e h g = cc
-    by_record (Some r) e h g = output_records_at p flags c r e ∙ (λ i. cons_option (sym g i) (filter_map (output_record_of p (kept_by p flags)) (drop (sym f i) p.records)))
+    by_record (Some r) e h g = output_records_at new p flags c r e ∙ (λ i. cons_option (sym g i) (filter_map (output_record_of new p (kept_by p flags)) (drop (sym f i) p.records)))
 
-pub told_some : (p : Parts) (flags : List Bool) (before rest : List OutputRecord) (o : Option contents.OutputRecord) → before ≡ cons_option (option_map (output_record_in p flags) o) rest → is_some o ≡ true → MatchOption o (before ≡ []) (λ s. before ≡ output_record_in p flags s ∷ rest)
-told_some p flags before rest None e h = cc
-told_some p flags before rest (Some s) e h = e
+pub told_some : (new : Option (List ℕ)) (before rest : List OutputRecord) (o : Option contents.OutputRecord) → before ≡ cons_option (option_map (output_record_as new) o) rest → is_some o ≡ true → MatchOption o (before ≡ []) (λ s. before ≡ output_record_as new s ∷ rest)
+told_some new before rest None e h = cc
+told_some new before rest (Some s) e h = e
 
-pub told_none : (p : Parts) (flags : List Bool) (before rest : List OutputRecord) (o : Option contents.OutputRecord) → before ≡ cons_option (option_map (output_record_in p flags) o) rest → is_some o ≡ false → before ≡ rest
-told_none p flags before rest None e h = e
-told_none p flags before rest (Some s) e h = cc
+pub told_none : (new : Option (List ℕ)) (before rest : List OutputRecord) (o : Option contents.OutputRecord) → before ≡ cons_option (option_map (output_record_as new) o) rest → is_some o ≡ false → before ≡ rest
+told_none new before rest None e h = e
+told_none new before rest (Some s) e h = cc
 
 rises_first : (p : ℕ) (rs : List Framed) (f : Framed → Option EventAt) → Stands event_place f → AllOccur event_place rs (filter_map f rs)
 rises_first p [] f s = tt

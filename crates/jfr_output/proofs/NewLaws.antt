@@ -16,34 +16,22 @@ use Rattle.jfr_meta.specs.Stays.{is_in}
 use Rattle.jfr_meta.specs.declared.ids.Ids.{Ids}
 use Rattle.jfr_meta.specs.Written.{IsText}
 use Rattle.jfr_meta.proofs.WithinLaws.{all_scalars}
-use Rattle.jfr_chunk.specs.Metas.{metadata_size, rebuilt, slim_of, stays_in, used_by}
-use Rattle.jfr_chunk.specs.Scrub.{written_anew}
+use Rattle.jfr_chunk.specs.Metas.{Names, is_used, metadata_size, rebuilt, slim_of, stays_in}
 use Rattle.jfr_worklist.proofs.Members.{contains_in}
 use Rattle.jfr_chunk.proofs.AllLaws.{all_get, all_in}
 use Rattle.jfr_laws.proofs.Premises.{metadata_stands, recorded}
 use Rattle.jfr_laws.proofs.AnewLaws.{is_anew}
 use Rattle.jfr_laws.proofs.Anews.{size_is}
 use Rattle.jfr_output.specs.Metadata.{IsMetadataRecord}
-use Rattle.jfr_output.specs.OutputRecords.{new_at}
 
 -- Each record of the chunk is one.
 pub record_there : (p : Parts) (a : AreParts p) (n : ℕ) (r : Framed) → slice_get p.records n ≡ Some r → IsRecord p.bytes r
 record_there p a n r e = all_get (IsRecord p.bytes) p.records n r (recorded p a) e
 
--- What takes the place of a record, by the size of the metadata record, and by its own.
-pub new_written : (p : Parts) (a : AreParts p) (kept : List EventAt) (r : Framed) → IsRecord p.bytes r → new_at (metadata_at p.bytes) (rebuilt p kept (metadata_size p)) r ≡ written_anew p kept r
-new_written p a kept r s = by_test (r.at == metadata_at p.bytes) refl
-  where
-    by_test : (t : Bool) → (r.at == metadata_at p.bytes) ≡ t → (if t then rebuilt p kept (metadata_size p) else None) ≡ (if t then rebuilt p kept r.size else None)
-    by_test false e = refl
-    by_test true e =
-        let same : r ≡ a.metadata_record = record_one p.bytes r a.metadata_record s (metadata_stands p a) (eqb-true r.at (metadata_at p.bytes) e ∙ sym a.metadata_there.place) in
-        ap (rebuilt p kept) (size_is p a ∙ sym (ap (λ (z : Framed). z.size) same))
-
 -- The slim record is the new one, where its strings are texts.
-pub slim_is_new : (p : Parts) (kept : List EventAt) (room : ℕ) (o : Option (List ℕ)) → o ≡ slim_in p.body (stays_in p kept) room → IfSome o (λ x. AllByRecursion IsText (slim_of p kept).strings) → o ≡ rebuilt p kept room
+pub slim_is_new : (names : Names) (p : Parts) (kept : List EventAt) (room : ℕ) (o : Option (List ℕ)) → o ≡ slim_in p.body (stays_in names p kept) room → IfSome o (λ x. AllByRecursion IsText (slim_of names p kept).strings) → o ≡ rebuilt names p kept room
 unfolding rebuilt
-slim_is_new p kept room o e t = by_value (slim_in p.body (stays_in p kept) room) e o refl t
+slim_is_new names p kept room o e t = by_value (slim_in p.body (stays_in names p kept) room) e o refl t
   where
     nothing : Option (List ℕ)
     nothing = None
@@ -52,26 +40,26 @@ slim_is_new p kept room o e t = by_value (slim_in p.body (stays_in p kept) room)
     none_either true = refl
     none_either false = refl
 
-    by_value : (w : Option (List ℕ)) → o ≡ w → (u : Option (List ℕ)) → o ≡ u → IfSome u (λ x. AllByRecursion IsText (slim_of p kept).strings) → o ≡ (if list_all scalars (slim_of p kept).strings then w else None)
-    by_value None e u q t = e ∙ none_either (list_all scalars (slim_of p kept).strings)
-    by_value (Some y) e (Some x) q t = e ∙ ap (λ c. if c then Some y else None) (sym (all_scalars (slim_of p kept).strings t))
+    by_value : (w : Option (List ℕ)) → o ≡ w → (u : Option (List ℕ)) → o ≡ u → IfSome u (λ x. AllByRecursion IsText (slim_of names p kept).strings) → o ≡ (if list_all scalars (slim_of names p kept).strings then w else None)
+    by_value None e u q t = e ∙ none_either (list_all scalars (slim_of names p kept).strings)
+    by_value (Some y) e (Some x) q t = e ∙ ap (λ c. if c then Some y else None) (sym (all_scalars (slim_of names p kept).strings t))
     by_value (Some y) e None q t = let z : None ≡ Some y = sym q ∙ e in cc
 
 -- What is new is a metadata record.
-pub new_is_record : (p : Parts) (kept : List EventAt) (room : ℕ) (o : Option (List ℕ)) → o ≡ rebuilt p kept room → IfSome o IsMetadataRecord
-new_is_record p kept room None e = tt
-new_is_record p kept room (Some x) e = record { body = slim_of p kept; bytes = (is_anew p kept room x (sym e)).bytes }
+pub new_is_record : (names : Names) (p : Parts) (kept : List EventAt) (room : ℕ) (o : Option (List ℕ)) → o ≡ rebuilt names p kept room → IfSome o IsMetadataRecord
+new_is_record names p kept room None e = tt
+new_is_record names p kept room (Some x) e = record { body = slim_of names p kept; bytes = (is_anew names p kept room x (sym e)).bytes }
 
 -- The classes that stay, by what a set of ids has.
-pub stays_are : (p : Parts) (kept : List EventAt) (b : Body) (k : Classes) (used stay : ℕ → Bool) → b ≡ p.body → k ≡ p.classes → ((id : ℕ) → used id ≡ used_by kept id) → ((id : ℕ) → stay id ≡ stays_of b k used id) → stay ≡ stays_in p kept
+pub stays_are : (names : Names) (p : Parts) (kept : List EventAt) (b : Body) (k : Classes) (used stay : ℕ → Bool) → b ≡ p.body → k ≡ p.classes → ((id : ℕ) → used id ≡ is_used names p kept id) → ((id : ℕ) → stay id ≡ stays_of b k used id) → stay ≡ stays_in names p kept
 unfolding stays_in
-stays_are p kept b k used stay e f g h = λ i id. (h id ∙ (λ j. stays_of (e j) (f j) (λ x. g x j) id)) i
+stays_are names p kept b k used stay e f g h = λ i id. (h id ∙ (λ j. stays_of (e j) (f j) (λ x. g x j) id)) i
 
 -- The set of these classes, if there is one.
-pub stays_ok : {E : Type 0} (p : Parts) (kept : List EventAt) (b : Body) (k : Classes) (used : ℕ → Bool) (r : Result Ids E) → b ≡ p.body → k ≡ p.classes → ((id : ℕ) → used id ≡ used_by kept id)
-    → IfOk r (λ stay. (id : ℕ) → is_in stay id ≡ stays_of b k used id) → IfOk r (λ stay. (id : ℕ) → is_in stay id ≡ stays_in p kept id)
-stays_ok p kept b k used (Err e) f g h i = tt
-stays_ok p kept b k used (Ok stay) f g h i = λ id. ap (λ (z : ℕ → Bool). z id) (stays_are p kept b k used (is_in stay) f g h i)
+pub stays_ok : {E : Type 0} (names : Names) (p : Parts) (kept : List EventAt) (b : Body) (k : Classes) (used : ℕ → Bool) (r : Result Ids E) → b ≡ p.body → k ≡ p.classes → ((id : ℕ) → used id ≡ is_used names p kept id)
+    → IfOk r (λ stay. (id : ℕ) → is_in stay id ≡ stays_of b k used id) → IfOk r (λ stay. (id : ℕ) → is_in stay id ≡ stays_in names p kept id)
+stays_ok names p kept b k used (Err e) f g h i = tt
+stays_ok names p kept b k used (Ok stay) f g h i = λ id. ap (λ (z : ℕ → Bool). z id) (stays_are names p kept b k used (is_in stay) f g h i)
 
 -- A record that starts where the metadata record does has its size.
 pub frame_size : (p : Parts) (a : AreParts p) (r : Framed) → StartsAt p.records (metadata_at p.bytes) 0 r → r.size ≡ metadata_size p
@@ -81,13 +69,13 @@ frame_size p a r s =
     ap (λ (z : Framed). z.size) same ∙ sym (size_is p a)
 
 -- The slim record that a call gives is the new one.
-module _ {V E : Type 0} (items : V → List ℕ) (p : Parts) (kept : List EventAt) (room : ℕ) where
-  pub slim_found : (r : Result (Option V) E) → IfOk r (λ o. option_map items o ≡ slim_in p.body (stays_in p kept) room) → IfOk r (λ o. IfSome o (λ v. AllByRecursion IsText (slim_of p kept).strings)) → IfOk r (λ o. option_map items o ≡ rebuilt p kept room)
+module _ {V E : Type 0} (items : V → List ℕ) (names : Names) (p : Parts) (kept : List EventAt) (room : ℕ) where
+  pub slim_found : (r : Result (Option V) E) → IfOk r (λ o. option_map items o ≡ slim_in p.body (stays_in names p kept) room) → IfOk r (λ o. IfSome o (λ v. AllByRecursion IsText (slim_of names p kept).strings)) → IfOk r (λ o. option_map items o ≡ rebuilt names p kept room)
   slim_found (Err w) e t = tt
-  slim_found (Ok None) e t = slim_is_new p kept room None e tt
-  slim_found (Ok (Some v)) e t = slim_is_new p kept room (Some (items v)) e t
+  slim_found (Ok None) e t = slim_is_new names p kept room None e tt
+  slim_found (Ok (Some v)) e t = slim_is_new names p kept room (Some (items v)) e t
 
-  pub found_record : (r : Result (Option V) E) → IfOk r (λ o. option_map items o ≡ rebuilt p kept room) → IfOk r (λ o. IfSome o (λ v. IsMetadataRecord (items v)))
+  pub found_record : (r : Result (Option V) E) → IfOk r (λ o. option_map items o ≡ rebuilt names p kept room) → IfOk r (λ o. IfSome o (λ v. IsMetadataRecord (items v)))
   found_record (Err w) e = tt
   found_record (Ok None) e = tt
-  found_record (Ok (Some v)) e = new_is_record p kept room (Some (items v)) e
+  found_record (Ok (Some v)) e = new_is_record names p kept room (Some (items v)) e

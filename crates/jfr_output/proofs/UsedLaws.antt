@@ -1,12 +1,14 @@
 -- The ids of the classes of kept events, while they are collected.
-use Rattle.std.specs.Prelude.{◌≡◌, ◌⊎◌, ℕ, zero, suc, ◌+◌, ◌<◌, ◌≤◌, Bool, true, false, ◌||◌, ◌==◌, List, [], ◌∷◌, ◌++◌, length, replicate, slice_get, slice_index_or, slice_set, take, Option, Some, None, option_map, unwrap_or, if◌then◌else◌}
+use Rattle.std.specs.Prelude.{◌≡◌, ◌↔◌, ◌⊎◌, IsTrue, IsSome, ℕ, zero, suc, ◌+◌, ◌<◌, ◌≤◌, Bool, true, false, ◌&&◌, ◌||◌, ◌==◌, List, [], ◌∷◌, ◌++◌, length, replicate, slice_get, slice_index_or, slice_set, take, Option, Some, None, option_map, unwrap_or, if◌then◌else◌}
 use Rattle.std.specs.List.{list_all, list_any}
+use Rattle.std.specs.Option.{option_map_or}
 use Rattle.std.proofs.Common.{ap, arith, refl, sym, ◌∙◌, subst, inl, inr}
 use Rattle.std.proofs.lemmas.Bool.{eqb-true}
 use Rattle.std.proofs.lemmas.List.{length-take-le, take_all}
 use Rattle.std.proofs.lemmas.List.Folds.{list_any-append}
+use Rattle.jfr_layout.specs.Classes.{Class, Classes}
 use Rattle.jfr_layout.proofs.Lists.{present, take_next}
-use Rattle.jfr_chunk.specs.Metas.{used_by}
+use Rattle.jfr_chunk.specs.Metas.{Names, used_by, is_described}
 use Rattle.jfr_chunk.specs.Parts.{EventAt}
 use Rattle.jfr_chunk.specs.Reach.{marked}
 
@@ -17,6 +19,42 @@ marked_more [] (y ∷ xs) f x h = absurd (omega arith)
 marked_more (g ∷ fs) [] f x h = absurd (omega arith)
 marked_more (true ∷ fs) (y ∷ xs) f x h = ap (λ z. y ∷ z) (marked_more fs xs f x (omega arith))
 marked_more (false ∷ fs) (y ∷ xs) f x h = marked_more fs xs f x (omega arith)
+
+pub or_false : (b : Bool) → (b || false) ≡ b
+or_false true = refl
+or_false false = refl
+
+or_assoc : (a b c : Bool) → ((a || b) || c) ≡ (a || (b || c))
+or_assoc true b c = refl
+or_assoc false b c = refl
+
+-- The described ones among one class more.
+pub described_next : (names : Names) (k : Classes) (n : ℕ) (c : Class) (id : ℕ) (old now new : Bool) → slice_get k n ≡ Some c → now ≡ (old || is_described names (take n k) id) → new ≡ (now || ((c.id == id) && names c.name)) → new ≡ (old || is_described names (take (n + 1) k) id)
+described_next names k n c id old now new g e f =
+    f ∙ (ap (λ z. z || ((c.id == id) && names c.name)) e ∙ (or_assoc old (is_described names (take n k) id) ((c.id == id) && names c.name)
+    ∙ ap (λ z. old || z) (ap (λ z. is_described names (take n k) id || z) (sym (or_false ((c.id == id) && names c.name)))
+    ∙ (sym (list_any-append (λ (d : Class). (d.id == id) && names d.name) (take n k) (c ∷ [])) ∙ ap (λ m. is_described names m id) (sym (take_next k n c g))))))
+
+pub described_end : (names : Names) (k : Classes) (n id : ℕ) → length k ≤ n → is_described names (take n k) id ≡ is_described names k id
+described_end names k n id h = ap (λ m. is_described names m id) (take_all n k h)
+
+-- Without names nothing is described.
+pub described_none : (names : Names) (k : Classes) (id : ℕ) → ((name : List ℕ) → names name ≡ false) → is_described names k id ≡ false
+described_none names [] id f = refl
+described_none names (c ∷ k) id f = by_test (c.id == id) (described_none names k id f)
+  where
+    by_test : (t : Bool) → is_described names k id ≡ false → ((t && names c.name) || is_described names k id) ≡ false
+    by_test true h = λ i. f c.name i || h i
+    by_test false h = h
+
+-- So the used classes are those of the events.
+pub all_used : (names : Names) (k : Classes) (id : ℕ) (used : Bool) → ((name : List ℕ) → names name ≡ false) → used ≡ (used || is_described names k id)
+all_used names k id used f = sym (ap (λ z. used || z) (described_none names k id f) ∙ or_false used)
+
+-- No patterns match nothing.
+pub no_patterns : (matches : List ℕ → Bool) (o : Option (List (List ℕ))) (t : Bool) → IsTrue t ↔ IsSome o → t ≡ false → option_map_or (list_any matches) o false ≡ false
+no_patterns matches None t h e = refl
+no_patterns matches (Some x) t h e = let z : t ≡ true = h.1 refl in let y : true ≡ false = sym z ∙ e in cc
 
 -- The kept events before event `n` use this class.
 abbrev pub used_before : List Bool → List EventAt → ℕ → ℕ → Bool
@@ -32,10 +70,6 @@ module _ (fs : List Bool) (es : List EventAt) (same : length fs ≡ length es) w
   used_next : (n : ℕ) (f : Bool) (e : EventAt) (id : ℕ) → n < length es → slice_get fs n ≡ Some f → slice_get es n ≡ Some e →
       used_before fs es (n + 1) id ≡ (used_before fs es n id || used_by (marked (f ∷ []) (e ∷ [])) id)
   used_next n f e id h g i = ap (λ z. used_by z id) (kept_next n f e h g i) ∙ list_any-append (λ (x : EventAt). x.record_of.type_id == id) (marked (take n fs) (take n es)) (marked (f ∷ []) (e ∷ []))
-
-  or_false : (b : Bool) → (b || false) ≡ b
-  or_false true = refl
-  or_false false = refl
 
   -- An event that isn't kept uses nothing.
   pub used_skip : (n id : ℕ) → n < length es → unwrap_or (slice_get fs n) false ≡ false → used_before fs es (n + 1) id ≡ used_before fs es n id

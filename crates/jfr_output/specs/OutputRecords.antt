@@ -7,7 +7,7 @@ use Rattle.jfr_pool.specs.declared.link.Link.{Link}
 use Rattle.jfr_chunk.specs.Parts.{Parts, EventAt, AreParts, event_of, event_records, events_of, metadata_at}
 use Rattle.jfr_chunk.specs.Reach.{marked, kept_by}
 use Rattle.jfr_chunk.specs.Scrub.{OutputRecord, Whole, Chained, Rebuilt, output_record_of}
-use Rattle.jfr_chunk.specs.Metas.{metadata_size, rebuilt}
+use Rattle.jfr_chunk.specs.Metas.{Names, new_metadata}
 use Rattle.jfr_output.specs.declared.output_records.OutputRecord as contents
 use Rattle.jfr_output.specs.declared.output_records.OutputRecord.TheVariants as declared_records
 use Rattle.jfr_output.specs.declared.output_records.Cursor.{Cursor}
@@ -17,15 +17,11 @@ abbrev pub whole_or : Option (List ℕ) → Framed → OutputRecord
 whole_or None r = Whole r
 whole_or (Some x) r = Rebuilt r x
 
--- The bytes that replace a record: for the record at this offset, the new metadata record, if there is one.
-abbrev pub new_at : ℕ → Option (List ℕ) → Framed → Option (List ℕ)
-new_at place new r = if r.at == place then new else None
-
 -- The code's `OutputRecord`, as an output record, given the new metadata record, if there is one.
 abbrev pub output_record_as : Option (List ℕ) → contents.OutputRecord → OutputRecord
-output_record_as new (declared_records.Event number r) = Whole r
-output_record_as new (declared_records.Metadata r) = whole_or new r
-output_record_as new (declared_records.Chained number l) = Chained number l
+output_record_as slim (declared_records.Event number r) = Whole r
+output_record_as slim (declared_records.Metadata r) = whole_or slim r
+output_record_as slim (declared_records.Chained number l) = Chained number l
 
 -- The code's `OutputRecord` is `Metadata` exactly if its record starts at this offset.
 abbrev pub ShowsMetadata : ℕ → contents.OutputRecord → Type 0
@@ -33,13 +29,10 @@ ShowsMetadata place (declared_records.Event number r) = (r.at == place) ≡ fals
 ShowsMetadata place (declared_records.Metadata r) = (r.at == place) ≡ true
 ShowsMetadata place (declared_records.Chained number l) = (l.frame.at == place) ≡ false
 
--- The new metadata record if these events are kept, if it is built anew.
-abbrev pub new_metadata : Parts → List Bool → Option (List ℕ)
-new_metadata p flags = rebuilt p (kept_by p flags) (metadata_size p)
-
--- The code's `OutputRecord`, as an output record of a chunk of which these events are kept.
-abbrev pub output_record_in : Parts → List Bool → contents.OutputRecord → OutputRecord
-output_record_in p flags s = output_record_as (new_metadata p flags) s
+-- This is the new metadata record if these events are kept, for some set of names.
+pub record IsNewMetadata (p : Parts) (kept : List EventAt) (slim : Option (List ℕ)) : Type 0 where
+  pub names : Names
+  pub is : slim ≡ new_metadata names p kept
 
 -- The events of some of the records.
 abbrev pub events_from : Parts → List Framed → List EventAt
@@ -80,9 +73,9 @@ pub record IsCursor (p : Parts) (flags : List Bool) (c : Cursor) : Type 0 where
   pub kept : marked (drop c.event flags) (drop c.event (events_of p)) ≡ filter_map (event_there (kept_by p flags)) (drop c.frame p.records)
   pub links : enumerate_from c.link (drop c.link (reverse p.chain)) ≡ filter_map (link_there p) (drop c.frame p.records)
 
--- The output records for the records from the cursor's on.
-abbrev pub remaining_output_records : Parts → List Bool → Cursor → List OutputRecord
-remaining_output_records p flags c = filter_map (output_record_of p (kept_by p flags)) (drop c.frame p.records)
+-- The output records for the records from the cursor's on, given the new metadata record, if there is one.
+abbrev pub remaining_output_records : Option (List ℕ) → Parts → List Bool → Cursor → List OutputRecord
+remaining_output_records slim p flags c = filter_map (output_record_of slim p (kept_by p flags)) (drop c.frame p.records)
 
 -- Whether the event with this number starts at this offset and is kept.
 abbrev pub is_kept_at : List EventAt → List Bool → ℕ → ℕ → Bool

@@ -1,45 +1,64 @@
 //! The metadata record of the output.
-ghost use Rattle.std.specs.Prelude.{◌≡◌, ◌<◌, ◌||◌, ◌==◌, ℕ, length, option_map, slice_get, IfOk, IfSome, OnOk};
+ghost use Rattle.std.specs.Prelude.{◌≡◌, ◌<◌, ◌&&◌, ◌||◌, ◌==◌, ℕ, length, option_map, slice_get, IfOk, IfSome, OnOk};
 ghost use Rattle.jfr_meta.specs.Stays.{is_in};
-ghost use Rattle.jfr_chunk.specs.Metas.{stays_in, used_by};
+ghost use Rattle.jfr_layout.specs.declared.class.ClassInfo.{ClassInfo};
+ghost use Rattle.jfr_filter.specs.Filters.{describes};
+ghost use Rattle.jfr_chunk.specs.Metas.{is_described, is_used, new_metadata, stays_in};
 ghost use Rattle.jfr_chunk.specs.Parts.{events_of};
 ghost use Rattle.jfr_chunk.specs.Reach.{kept_by};
 ghost use Rattle.jfr_output.specs.Metadata.{IsMetadataRecord};
-ghost use Rattle.jfr_output.specs.OutputRecords.{new_metadata};
 
 use jfr_base::NoMemory;
 use jfr_chunk::{Chunk, Kept, UsedClasses};
+use jfr_filter::{Filter, Side};
+use jfr_layout::{ClassInfo, Classes};
 use jfr_meta::{Ids, slim, staying};
 use std::alloc::Global;
 
-/// The metadata record without the event classes that the kept events don't need; `None` if the output keeps
-/// the record of the chunk, since the new one would be longer.
-pub fn slim_metadata(alloc: Global, chunk: &Chunk, kept: &Kept) -> Result<Option<Vec<u8>>, NoMemory>
+/// The metadata record without the event classes that the output doesn't describe: those that no kept event
+/// needs, and whose names no pattern of `Side::Describe` matches. `None` if the output keeps the record of the
+/// chunk, since the new one would be longer.
+pub fn slim_metadata(
+    alloc: Global,
+    chunk: &Chunk,
+    kept: &Kept,
+    filter: &Filter,
+) -> Result<Option<Vec<u8>>, NoMemory>
     requires { length kept.now ≡ length (events_of chunk.now) }
-    ensures exact { IfOk result (λ found. option_map (λ v. v.items) found ≡ new_metadata chunk.now kept.now) }
+    ensures exact { IfOk result (λ found. option_map (λ v. v.items) found ≡ new_metadata (describes filter.now) chunk.now (kept_by chunk.now kept.now)) }
     ensures metadata { IfOk result (λ found. IfSome found (λ v. IsMetadataRecord v.items)) }
 {
     chunk.parts_are_valid();
-    let stay = staying_classes(alloc, chunk, kept)?;
+    let stay = staying_classes(alloc, chunk, kept, filter)?;
     slim(alloc, chunk.metadata(), &stay, chunk.metadata_frame().size)
 }
 
 /// The ids of the classes that the output describes if its metadata record is rebuilt.
-fn staying_classes(alloc: Global, chunk: &Chunk, kept: &Kept) -> Result<Ids, NoMemory>
+fn staying_classes(
+    alloc: Global,
+    chunk: &Chunk,
+    kept: &Kept,
+    filter: &Filter,
+) -> Result<Ids, NoMemory>
     requires { length kept.now ≡ length (events_of chunk.now) }
-    ensures exact { IfOk result (λ stay. (id : ℕ) → is_in stay id ≡ stays_in chunk.now (kept_by chunk.now kept.now) id) }
+    ensures exact { IfOk result (λ stay. (id : ℕ) → is_in stay id ≡ stays_in (describes filter.now) chunk.now (kept_by chunk.now kept.now) id) }
 {
-    if kept.are_all() {
+    if !filter.has(Side::Describe) && kept.are_all() {
         return staying(alloc, chunk.metadata(), chunk.event_classes());
     }
-    let used = used_classes(alloc, chunk, kept)?;
+    let used = used_classes(alloc, chunk, kept, filter)?;
     staying(alloc, chunk.metadata(), used.ids())
 }
 
-/// The classes of the kept events.
-fn used_classes(alloc: Global, chunk: &Chunk, kept: &Kept) -> Result<UsedClasses, NoMemory>
+/// The classes of the kept events, and those that the filter describes without events.
+fn used_classes(
+    alloc: Global,
+    chunk: &Chunk,
+    kept: &Kept,
+    filter: &Filter,
+) -> Result<UsedClasses, NoMemory>
     requires { length kept.now ≡ length (events_of chunk.now) }
-    ensures { IfOk result (λ used. (id : ℕ) → is_in used.ids id ≡ used_by (kept_by chunk.now kept.now) id) }
+    ensures { IfOk result (λ used. (id : ℕ) → is_in used.ids id ≡ is_used (describes filter.now) chunk.now (kept_by chunk.now kept.now) id) }
 {
     let mut used = UsedClasses::new(alloc);
     for number in 0..chunk.event_count() {
@@ -48,7 +67,32 @@ fn used_classes(alloc: Global, chunk: &Chunk, kept: &Kept) -> Result<UsedClasses
         }
         add_class(&mut used, chunk, number)?;
     }
+    add_described(&mut used, chunk.classes(), filter)?;
     Ok(used)
+}
+
+/// Adds the classes that the filter describes, whether or not events of them are kept.
+fn add_described(used: &mut UsedClasses, classes: &Classes, filter: &Filter) -> Result<(), NoMemory>
+    ensures { OnOk result ((id : ℕ) → is_in used.new.ids id ≡ (is_in used.old.ids id || is_described (describes filter.now) classes.now id)) }
+{
+    for at in 0..classes.len() {
+        add_if_described(used, classes.class_at(at), filter)?;
+    }
+    Ok(())
+}
+
+/// Adds the class if the filter describes it.
+fn add_if_described(
+    used: &mut UsedClasses,
+    class: &ClassInfo,
+    filter: &Filter,
+) -> Result<(), NoMemory>
+    ensures { OnOk result ((id : ℕ) → is_in used.new.ids id ≡ (is_in used.old.ids id || ((class.now.id == id) && describes filter.now class.now.name))) }
+{
+    if !filter.matches(Side::Describe, class.name.as_str()) {
+        return Ok(());
+    }
+    used.add(class.id)
 }
 
 /// Adds the class of event `number`.

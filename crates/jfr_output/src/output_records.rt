@@ -3,7 +3,7 @@ ghost use Rattle.std.specs.Prelude.{◌≡◌, ◌||◌, ◌+◌, ◌-◌, ◌^�
 ghost use Rattle.jfr_chunk.specs.Parts.{events_of, metadata_at};
 ghost use Rattle.jfr_chunk.specs.Reach.{kept_by};
 ghost use Rattle.jfr_chunk.specs.Scrub.{output_record_by, output_record_of};
-ghost use Rattle.jfr_output.specs.OutputRecords.{IsChosen, IsCursor, ShowsEvent, ShowsMetadata, event_after, is_kept_at, link_after, linked_at, output_record_as, output_record_in, remaining_output_records};
+ghost use Rattle.jfr_output.specs.OutputRecords.{IsChosen, IsCursor, ShowsEvent, ShowsMetadata, event_after, is_kept_at, link_after, linked_at, output_record_as, remaining_output_records};
 
 use jfr_chunk::{Chunk, Kept};
 use jfr_frame::{Framed, Frames};
@@ -34,7 +34,7 @@ pub struct Cursor {
 pub fn next_output_record(chunk: &Chunk, kept: &Kept, cursor: &mut Cursor) -> Option<OutputRecord>
     requires { IsCursor chunk.now kept.now cursor.old }
     ensures cursor { IsCursor chunk.now kept.now cursor.new }
-    ensures exact { MatchOption result (remaining_output_records chunk.now kept.now cursor.old ≡ []) (λ s. remaining_output_records chunk.now kept.now cursor.old ≡ output_record_in chunk.now kept.now s ∷ remaining_output_records chunk.now kept.now cursor.new) }
+    ensures exact { (slim : Option (List ℕ)) → MatchOption result (remaining_output_records slim chunk.now kept.now cursor.old ≡ []) (λ s. remaining_output_records slim chunk.now kept.now cursor.old ≡ output_record_as slim s ∷ remaining_output_records slim chunk.now kept.now cursor.new) }
     ensures metadata { IfSome result (ShowsMetadata (metadata_at chunk.now.bytes)) }
     ensures event { IfSome result (ShowsEvent chunk.now kept.now) }
 {
@@ -70,7 +70,7 @@ fn pass_record(chunk: &Chunk, kept: &Kept, cursor: &mut Cursor, at: usize) -> Op
     requires more { cursor.old.frame < 2 ^ 64 - 1 }
     ensures cursor { IsCursor chunk.now kept.now cursor.new }
     ensures next { cursor.new.frame ≡ cursor.old.frame + 1 }
-    ensures exact { IfSome (slice_get chunk.now.records cursor.old.frame) (λ r. option_map (output_record_in chunk.now kept.now) result ≡ output_record_of chunk.now (kept_by chunk.now kept.now) r) }
+    ensures exact { (slim : Option (List ℕ)) → IfSome (slice_get chunk.now.records cursor.old.frame) (λ r. option_map (output_record_as slim) result ≡ output_record_of slim chunk.now (kept_by chunk.now kept.now) r) }
     ensures metadata { IfSome result (ShowsMetadata (metadata_at chunk.now.bytes)) }
     ensures event { IfSome result (ShowsEvent chunk.now kept.now) }
 {
@@ -92,7 +92,7 @@ fn chosen(
     frames: &Frames,
     number: usize,
 ) -> Option<OutputRecord>
-    ensures exact { (new : Option (List ℕ)) → IfSome (slice_get frames.now number) (λ r. option_map (output_record_as new) result ≡ output_record_by link (is_some event || is_metadata) (if is_metadata then new else None) r) }
+    ensures exact { (slim : Option (List ℕ)) → IfSome (slice_get frames.now number) (λ r. option_map (output_record_as slim) result ≡ output_record_by link (is_some event || is_metadata) (if is_metadata then slim else None) r) }
     ensures chosen { IfSome (slice_get frames.now number) (λ r. IfSome result (IsChosen link event is_metadata r)) }
 {
     if let Some((number, link)) = link {

@@ -30,7 +30,7 @@ use Rattle.jfr_laws.proofs.Same.{chosen_events}
 use Rattle.jfr_renumber.specs.Firsts.{firsts_by, same_new}
 use Rattle.jfr_renumber.specs.Numbers.{NumberedPairs, number_of, number_or_zero}
 use Rattle.jfr_renumber.specs.Meaning.{AreNewKeys}
-use Rattle.jfr_renumber.specs.Renumber.{Used, assembled_by, entry_bytes, event_bytes, firsts, group_bytes, new_bytes, new_key, new_key_of, pair_of, renumber_of, together, used_keys, whole_bytes}
+use Rattle.jfr_renumber.specs.Renumber.{Used, assembled_by, entry_bytes, event_bytes, firsts, group_bytes, new_bytes, new_key, new_key_of, pair_of, renumber_with, together, used_keys, whole_bytes}
 use Rattle.jfr_renumber.proofs.FirstsLaws.{firsts_same}
 use Rattle.jfr_renumber.proofs.LawLaws.{kept_nodes, new_keys_are}
 use Rattle.jfr_renumber.proofs.NumberLaws.{any_of}
@@ -160,6 +160,6 @@ module _ (p : Parts) (a : AreParts p) (flags : List Bool) where
         (groups_same (by_pool these) (all_in_groups SameEntry (by_pool these) all))
 
     -- So the output with these keys is the output with the new ones.
-    pub output_same : assembled_by p (new_bytes new p kept (firsts p kept)) (output_records p kept) ≡ renumber_of p kept
-    unfolding renumber_of
-    output_same = λ i. assembled_by p (λ s at older. record_same s at older i) (output_records p kept)
+    pub output_same : (slim : Option (List ℕ)) → assembled_by p (new_bytes new p kept (firsts p kept)) (output_records slim p kept) ≡ renumber_with slim p kept
+    unfolding renumber_with
+    output_same slim = λ i. assembled_by p (λ s at older. record_same s at older i) (output_records slim p kept)

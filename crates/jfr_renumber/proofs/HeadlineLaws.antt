@@ -8,6 +8,8 @@ use Rattle.jfr_header.specs.declared.ending.Ending.{Ending}
 use Rattle.jfr_header.specs.declared.ending.Ending.TheVariants as ending
 use Rattle.jfr_header.specs.Fronts.{Whole}
 use Rattle.jfr_filter.specs.Filters.{Given}
+use Rattle.jfr_chunk.specs.Metas.{Names}
+use Rattle.jfr_filter.specs.Filters.{describes}
 use Rattle.jfr_plan.specs.Ends.{Fine, Refused}
 use Rattle.jfr_plan.specs.Effects.{without_sink}
 use Rattle.jfr_plan.specs.Clauses.{over, Ended}
@@ -27,17 +29,17 @@ use Rattle.jfr_renumber.specs.Renumbers.{renumbered, renumbered_by, renumbering}
 use Rattle.jfr_renumber.proofs.Renumbered.{is_renumbered}
 
 -- The output of a chunk, from what is known of it.
-made_output : (g : Given) (c b : List ℕ) (p : Parts) → p.bytes ≡ c → AreParts p → b ≡ renumber_of p (kept_of g p) → IsRenumbered p (kept_of g p) → IsRenumberedOutput g c b
+made_output : (g : Given) (c b : List ℕ) (p : Parts) → p.bytes ≡ c → AreParts p → b ≡ renumber_of (describes g) p (kept_of g p) → IsRenumbered (describes g) p (kept_of g p) → IsRenumberedOutput g c b
 made_output g c b p h a e r = record { parts = p; bytes = h; valid = a; becomes = e; renumbered = r }
 
 -- The output of an accepted chunk with the events that are chosen.
-renumbered_with : (p : Parts) (flags : List Bool) (kept : List EventAt) → kept ≡ kept_by p flags → Whole p.bytes → AreParts p → IsRenumbered p kept
-renumbered_with p flags kept e w a = subst (IsRenumbered p) (sym e) (is_renumbered p a flags w)
+renumbered_with : (names : Names) (p : Parts) (flags : List Bool) (kept : List EventAt) → kept ≡ kept_by p flags → Whole p.bytes → AreParts p → IsRenumbered names p kept
+renumbered_with names p flags kept e w a = subst (IsRenumbered names p) (sym e) (is_renumbered names p a flags w)
 
-accepted_output : (g : Given) (c : List ℕ) (p : Parts) → Whole c → read_parts c ≡ Ok p → IsRenumberedOutput g c (renumber_of p (kept_of g p))
+accepted_output : (g : Given) (c : List ℕ) (p : Parts) → Whole c → read_parts c ≡ Ok p → IsRenumberedOutput g c (renumber_of (describes g) p (kept_of g p))
 accepted_output g c p w e =
     let h : (p.bytes ≡ c) × AreParts p = ((is_computed c w.long).parts p).1 e in
-    made_output g c (renumber_of p (kept_of g p)) p h.0 h.1 refl (renumbered_with p (chosen g p) (kept_of g p) refl (subst Whole (sym h.0) w) h.1)
+    made_output g c (renumber_of (describes g) p (kept_of g p)) p h.0 h.1 refl (renumbered_with (describes g) p (chosen g p) (kept_of g p) refl (subst Whole (sym h.0) w) h.1)
 
 some_none : (flaw : Flaw) → Some flaw ≡ None → ⊥
 some_none flaw e = cc
@@ -55,8 +57,8 @@ is_output g c w n = renumbered_one g c (read_parts c) w refl n
 outputs_whole : (g : Given) → MakesWhole refusal_of (renumbered g)
 outputs_whole g c w n =
     let s = is_output g c w n in
-    let k : length (renumber_of s.parts (kept_of g s.parts)) ≤ length s.parts.bytes = s.renumbered.size in
-    let m : length (renumbered g c) ≡ length (renumber_of s.parts (kept_of g s.parts)) = ap (λ (z : List ℕ). length z) s.becomes in
+    let k : length (renumber_of (describes g) s.parts (kept_of g s.parts)) ≤ length s.parts.bytes = s.renumbered.size in
+    let m : length (renumbered g c) ≡ length (renumber_of (describes g) s.parts (kept_of g s.parts)) = ap (λ (z : List ℕ). length z) s.becomes in
     let l : length s.parts.bytes ≡ length c = ap (λ (z : List ℕ). length z) s.bytes in
     (subst Whole (sym s.becomes) s.renumbered.whole, omega arith)
 
@@ -67,6 +69,6 @@ headline g input output = made_by_plan refusal_of (renumbered g) input output (R
     (has_output refusal_of (renumbered g) (IsRenumberedOutput g) (is_output g) (written_chunks refusal_of (renumbered g) (outputs_whole g)) input output)
 
 -- What a chunk is read as is renumbered.
-pub made_of : (g : Given) (c b : List ℕ) (p : Parts) → read_parts c ≡ Ok p → b ≡ renumber_of p (kept_of g p) → (refusal_of c ≡ None) × (b ≡ renumbered g c)
+pub made_of : (g : Given) (c b : List ℕ) (p : Parts) → read_parts c ≡ Ok p → b ≡ renumber_of (describes g) p (kept_of g p) → (refusal_of c ≡ None) × (b ≡ renumbered g c)
 unfolding refusal_of renumbered
 made_of g c b p e h = (ap flaw_in e, h ∙ sym (ap (renumbered_by g) e))

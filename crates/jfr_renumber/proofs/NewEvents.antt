@@ -9,6 +9,7 @@ use Rattle.jfr_frame.specs.declared.framed.Framed.{Framed}
 use Rattle.jfr_frame.specs.Records.{IsRecord}
 use Rattle.jfr_chunk.specs.Parts.{Parts, EventAt, AreParts, metadata_at}
 use Rattle.jfr_chunk.specs.Reach.{kept_by, marked}
+use Rattle.jfr_chunk.specs.Metas.{Names, new_metadata}
 use Rattle.jfr_chunk.specs.Scrub.{OutputRecord, Whole, Chained, Rebuilt, Written, is_kept_or_metadata, output_record_by, written_anew}
 use Rattle.jfr_worklist.specs.Members.{In}
 use Rattle.jfr_laws.proofs.ReadBack.{moved_frame}
@@ -31,12 +32,12 @@ find_some {X = X} test (y ∷ xs) e = by_test (test y) e (find_some test xs)
     by_test true h f = (y, refl)
     by_test false h f = f h
 
-module _ (p : Parts) (a : AreParts p) (flags : List Bool) (n : Anew p a (kept_by p flags)) (new : ℕ × ℕ → ℕ) (most : (t : ℕ × ℕ) → new t ≤ t.1) (fm : List Bool) (agree : AllByRecursion (λ x. Agree p.classes n.classes x.class) (marked fm p.entries)) (b : List ℕ) where
+module _ (names : Names) (p : Parts) (a : AreParts p) (flags : List Bool) (n : Anew names p a (kept_by p flags)) (new : ℕ × ℕ → ℕ) (most : (t : ℕ × ℕ) → new t ≤ t.1) (fm : List Bool) (agree : AllByRecursion (λ x. Agree p.classes n.classes x.class) (marked fm p.entries)) (b : List ℕ) where
   abbrev these : List EventAt
-  these = kept p a flags n new most fm agree
+  these = kept names p a flags n new most fm agree
 
   abbrev written_bytes : OutputRecord → ℕ → Option ℕ → List ℕ
-  written_bytes = bytes p a flags n new most fm agree
+  written_bytes = bytes names p a flags n new most fm agree
 
   abbrev classes : Classes
   classes = n.classes
@@ -48,16 +49,16 @@ module _ (p : Parts) (a : AreParts p) (flags : List Bool) (n : Anew p a (kept_by
   whole = is_kept_or_metadata p these
 
   abbrev anew : Framed → Option (List ℕ)
-  anew = written_anew p these
+  anew = written_anew (new_metadata names p these) p
 
   abbrev RecordsAfter : List Framed → List OutputRecord
   RecordsAfter rs = output_records_in (all_links p) whole anew rs
 
   abbrev from : ℕ → Option ℕ → List OutputRecord → List ℕ
-  from = bytes_from classes written_bytes (pools p a flags n new most fm agree)
+  from = bytes_from classes written_bytes (pools names p a flags n new most fm agree)
 
   abbrev frames : List Written → List Framed
-  frames ws = map (frame_of classes written_bytes (pools p a flags n new most fm agree)) ws
+  frames ws = map (frame_of classes written_bytes (pools names p a flags n new most fm agree)) ws
 
   -- A record that is written of a kept event.
   pub record NewEvent (r s : Framed) : Type 0 where
@@ -76,7 +77,7 @@ module _ (p : Parts) (a : AreParts p) (flags : List Bool) (n : Anew p a (kept_by
     where
       by_found : (e : EventAt) × (find (λ e. e.record_of.at == r.at) these ≡ Some e) → NewEvent r (moved_frame at r (length (whole_bytes new p r (find (λ e. e.record_of.at == r.at) these))))
       by_found (e, q) =
-          let f = found_event p a flags n new most fm agree r e s q in
+          let f = found_event names p a flags n new most fm agree r e s q in
           record {
             event = e;
             is_kept = f.0;
@@ -122,7 +123,7 @@ module _ (p : Parts) (a : AreParts p) (flags : List Bool) (n : Anew p a (kept_by
           let q = holds_parts b (length b) at (written_bytes (Chained x.0 x.1) at older) (from (at + size) (Some at) rest) h in
           rw (y.0.on_chained x g).1 (later (at + size) (Some at) q.1)
       by_find None g true i t k true j w v later h = absurd (clash (is_event_class classes r.type_id) i (y.0.on_metadata j))
-      by_find None g true i t k false j (Some x) v later h = let z : (r.at == metadata_at p.bytes) ≡ true = anew_only p these r x v in let d : true ≡ false = sym z ∙ j in cc
+      by_find None g true i t k false j (Some x) v later h = let z : (r.at == metadata_at p.bytes) ≡ true = anew_only (new_metadata names p these) p r x v in let d : true ≡ false = sym z ∙ j in cc
       by_find None g true i true k false j None v later h =
           let size : ℕ = length (written_bytes (Whole r) at older) in
           let q = holds_parts b (length b) at (written_bytes (Whole r) at older) (from (at + size) older rest) h in

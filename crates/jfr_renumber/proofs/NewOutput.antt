@@ -25,6 +25,7 @@ use Rattle.jfr_base.specs.Formats.{Format, Reads}
 use Rattle.jfr_chunk.specs.Parts.{Parts, EventAt, AreParts, HasFields, metadata_at}
 use Rattle.jfr_chunk.specs.Reach.{marked, kept_by}
 use Rattle.jfr_chunk.specs.Written.{Group, distance}
+use Rattle.jfr_chunk.specs.Metas.{Names, new_metadata}
 use Rattle.jfr_chunk.specs.Scrub.{OutputRecord, Whole, Chained, Rebuilt, groups_of, is_kept_or_metadata, output_records, output_record_by, written_anew}
 use Rattle.jfr_worklist.specs.Members.{In}
 use Rattle.jfr_chunk.proofs.AllLaws.{all_in, filter_all}
@@ -37,7 +38,7 @@ use Rattle.jfr_laws.proofs.OutputRecords.{Deltas, IsOutputRecordIn}
 use Rattle.jfr_laws.proofs.Suits.{records_too}
 use Rattle.jfr_laws.proofs.Anew.{anew_stands}
 use Rattle.jfr_laws.proofs.Anews.{Anew}
-use Rattle.jfr_laws.proofs.AnewLaws.{good_anew}
+use Rattle.jfr_laws.proofs.Anews.{good_anew}
 use Rattle.jfr_laws.proofs.Premises.{all_links, Ready, recorded, metadata_stands, ready}
 use Rattle.jfr_laws.proofs.Passing.{IfPasses, passes_all, clash}
 use Rattle.jfr_laws.proofs.Quiet.{no_checkpoint_event, no_metadata_event}
@@ -86,7 +87,7 @@ on_chosen P all whole new (r ∷ rs) a = one (numbered_at all r.at) (whole r) re
     one None true q (Some x) i = (tt, i)
     one None false q w i = i
 
-module _ (p : Parts) (a : AreParts p) (flags : List Bool) (n : Anew p a (kept_by p flags)) (new : ℕ × ℕ → ℕ) (most : (t : ℕ × ℕ) → new t ≤ t.1) (fm : List Bool) (agree : AllByRecursion (λ x. Agree p.classes n.classes x.class) (marked fm p.entries)) where
+module _ (names : Names) (p : Parts) (a : AreParts p) (flags : List Bool) (n : Anew names p a (kept_by p flags)) (new : ℕ × ℕ → ℕ) (most : (t : ℕ × ℕ) → new t ≤ t.1) (fm : List Bool) (agree : AllByRecursion (λ x. Agree p.classes n.classes x.class) (marked fm p.entries)) where
   abbrev pub kept : List EventAt
   kept = kept_by p flags
 
@@ -217,10 +218,10 @@ module _ (p : Parts) (a : AreParts p) (flags : List Bool) (n : Anew p a (kept_by
 
   -- All that is written is read back, and takes no more room than before.
   abbrev pub ss : List OutputRecord
-  ss = output_records p kept
+  ss = output_records (new_metadata names p kept) p kept
 
   is_ready : Ready p remaining ss
-  is_ready = ready p a (is_kept_or_metadata p kept) (written_anew p kept) (good_anew p a kept) fm
+  is_ready = ready p a (is_kept_or_metadata p kept) (written_anew (new_metadata names p kept) p) (good_anew names p a kept) fm
 
   pub order : chained_of ss ≡ all_links p
   order = is_ready.order
@@ -251,7 +252,7 @@ module _ (p : Parts) (a : AreParts p) (flags : List Bool) (n : Anew p a (kept_by
   each_small (Chained i l ∷ xs) s w = ((λ at older d. chained_short i l s.0 at older d), each_small xs s.1 w.1)
 
   chosen_all : AllByRecursion OnEach ss
-  chosen_all = on_chosen (IsRecord p.bytes) (all_links p) (is_kept_or_metadata p kept) (written_anew p kept) p.records (recorded p a)
+  chosen_all = on_chosen (IsRecord p.bytes) (all_links p) (is_kept_or_metadata p kept) (written_anew (new_metadata names p kept) p) p.records (recorded p a)
 
   pub all_stand : (b : List ℕ) → AllByRecursion (Stands m bytes pools b) ss
   all_stand b = each_stands b ss can_all chosen_all

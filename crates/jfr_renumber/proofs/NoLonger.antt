@@ -8,10 +8,11 @@ use Rattle.jfr_frame.specs.Records.{record_bytes}
 use Rattle.jfr_pool.specs.declared.entry.EntryAt.{EntryAt}
 use Rattle.jfr_chunk.specs.Parts.{Parts, EventAt, AreParts, metadata_at}
 use Rattle.jfr_chunk.specs.Reach.{marked, kept_by}
+use Rattle.jfr_chunk.specs.Metas.{Names, new_metadata}
 use Rattle.jfr_chunk.specs.Scrub.{OutputRecord, Whole, Chained, Rebuilt, assembled, groups_of, header_with, last_at, moved, output_records, is_kept_or_metadata, written, written_anew}
 use Rattle.jfr_chunk.proofs.HasNodesLaws.{has_nodes}
 use Rattle.jfr_laws.proofs.Anews.{Anew}
-use Rattle.jfr_laws.proofs.AnewLaws.{good_anew}
+use Rattle.jfr_laws.proofs.Anews.{good_anew}
 use Rattle.jfr_laws.proofs.Copied.{record_length}
 use Rattle.jfr_laws.proofs.Groups.{groups_hold}
 use Rattle.jfr_laws.proofs.Header.{header_length, whole_small}
@@ -26,7 +27,7 @@ use Rattle.jfr_renumber.proofs.Made.{Small, bytes_from}
 use Rattle.jfr_renumber.proofs.NewOutput.{bytes, pools, all_small}
 use Rattle.jfr_renumber.proofs.Rebuilt.{out}
 
-module _ (p : Parts) (a : AreParts p) (flags : List Bool) (n : Anew p a (kept_by p flags)) (new : ℕ × ℕ → ℕ) (most : (t : ℕ × ℕ) → new t ≤ t.1) (fm : List Bool) (agree : AllByRecursion (λ x. Agree p.classes n.classes x.class) (marked fm p.entries)) (ms : List Bool) (u : Under fm ms) where
+module _ (names : Names) (p : Parts) (a : AreParts p) (flags : List Bool) (n : Anew names p a (kept_by p flags)) (new : ℕ × ℕ → ℕ) (most : (t : ℕ × ℕ) → new t ≤ t.1) (fm : List Bool) (agree : AllByRecursion (λ x. Agree p.classes n.classes x.class) (marked fm p.entries)) (ms : List Bool) (u : Under fm ms) where
   abbrev kept : List EventAt
   kept = kept_by p flags
 
@@ -40,7 +41,7 @@ module _ (p : Parts) (a : AreParts p) (flags : List Bool) (n : Anew p a (kept_by
   sound = (has_nodes p a).sound
 
   abbrev write : OutputRecord → ℕ → Option ℕ → List ℕ
-  write = bytes p a flags n new most fm agree
+  write = bytes names p a flags n new most fm agree
 
   groups_shorter : (i : ℕ) → AllByRecursion (IsGroupIn p.bytes p.classes) (groups_of ours i) → Shorter p sound new most (groups_of ours i) (groups_of theirs i)
   groups_shorter i g =
@@ -48,13 +49,13 @@ module _ (p : Parts) (a : AreParts p) (flags : List Bool) (n : Anew p a (kept_by
       (subst (AllByRecursion (IsEntryIn p.bytes p.classes)) (groups_hold (filter (λ e. e.checkpoint == i) ours)) (entries_stand p sound new most (groups_of ours i) g))
 
   abbrev new_from : ℕ → Option ℕ → List OutputRecord → List ℕ
-  new_from at older xs = bytes_from n.classes write (pools p a flags n new most fm agree) at older xs
+  new_from at older xs = bytes_from n.classes write (pools names p a flags n new most fm agree) at older xs
 
   abbrev old_from : ℕ → Option ℕ → List OutputRecord → List ℕ
   old_from at older xs = before.bytes_from p.bytes theirs at older xs
 
   body_short : (xs : List OutputRecord) (at other : ℕ) (older elder : Option ℕ) → is_some older ≡ is_some elder → other + length (old_from other elder xs) < 2 ^ 63
-      → AllByRecursion (IsOutputRecordIn p.bytes ours p.classes) xs → AllByRecursion (Small n.classes write (pools p a flags n new most fm agree)) xs → length (new_from at older xs) ≤ length (old_from other elder xs)
+      → AllByRecursion (IsOutputRecordIn p.bytes ours p.classes) xs → AllByRecursion (Small n.classes write (pools names p a flags n new most fm agree)) xs → length (new_from at older xs) ≤ length (old_from other elder xs)
   body_short [] at other older elder e h s t = omega arith
   body_short (Whole r ∷ xs) at other older elder e h s t =
       let k : ℕ = length (write (Whole r) at older) in
@@ -77,9 +78,9 @@ module _ (p : Parts) (a : AreParts p) (flags : List Bool) (n : Anew p a (kept_by
       omega (arith, i, w, y, length-append (write (Chained j l) at older) (new_from (at + k) (Some at) xs))
 
   abbrev outs : List OutputRecord
-  outs = output_records p kept
+  outs = output_records (new_metadata names p kept) p kept
 
-  pub no_longer : fronts.Whole p.bytes → length (out p a flags n new most fm agree) ≤ length (assembled p theirs outs)
+  pub no_longer : fronts.Whole p.bytes → length (out names p a flags n new most fm agree) ≤ length (assembled p theirs outs)
   no_longer whole =
       let here : List ℕ = new_from 68 None outs in
       let there : List ℕ = old_from 68 None outs in
@@ -91,8 +92,8 @@ module _ (p : Parts) (a : AreParts p) (flags : List Bool) (n : Anew p a (kept_by
       let hy = header_length p.bytes (68 + length there) last_there metadata_there in
       let x = length-append (header_with p.bytes (68 + length here) last_here metadata_here) here in
       let y = length-append (header_with p.bytes (68 + length there) last_there metadata_there) there in
-      let bound : length (assembled p theirs outs) ≤ length p.bytes = out_shorter p kept ms a (good_anew p a kept) in
+      let bound : length (assembled p theirs outs) ≤ length p.bytes = out_shorter (new_metadata names p kept) p kept ms a (good_anew names p a kept) in
       let small = whole_small p.bytes whole in
-      let is_ready : Ready p ours outs = ready p a (is_kept_or_metadata p kept) (written_anew p kept) (good_anew p a kept) fm in
-      let i = body_short outs 68 68 None None refl (omega (arith, bound, small, hy, y)) is_ready.valid (all_small p a flags n new most fm agree) in
+      let is_ready : Ready p ours outs = ready p a (is_kept_or_metadata p kept) (written_anew (new_metadata names p kept) p) (good_anew names p a kept) fm in
+      let i = body_short outs 68 68 None None refl (omega (arith, bound, small, hy, y)) is_ready.valid (all_small names p a flags n new most fm agree) in
       omega (arith, i, hx, hy, x, y)

@@ -23,6 +23,7 @@ use Rattle.jfr_pool.specs.Chains.{IsChain}
 use Rattle.jfr_pool.specs.Entries.{AreEntries, PoolAt, inline}
 use Rattle.jfr_chunk.specs.Parts.{Parts, EventAt, HasFields, event_by, event_of, event_records, events_of, AreParts, StartsAt, pools_at, metadata_at}
 use Rattle.jfr_chunk.specs.Reach.{kept_by, marked}
+use Rattle.jfr_chunk.specs.Metas.{Names, new_metadata}
 use Rattle.jfr_chunk.specs.Scrub.{OutputRecord, Written, last_at, moved, is_kept_or_metadata, written_anew}
 use Rattle.jfr_worklist.specs.Members.{In}
 use Rattle.jfr_worklist.proofs.Members.{contains_in, in_contains}
@@ -76,21 +77,21 @@ computed p e i =
         let there : event_of p.bytes p.classes r ≡ Some e = ap (event_by r) q ∙ h in
         record { class = subst (λ (z : Framed). is_event_class p.classes z.type_id ≡ true) own t; is = subst (λ z. event_of p.bytes p.classes z ≡ Some e) own there }
 
-module _ (p : Parts) (a : AreParts p) (flags : List Bool) (n : Anew p a (kept_by p flags)) (new : ℕ × ℕ → ℕ) (most : (t : ℕ × ℕ) → new t ≤ t.1) (fm : List Bool) (agree : AllByRecursion (λ x. Agree p.classes n.classes x.class) (marked fm p.entries)) where
+module _ (names : Names) (p : Parts) (a : AreParts p) (flags : List Bool) (n : Anew names p a (kept_by p flags)) (new : ℕ × ℕ → ℕ) (most : (t : ℕ × ℕ) → new t ≤ t.1) (fm : List Bool) (agree : AllByRecursion (λ x. Agree p.classes n.classes x.class) (marked fm p.entries)) where
   abbrev pub these : List EventAt
-  these = kept p a flags n new most fm agree
+  these = kept names p a flags n new most fm agree
 
   abbrev m : Classes
   m = n.classes
 
   abbrev pub write : OutputRecord → ℕ → Option ℕ → List ℕ
-  write = bytes p a flags n new most fm agree
+  write = bytes names p a flags n new most fm agree
 
   abbrev pub pooled : ℕ → Option ℕ → ℕ → Link → List PoolAt
-  pooled = pools p a flags n new most fm agree
+  pooled = pools names p a flags n new most fm agree
 
   abbrev pub outs : List OutputRecord
-  outs = ss p a flags n new most fm agree
+  outs = ss names p a flags n new most fm agree
 
   abbrev pub ws : List Written
   ws = written_by write 68 None outs
@@ -112,7 +113,7 @@ module _ (p : Parts) (a : AreParts p) (flags : List Bool) (n : Anew p a (kept_by
 
   -- What is built anew of the metadata record, if anything is.
   abbrev metadata_anew : Option (List ℕ)
-  metadata_anew = metadata_new p these a
+  metadata_anew = metadata_new (new_metadata names p these) p a
 
   -- The record is no event, so it is written as in a scrub.
   no_event_there : find (λ e. e.record_of.at == a.metadata_record.at) these ≡ None
@@ -121,7 +122,7 @@ module _ (p : Parts) (a : AreParts p) (flags : List Bool) (n : Anew p a (kept_by
       by_find : (o : Option EventAt) → find (λ e. e.record_of.at == a.metadata_record.at) these ≡ o → o ≡ None
       by_find None q = refl
       by_find (Some e) q =
-          let f = found_event p a flags n new most fm agree a.metadata_record e (metadata_stands p a) q in
+          let f = found_event names p a flags n new most fm agree a.metadata_record e (metadata_stands p a) q in
           let c = computed p e (event_in e f.0) in
           let d : is_event_class p.classes e.record_of.type_id ≡ false = ap (λ (z : Framed). is_event_class p.classes z.type_id) f.1 ∙ (ap (is_event_class p.classes) a.metadata_there.type_is ∙ no_metadata_event p.classes) in
           absurd (clash (is_event_class p.classes e.record_of.type_id) c.class d)
@@ -140,7 +141,7 @@ module _ (p : Parts) (a : AreParts p) (flags : List Bool) (n : Anew p a (kept_by
   module _ (b : List ℕ) (h : Holds b (length b) 68 body_of) where
     abbrev found : Found m write pooled b a.metadata_record metadata_anew 68 ws
     found =
-        found_made m write pooled b p.bytes (all_links p) (is_kept_or_metadata p these) (written_anew p these) a.metadata_record (metadata_stands p a)
+        found_made m write pooled b p.bytes (all_links p) (is_kept_or_metadata p these) (written_anew (new_metadata names p these) p) a.metadata_record (metadata_stands p a)
         (no_link_at p.bytes (all_links p) a.metadata_record (chained_checkpoints p a) (metadata_stands p a) a.metadata_there.type_is)
         (or_right (is_kept these a.metadata_record) (a.metadata_record.at == metadata_at p.bytes) (is_eq a.metadata_record.at (metadata_at p.bytes) a.metadata_there.place))
         p.records 68 None (recorded p a) (contains_in p.records a.metadata_record a.metadata_there.listed) h
@@ -156,8 +157,8 @@ module _ (p : Parts) (a : AreParts p) (flags : List Bool) (n : Anew p a (kept_by
 
   body_fits : 68 + length body_of ≤ length p.bytes
   body_fits =
-      let l = length_made m write pooled outs 68 None (all_small p a flags n new most fm agree) (deltas p a flags n new most fm agree) in
-      let s = sizes_within p.bytes (all_links p) (is_kept_or_metadata p these) (written_anew p these) (only_records p.bytes (all_links p) (chained_checkpoints p a)) p.records 68 (length p.bytes) a.records in
+      let l = length_made m write pooled outs 68 None (all_small names p a flags n new most fm agree) (deltas names p a flags n new most fm agree) in
+      let s = sizes_within p.bytes (all_links p) (is_kept_or_metadata p these) (written_anew (new_metadata names p these) p) (only_records p.bytes (all_links p) (chained_checkpoints p a)) p.records 68 (length p.bytes) a.records in
       omega (arith, l, s)
 
   pub out_shorter : length out ≤ length p.bytes
@@ -190,14 +191,14 @@ module _ (p : Parts) (a : AreParts p) (flags : List Bool) (n : Anew p a (kept_by
     es = entries_at m write pooled 0 68 None outs
 
     tiles : Tiles b 68 rs (length b)
-    tiles = subst (Tiles b 68 rs) (sym l.size) (tiles_made m write pooled b outs 68 None (all_stand p a flags n new most fm agree b) (deltas p a flags n new most fm agree) l.held)
+    tiles = subst (Tiles b 68 rs) (sym l.size) (tiles_made m write pooled b outs 68 None (all_stand names p a flags n new most fm agree b) (deltas names p a flags n new most fm agree) l.held)
 
     some_links : ls ≡ [] → ⊥
-    some_links e = some_chain p.bytes p.records (pools_at p.bytes) p.chain a.chain (none_numbered (reverse p.chain) (sym (order p a flags n new most fm agree) ∙ no_links m write pooled outs 68 None e))
+    some_links e = some_chain p.bytes p.records (pools_at p.bytes) p.chain a.chain (none_numbered (reverse p.chain) (sym (order names p a flags n new most fm agree) ∙ no_links m write pooled outs 68 None e))
 
     chain : IsChain b rs (pools_at b) (reverse ls)
     chain =
-        let k = linked_made m write pooled b rs tiny outs [] 68 None (all_stand p a flags n new most fm agree b) (deltas p a flags n new most fm agree) tt l.held refl in
+        let k = linked_made m write pooled b rs tiny outs [] 68 None (all_stand names p a flags n new most fm agree b) (deltas names p a flags n new most fm agree) tt l.held refl in
         let e : last_from None ls ≡ pools_at b = sym (last_made m write pooled outs 68 None) ∙ sym l.pools in
         subst (λ z. IsChain b rs z (reverse ls)) e (chain_new b rs ls some_links k)
 
@@ -227,7 +228,7 @@ module _ (p : Parts) (a : AreParts p) (flags : List Bool) (n : Anew p a (kept_by
 
     are_entries : AreEntries b m 0 (reverse (reverse ls)) es
     are_entries =
-        subst (λ z. AreEntries b m 0 z es) (sym (reverse-reverse ls)) (entries_made m write pooled b outs 0 68 None (all_stand p a flags n new most fm agree b) (deltas p a flags n new most fm agree) l.held)
+        subst (λ z. AreEntries b m 0 z es) (sym (reverse-reverse ls)) (entries_made m write pooled b outs 0 68 None (all_stand names p a flags n new most fm agree b) (deltas names p a flags n new most fm agree) l.held)
 
     -- Its parts.
     abbrev pub parts : Parts
@@ -242,7 +243,7 @@ module _ (p : Parts) (a : AreParts p) (flags : List Bool) (n : Anew p a (kept_by
       metadata_there = metadata_there;
       metadata = metadata_read.1;
       entries = are_entries;
-      events = All-from_recursion (HasFields b m) (event_records m rs) (all_fields p a flags n new most fm agree b l.held);
+      events = All-from_recursion (HasFields b m) (event_records m rs) (all_fields names p a flags n new most fm agree b l.held);
     }
 
     -- Its entries are those that are left, with new keys.
@@ -252,11 +253,11 @@ module _ (p : Parts) (a : AreParts p) (flags : List Bool) (n : Anew p a (kept_by
     each_renamed (x ∷ xs) [] e = absurd e
     each_renamed (x ∷ xs) (y ∷ ys) e = (record { class = e.0.class; key = e.0.key; checkpoint = e.0.checkpoint; value = e.0.value }, each_renamed xs ys e.1)
 
-    pub entries_renamed : AreRekeyedEntries new p parts (remaining p a flags n new most fm agree) es
+    pub entries_renamed : AreRekeyedEntries new p parts (remaining names p a flags n new most fm agree) es
     entries_renamed =
-        let es_remaining : List EntryAt = remaining p a flags n new most fm agree in
-        let each = all_entries p a flags n new most fm agree b (reverse p.chain) l.held (order p a flags n new most fm agree) in
-        let e : entries_by_number es_remaining _ ≡ es_remaining = ap (entries_by_number es_remaining) (order p a flags n new most fm agree) ∙ all_numbers p.bytes p.classes fm (reverse p.chain) p.entries a.entries in
+        let es_remaining : List EntryAt = remaining names p a flags n new most fm agree in
+        let each = all_entries names p a flags n new most fm agree b (reverse p.chain) l.held (order names p a flags n new most fm agree) in
+        let e : entries_by_number es_remaining _ ≡ es_remaining = ap (entries_by_number es_remaining) (order names p a flags n new most fm agree) ∙ all_numbers p.bytes p.classes fm (reverse p.chain) p.entries a.entries in
         each_renamed es_remaining es (subst (λ z. Each (Renamed p (has_nodes p a).sound new most b) z es) e each)
 
     -- Its events are the kept ones, with new keys in their fields.
@@ -266,7 +267,7 @@ module _ (p : Parts) (a : AreParts p) (flags : List Bool) (n : Anew p a (kept_by
         let y : event_of p.bytes p.classes e.record_of ≡ Some d = subst (λ z. event_of p.bytes p.classes z ≡ Some d) q (computed p d j).is in
         cc
 
-    renamed_record : (e f : EventAt) → In these e → In (events_of parts) f → NewEvent p a flags n new most fm agree b e.record_of f.record_of → RekeyedRecord new p parts e f
+    renamed_record : (e f : EventAt) → In these e → In (events_of parts) f → NewEvent names p a flags n new most fm agree b e.record_of f.record_of → RekeyedRecord new p parts e f
     renamed_record e f i j w =
         let same : w.event ≡ e = one_event e w.event (event_in e i) (event_in w.event w.is_kept) w.of in
         by_event (subst (In these) same w.is_kept) (subst (λ (z : EventAt). f.record_of ≡ moved_frame w.at e.record_of (length (event_bytes new p z))) same w.frame) (subst (λ z. Holds b (length b) w.at (event_bytes new p z)) same w.held)
@@ -274,16 +275,16 @@ module _ (p : Parts) (a : AreParts p) (flags : List Bool) (n : Anew p a (kept_by
         by_event : In these e → f.record_of ≡ moved_frame w.at e.record_of (length (event_bytes new p e)) → Holds b (length b) w.at (event_bytes new p e) → RekeyedRecord new p parts e f
         by_event k g h =
             let id : ℕ = e.record_of.type_id in
-            let st = event_stands p a flags n new most fm agree b e k w.at h in
+            let st = event_stands names p a flags n new most fm agree b e k w.at h in
             let x = event_is parts valid f j in
             let at : ℕ = w.at + (e.record_of.body - e.record_of.at) in
             let end : ℕ = w.at + length (event_bytes new p e) in
             let type : f.record_of.type_id ≡ id = ap (λ (z : Framed). z.type_id) g in
-            let v : Value = rekeyed new (event_here p a flags n new most fm agree e k).value in
+            let v : Value = rekeyed new (event_here names p a flags n new most fm agree e k).value in
             let to : ℕ = at + length (bytes_of v) in
             let read : Reads (value_format m (inline id)) b end at x.value f.node.end =
             subst (λ (z : Framed). Reads (value_format m (inline z.type_id)) b (record_end z) z.body x.value f.node.end) g x.reads in
-            let ours : Reads (value_format m (inline id)) b end at v to = read_under p a flags n new most fm agree id b end at v to (n.suits.event e k) st.fields in
+            let ours : Reads (value_format m (inline id)) b end at v to = read_under names p a flags n new most fm agree id b end at v to (n.suits.event e k) st.fields in
             let inside : end ≤ length b = h.within in
             let order : at ≤ end = (let y = st.fields_held.within in omega arith) in
             let one = (has_one_answer (value_format m (inline id)) b end at order inside).one_reading x.value v f.node.end to read ours in
@@ -291,12 +292,12 @@ module _ (p : Parts) (a : AreParts p) (flags : List Bool) (n : Anew p a (kept_by
             let last : record_end f.record_of ≡ end = ap record_end g in
             record {
               class = sym type;
-              fields = fields_are p (has_nodes p a).sound new e (event_here p a flags n new most fm agree e k) (event_record p a flags n new most fm agree e k) ∙ (sym st.fields_held.bytes ∙ (ap (λ z. slice_range b z to) (sym start) ∙ ap (slice_range b f.node.at) (sym one.1)));
+              fields = fields_are p (has_nodes p a).sound new e (event_here names p a flags n new most fm agree e k) (event_record names p a flags n new most fm agree e k) ∙ (sym st.fields_held.bytes ∙ (ap (λ z. slice_range b z to) (sym start) ∙ ap (slice_range b f.node.at) (sym one.1)));
               rest = sym st.rest_held.bytes ∙ (ap (λ z. slice_range b z (to + length (slice_range p.bytes e.node.end (record_end e.record_of)))) (sym one.1) ∙ ap (slice_range b f.node.end) (st.ends ∙ sym last));
               agree = n.suits.agree id (n.suits.event e k);
             }
 
-    renamed_records : (xs ys : List EventAt) → ((e : EventAt) → In xs e → In these e) → ((f : EventAt) → In ys f → In (events_of parts) f) → Each (NewEvent p a flags n new most fm agree b) (records_of xs) (records_of ys) → RekeyedRecords new p parts xs ys
+    renamed_records : (xs ys : List EventAt) → ((e : EventAt) → In xs e → In these e) → ((f : EventAt) → In ys f → In (events_of parts) f) → Each (NewEvent names p a flags n new most fm agree b) (records_of xs) (records_of ys) → RekeyedRecords new p parts xs ys
     renamed_records [] [] i j e = tt
     renamed_records [] (y ∷ ys) i j e = absurd e
     renamed_records (x ∷ xs) [] i j e = absurd e
@@ -307,8 +308,8 @@ module _ (p : Parts) (a : AreParts p) (flags : List Bool) (n : Anew p a (kept_by
         let rising : Rising 68 (event_records p.classes p.records) = rising_filter (λ r. is_event_class p.classes r.type_id) 68 p.records (rising_of p.bytes 68 68 (length p.bytes) p.records (omega arith) a.records) in
         let chosen : filter (is_kept these) (event_records p.classes p.records) ≡ records_of these = chosen_records flags (events_of p) (event_records p.classes p.records) 68 (event_records_of p a) rising in
         let news : event_records m rs ≡ records_of (events_of parts) = sym (event_records_of parts valid) in
-        let each = events_each p a flags n new most fm agree b p.records 68 None (quiet_records p a m) (recorded p a) l.held in
+        let each = events_each names p a flags n new most fm agree b p.records 68 None (quiet_records p a m) (recorded p a) l.held in
         let same = same_both (is_kept these) (λ r. is_event_class m r.type_id) (λ r. is_event_class p.classes r.type_id) p.records (kept_is_event p a these (chosen_events p flags) m n.suits) in
         renamed_records these (events_of parts) (λ e i. i) (λ f i. i)
-        (subst (λ z. Each (NewEvent p a flags n new most fm agree b) z (records_of (events_of parts))) (filter_both (λ r. is_event_class m r.type_id) (is_kept these) p.records ∙ (same ∙ chosen))
-        (subst (Each (NewEvent p a flags n new most fm agree b) _) news each))
+        (subst (λ z. Each (NewEvent names p a flags n new most fm agree b) z (records_of (events_of parts))) (filter_both (λ r. is_event_class m r.type_id) (is_kept these) p.records ∙ (same ∙ chosen))
+        (subst (Each (NewEvent names p a flags n new most fm agree b) _) news each))

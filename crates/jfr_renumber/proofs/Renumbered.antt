@@ -14,14 +14,15 @@ use Rattle.jfr_worklist.proofs.Members.{contains_in}
 use Rattle.jfr_chunk.specs.Parts.{Parts, EventAt, AreParts, events_of}
 use Rattle.jfr_chunk.specs.Laws.{AreEvents}
 use Rattle.jfr_chunk.specs.Reach.{marked, reached_marks, kept_by, remain}
-use Rattle.jfr_chunk.specs.Scrub.{output_records, scrub_of}
+use Rattle.jfr_chunk.specs.Metas.{Names, new_metadata}
+use Rattle.jfr_chunk.specs.Scrub.{output_records, scrub_of, scrub_with}
 use Rattle.jfr_chunk.proofs.HasNodesLaws.{has_nodes}
 use Rattle.jfr_laws.proofs.Anews.{Anew, anew}
 use Rattle.jfr_laws.proofs.Header.{whole_small}
 use Rattle.jfr_laws.proofs.Passing.{clash}
 use Rattle.jfr_laws.proofs.Same.{chosen_events, event_of_chunk, marks_reached}
 use Rattle.jfr_laws.proofs.Suits.{event_agreed, left_agree, path_agreed}
-use Rattle.jfr_renumber.specs.Renumber.{Used, new_key, together, pair_of, firsts, firsts_of, new_bytes, assembled_by, renumber_of}
+use Rattle.jfr_renumber.specs.Renumber.{Used, new_key, together, pair_of, firsts, firsts_of, new_bytes, assembled_by, renumber_of, renumber_with}
 use Rattle.jfr_renumber.specs.Meaning.{AreNewKeys, AreRekeyedEntries, IsRenumbered}
 use Rattle.jfr_renumber.proofs.Fewer.{Under}
 use Rattle.jfr_renumber.proofs.NoLonger.{no_longer}
@@ -102,7 +103,7 @@ own_class (Single s kind b None) t e = cc
 own_class (Single s kind b (Some key)) t e = let h : (s.class, key) ≡ t = cc in ap (λ z. z.0) h
 own_class (Group s h vs) t e = cc
 
-module _ (p : Parts) (a : AreParts p) (flags : List Bool) (whole : fronts.Whole p.bytes) where
+module _ (names : Names) (p : Parts) (a : AreParts p) (flags : List Bool) (whole : fronts.Whole p.bytes) where
   abbrev these : List EventAt
   these = kept_by p flags
 
@@ -119,7 +120,7 @@ module _ (p : Parts) (a : AreParts p) (flags : List Bool) (whole : fronts.Whole 
   fm = (firsts_marked p these).0
 
   -- The classes of the output suit what is kept.
-  module _ (n : Anew p a these) where
+  module _ (n : Anew names p a these) where
     -- They agree with the chunk's on the class of each entry that is left.
     agree : AllByRecursion (λ x. Agree p.classes n.classes x.class) (marked fm p.entries)
     agree =
@@ -134,48 +135,48 @@ module _ (p : Parts) (a : AreParts p) (flags : List Bool) (whole : fronts.Whole 
         subst (Agree p.classes n.classes) (own_class g.value t (sym (target_is p.classes p.bytes u.node g.value (has_nodes p a).sound g.node) ∙ u.refers)) g.agree
 
     abbrev b : List ℕ
-    b = out p a flags n new keys.most fm agree
+    b = out names p a flags n new keys.most fm agree
 
-    out_is : b ≡ renumber_of p these
-    unfolding renumber_of
-    out_is = ap (λ z. assembled_by p (new_bytes new p these z) (output_records p these)) (sym (firsts_marked p these).1)
+    out_is : b ≡ renumber_of names p these
+    unfolding renumber_with
+    out_is = ap (λ z. assembled_by p (new_bytes new p these z) (output_records (new_metadata names p these) p these)) (sym (firsts_marked p these).1)
 
-    abbrev leading : Leading p a flags n new keys.most fm agree b
-    leading = out_leading p a flags n new keys.most fm agree whole
+    abbrev leading : Leading names p a flags n new keys.most fm agree b
+    leading = out_leading names p a flags n new keys.most fm agree whole
 
     shorter : length b ≤ length p.bytes
-    shorter = out_shorter p a flags n new keys.most fm agree
+    shorter = out_shorter names p a flags n new keys.most fm agree
 
-    no_longer_than_scrubbed : length b ≤ length (scrub_of p these)
-    unfolding scrub_of remain
-    no_longer_than_scrubbed = no_longer p a flags n new keys.most fm agree (reached_marks p these) (firsts_marked p these).2 whole
+    no_longer_than_scrubbed : length b ≤ length (scrub_of names p these)
+    unfolding scrub_with remain
+    no_longer_than_scrubbed = no_longer names p a flags n new keys.most fm agree (reached_marks p these) (firsts_marked p these).2 whole
 
     tiny : length b < 2 ^ 63
     tiny = let s = whole_small p.bytes whole in let l = shorter in omega arith
 
     abbrev q : Parts
-    q = parts p a flags n new keys.most fm agree b leading tiny
+    q = parts names p a flags n new keys.most fm agree b leading tiny
 
     abbrev q_stands : AreParts q
-    q_stands = valid p a flags n new keys.most fm agree b leading tiny
+    q_stands = valid names p a flags n new keys.most fm agree b leading tiny
 
     entries_are : AreRekeyedEntries new p q (firsts p these) q.entries
-    entries_are = subst (λ z. AreRekeyedEntries new p q z q.entries) (sym (firsts_marked p these).1) (entries_renamed p a flags n new keys.most fm agree b leading tiny)
+    entries_are = subst (λ z. AreRekeyedEntries new p q z q.entries) (sym (firsts_marked p these).1) (entries_renamed names p a flags n new keys.most fm agree b leading tiny)
 
-    pub renumbered_by : IsRenumbered p these
+    pub renumbered_by : IsRenumbered names p these
     renumbered_by = record {
       keys = keys;
       parts = q;
       classes = n.remaining;
       bytes = out_is;
-      whole = subst fronts.Whole out_is (out_whole p a flags n new keys.most fm agree whole);
+      whole = subst fronts.Whole out_is (out_whole names p a flags n new keys.most fm agree whole);
       valid = q_stands;
       size = subst (λ z. length z ≤ length p.bytes) out_is shorter;
-      no_longer = subst (λ z. length z ≤ length (scrub_of p these)) out_is no_longer_than_scrubbed;
+      no_longer = subst (λ z. length z ≤ length (scrub_of names p these)) out_is no_longer_than_scrubbed;
       entries = entries_are;
       missing = same_missing p a these are q q_stands new keys agree_used entries_are;
-      meaning = renamed_the_same p a these are q q_stands new (events_of q) (All-contains_itself (events_of q)) keys agree_used entries_are (events_renamed p a flags n new keys.most fm agree b leading tiny);
+      meaning = renamed_the_same p a these are q q_stands new (events_of q) (All-contains_itself (events_of q)) keys agree_used entries_are (events_renamed names p a flags n new keys.most fm agree b leading tiny);
     }
 
-  pub is_renumbered : IsRenumbered p these
-  is_renumbered = renumbered_by (anew p a these are)
+  pub is_renumbered : IsRenumbered names p these
+  is_renumbered = renumbered_by (anew names p a these are)

@@ -21,10 +21,11 @@ use Rattle.jfr_chunk.specs.Parts.{Parts, EventAt, AreParts, events_of, metadata_
 use Rattle.jfr_chunk.specs.Reach.{kept_by, marked}
 use Rattle.jfr_chunk.specs.Written as old
 use Rattle.jfr_chunk.specs.Written.{Group, by_pool, distance, sized}
+use Rattle.jfr_chunk.specs.Metas.{Names, new_metadata}
 use Rattle.jfr_chunk.specs.Scrub.{OutputRecord, Whole, Chained, Rebuilt, Written, groups_of, last_at, moved, older_after, output_records, is_kept_or_metadata, record_of, written_anew}
 use Rattle.jfr_chunk.proofs.AllLaws.{all_in}
 use Rattle.jfr_chunk.proofs.HasNodesLaws.{has_nodes}
-use Rattle.jfr_laws.proofs.AnewLaws.{good_anew}
+use Rattle.jfr_laws.proofs.Anews.{good_anew}
 use Rattle.jfr_laws.proofs.Groups.{groups_hold}
 use Rattle.jfr_laws.proofs.OutputRecords.{Deltas, IsOutputRecordIn, chained_fits}
 use Rattle.jfr_laws.proofs.Passing.{clash}
@@ -34,7 +35,7 @@ use Rattle.jfr_laws.proofs.Same.{chosen_events, event_of_chunk}
 use Rattle.jfr_laws.specs.InChunk.{IsEntryIn, IsGroupIn}
 use Rattle.jfr_output.specs.declared.output_records.OutputRecord as contents
 use Rattle.jfr_output.specs.declared.output_records.OutputRecord.TheVariants as declared_records
-use Rattle.jfr_output.specs.OutputRecords.{IsKeptEvent, ShowsEvent, ShowsMetadata, output_record_as, whole_or}
+use Rattle.jfr_output.specs.OutputRecords.{IsNewMetadata, IsKeptEvent, ShowsEvent, ShowsMetadata, output_record_as, whole_or}
 use Rattle.jfr_output.specs.Positions.{IsBefore, offset_so_far}
 use Rattle.jfr_output.specs.Remaining.{NotFalling}
 use Rattle.jfr_output.proofs.CheckpointEntries.{marked_order}
@@ -42,7 +43,7 @@ use Rattle.jfr_output.proofs.PositionLaws.{last_next, last_none, moved_next, or_
 use Rattle.jfr_output.proofs.Widths.{size_width, spelled_length}
 use Rattle.jfr_renumber.specs.Meaning.{AreNewKeys}
 use Rattle.jfr_renumber.specs.Numbers.{NumberedPairs, number_of, number_or_zero}
-use Rattle.jfr_renumber.specs.Renumber.{assembled_by, bytes_by, checkpoint_tail, event_bytes, firsts, group_bytes, new_bytes, new_key, new_key_of, renumber_of, whole_bytes, written_by}
+use Rattle.jfr_renumber.specs.Renumber.{assembled_by, bytes_by, checkpoint_tail, event_bytes, firsts, group_bytes, new_bytes, new_key, new_key_of, renumber_with, whole_bytes, written_by}
 use Rattle.jfr_renumber.specs.Writing.{CanWrite, CheckpointFits, IsBody, IsWritten, Progress, with_record}
 use Rattle.jfr_renumber.proofs.AgreeLaws.{number_used, output_same}
 use Rattle.jfr_renumber.proofs.LawLaws.{new_keys_are}
@@ -151,10 +152,11 @@ module _ (p : Parts) (a : AreParts p) (flags : List Bool) (new : ℕ × ℕ → 
   each_can (Chained i l ∷ ss) at older s d = (checkpoint_fits i l at older s.0 d.0, each_can ss (at + length (bytes (Chained i l) at older)) (Some at) s.1 d.1)
 
   -- All output records can be written.
-  pub all_can : AllByRecursion CanBeWritten (written_by bytes 68 None (output_records p kept))
-  all_can =
-      let r : Ready p remaining (output_records p kept) = ready p a (is_kept_or_metadata p kept) (written_anew p kept) (good_anew p a kept) fm in
-      each_can (output_records p kept) 68 None r.valid r.deltas
+  pub all_can : (names : Names) → AllByRecursion CanBeWritten (written_by bytes 68 None (output_records (new_metadata names p kept) p kept))
+  all_can names =
+      let slim = new_metadata names p kept in
+      let r : Ready p remaining (output_records slim p kept) = ready p a (is_kept_or_metadata p kept) (written_anew slim p) (good_anew names p a kept) fm in
+      each_can (output_records slim p kept) 68 None r.valid r.deltas
 
 seen_not : (o : Option ℕ) (t : Bool) (at : ℕ) → t ≡ false → offset_so_far o t at ≡ o
 seen_not o t at e = ap (λ z. offset_so_far o z at) e ∙ by_place o
@@ -295,17 +297,18 @@ all_assembled p bytes ss b h out i e o =
     o ∙ (λ n. header_bytes (record (e n) { size = size n; pools = i.newest n; metadata = i.metadata n }) ++ drop 68 (i.body n))
 
 -- So with these entries and keys it is the output with new keys.
-pub all_renumbered : (p : Parts) (a : AreParts p) (flags : List Bool) (k : NumberedPairs) (entries : List EntryAt) (out : List ℕ) → ((t : ℕ × ℕ) → number_of k t ≡ new_key_of p (kept_by p flags) t) → entries ≡ firsts p (kept_by p flags)
-    → out ≡ assembled_by p (new_bytes (number_or_zero k) p (kept_by p flags) entries) (output_records p (kept_by p flags)) → out ≡ renumber_of p (kept_by p flags)
-all_renumbered p a flags k entries out h e o =
-    o ∙ (ap (λ z. assembled_by p (new_bytes (number_or_zero k) p (kept_by p flags) z) (output_records p (kept_by p flags))) e ∙ output_same p a flags (number_or_zero k) (number_used p a flags k h))
+pub all_renumbered : (slim : Option (List ℕ)) (p : Parts) (a : AreParts p) (flags : List Bool) (k : NumberedPairs) (entries : List EntryAt) (out : List ℕ) → ((t : ℕ × ℕ) → number_of k t ≡ new_key_of p (kept_by p flags) t) → entries ≡ firsts p (kept_by p flags)
+    → out ≡ assembled_by p (new_bytes (number_or_zero k) p (kept_by p flags) entries) (output_records slim p (kept_by p flags)) → out ≡ renumber_with slim p (kept_by p flags)
+all_renumbered slim p a flags k entries out h e o =
+    o ∙ (ap (λ z. assembled_by p (new_bytes (number_or_zero k) p (kept_by p flags) z) (output_records slim p (kept_by p flags))) e ∙ output_same p a flags (number_or_zero k) (number_used p a flags k h) slim)
 
 -- The first entries are in the order of their checkpoints, and all output records can be written with them.
 pub firsts_order : (p : Parts) → AreParts p → (flags : List Bool) → NotFalling 0 (firsts p (kept_by p flags))
 firsts_order p a flags = let m = firsts_marked p (kept_by p flags) in subst (NotFalling 0) (sym m.1) (marked_order p m.0 a)
 
-pub firsts_can : (p : Parts) → AreParts p → (flags : List Bool) (new : ℕ × ℕ → ℕ) → ((t : ℕ × ℕ) → new t ≤ t.1) → (entries : List EntryAt) → entries ≡ firsts p (kept_by p flags)
-    → AllByRecursion (λ w. CanWrite new p entries w.output_record w.at w.older) (written_by (new_bytes new p (kept_by p flags) entries) 68 None (output_records p (kept_by p flags)))
-firsts_can p a flags new most entries e =
+pub firsts_can : (p : Parts) → AreParts p → (flags : List Bool) (new : ℕ × ℕ → ℕ) → ((t : ℕ × ℕ) → new t ≤ t.1) → (entries : List EntryAt) → entries ≡ firsts p (kept_by p flags) → (slim : Option (List ℕ)) → IsNewMetadata p (kept_by p flags) slim
+    → AllByRecursion (λ w. CanWrite new p entries w.output_record w.at w.older) (written_by (new_bytes new p (kept_by p flags) entries) 68 None (output_records slim p (kept_by p flags)))
+firsts_can p a flags new most entries e slim n =
     let m = firsts_marked p (kept_by p flags) in
-    subst (λ z. AllByRecursion (λ w. CanWrite new p z w.output_record w.at w.older) (written_by (new_bytes new p (kept_by p flags) z) 68 None (output_records p (kept_by p flags)))) (sym (e ∙ m.1)) (all_can p a flags new most m.0)
+    subst (λ z. AllByRecursion (λ w. CanWrite new p z w.output_record w.at w.older) (written_by (new_bytes new p (kept_by p flags) z) 68 None (output_records slim p (kept_by p flags)))) (sym (e ∙ m.1))
+    (subst (λ s. AllByRecursion (λ w. CanWrite new p (marked m.0 p.entries) w.output_record w.at w.older) (written_by (new_bytes new p (kept_by p flags) (marked m.0 p.entries)) 68 None (output_records s p (kept_by p flags)))) (sym n.is) (all_can p a flags new most m.0 n.names))

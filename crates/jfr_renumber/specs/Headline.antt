@@ -1,6 +1,6 @@
 -- The output of a renumbering: a recording with a chunk for each chunk before the first that is refused.
 use Rattle.std.specs.Prelude.{◌≡◌, ℕ, List}
-use Rattle.jfr_filter.specs.Filters.{Given}
+use Rattle.jfr_filter.specs.Filters.{Given, describes}
 use Rattle.jfr_outside.specs.World.{World}
 use Rattle.jfr_chunk.specs.Parts.{Parts, AreParts}
 use Rattle.jfr_chunk.specs.Chosen.{kept_of}
@@ -16,8 +16,8 @@ pub record IsRenumberedOutput (g : Given) (c b : List ℕ) : Type 0 where
   pub parts : Parts
   pub bytes : parts.bytes ≡ c
   pub valid : AreParts parts
-  pub becomes : b ≡ renumber_of parts (kept_of g parts)
-  pub renumbered : IsRenumbered parts (kept_of g parts)
+  pub becomes : b ≡ renumber_of (describes g) parts (kept_of g parts)
+  pub renumbered : IsRenumbered (describes g) parts (kept_of g parts)
 
 -- The output file is the renumbering of the input.
 abbrev pub Renumbers : Given → List ℕ → List ℕ → World → World → Type 0

@@ -9,7 +9,7 @@ use Rattle.jfr_pool.specs.declared.entry.EntryAt.{EntryAt}
 use Rattle.jfr_pool.specs.Entries.{in_force, entry_node}
 use Rattle.jfr_chunk.specs.Parts.{Parts, EventAt, AreParts, events_of}
 use Rattle.jfr_chunk.specs.Scrub.{scrub_of}
-use Rattle.jfr_chunk.specs.Metas.{remaining_classes}
+use Rattle.jfr_chunk.specs.Metas.{remaining_classes, Names}
 use Rattle.jfr_chunk.specs.Paths.{leads}
 use Rattle.jfr_renumber.specs.Rekeyed.{SameButKeys, rekeyed_bytes, rekeyed_pair}
 use Rattle.jfr_renumber.specs.Renumber.{Used, together, new_key, firsts, pair_of, renumber_of}
@@ -62,15 +62,15 @@ AreRekeyedEntries new p q (e ∷ es) [] = ⊥
 -- chunk or than its output without new keys. Its classes are those of the output without new keys, its entries
 -- the first of each group, and its events the kept ones; it means the same except for the keys. A key that is
 -- used has an entry in force exactly if its new key has one.
-pub record IsRenumbered (p : Parts) (kept : List EventAt) : Type 0 where
+pub record IsRenumbered (names : Names) (p : Parts) (kept : List EventAt) : Type 0 where
   pub keys : AreNewKeys p kept (new_key p kept)
   pub parts : Parts
-  pub classes : parts.classes ≡ remaining_classes p kept
-  pub bytes : parts.bytes ≡ renumber_of p kept
-  pub whole : Whole (renumber_of p kept)
+  pub classes : parts.classes ≡ remaining_classes names p kept
+  pub bytes : parts.bytes ≡ renumber_of names p kept
+  pub whole : Whole (renumber_of names p kept)
   pub valid : AreParts parts
-  pub size : length (renumber_of p kept) ≤ length p.bytes
-  pub no_longer : length (renumber_of p kept) ≤ length (scrub_of p kept)
+  pub size : length (renumber_of names p kept) ≤ length p.bytes
+  pub no_longer : length (renumber_of names p kept) ≤ length (scrub_of names p kept)
   pub entries : AreRekeyedEntries (new_key p kept) p parts (firsts p kept) parts.entries
   pub missing : (t : ℕ × ℕ) → Used p kept t → IsSome (in_force p.entries t) ↔ IsSome (in_force parts.entries (rekeyed_pair (new_key p kept) t))
   pub meaning : RekeyedMeaning (new_key p kept) p parts kept (events_of parts)

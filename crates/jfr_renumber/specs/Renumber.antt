@@ -14,6 +14,7 @@ use Rattle.jfr_chunk.specs.Parts.{Parts, EventAt, metadata_at}
 use Rattle.jfr_chunk.specs.Paths.{leads}
 use Rattle.jfr_chunk.specs.Reach.{all_targets, nodes_of, remain}
 use Rattle.jfr_chunk.specs.Written.{Group, distance, sized}
+use Rattle.jfr_chunk.specs.Metas.{Names, new_metadata}
 use Rattle.jfr_chunk.specs.Scrub.{OutputRecord, Whole, Chained, Rebuilt, Written, groups_of, header_with, last_at, moved, older_after, output_records}
 use Rattle.jfr_renumber.specs.Keys.{group_number}
 use Rattle.jfr_renumber.specs.Rekeyed.{rekeyed_bytes}
@@ -120,6 +121,10 @@ assembled_by p bytes ss =
     let body = flat_map (bytes_by bytes) ws in
     header_with p.bytes (68 + length body) (last_at None ws) (moved ws (metadata_at p.bytes)) ++ body
 
--- The output chunk with new keys if these events are kept.
-unfoldable pub renumber_of : Parts → List EventAt → List ℕ
-renumber_of p kept = assembled_by p (new_bytes (new_key p kept) p kept (firsts p kept)) (output_records p kept)
+-- The output chunk with new keys if these events are kept, given the new metadata record, if there is one.
+unfoldable pub renumber_with : Option (List ℕ) → Parts → List EventAt → List ℕ
+renumber_with slim p kept = assembled_by p (new_bytes (new_key p kept) p kept (firsts p kept)) (output_records slim p kept)
+
+-- The output chunk with new keys if these events are kept, and described those classes whose names are in the set.
+abbrev pub renumber_of : Names → Parts → List EventAt → List ℕ
+renumber_of names p kept = renumber_with (new_metadata names p kept) p kept

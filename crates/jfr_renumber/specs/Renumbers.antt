@@ -1,7 +1,7 @@
 -- What renumbering does with a recording.
 use Rattle.std.specs.Prelude.{ℕ, List, [], Result, Ok, Err}
 use Rattle.jfr_base.specs.declared.flaw.Flaw.{Flaw}
-use Rattle.jfr_filter.specs.Filters.{Given}
+use Rattle.jfr_filter.specs.Filters.{Given, describes}
 use Rattle.jfr_plan.specs.Rules.{Rule}
 use Rattle.jfr_plan.specs.Makes.{making}
 use Rattle.jfr_chunk.specs.Parts.{Parts}
@@ -11,7 +11,7 @@ use Rattle.jfr_renumber.specs.Renumber.{renumber_of}
 
 -- The output of a chunk with these parts; none for a chunk that is refused.
 abbrev pub renumbered_by : Given → Result Parts Flaw → List ℕ
-renumbered_by g (Ok p) = renumber_of p (kept_of g p)
+renumbered_by g (Ok p) = renumber_of (describes g) p (kept_of g p)
 renumbered_by g (Err flaw) = []
 
 -- The output of a chunk with new keys, with the events that the filter keeps.

@@ -1,5 +1,5 @@
 //! Laws of renumbering. The functions do nothing; their contracts are the laws.
-ghost use Rattle.std.specs.Prelude.{[], ◌∷◌, ◌++◌, if◌then◌else◌, ◌≡◌, ◌↔◌, ℕ, ◌≤◌, Bool, List, Contains, IsSome};
+ghost use Rattle.std.specs.Prelude.{[], ◌∷◌, ◌++◌, if◌then◌else◌, ◌≡◌, ◌↔◌, ℕ, ◌≤◌, Bool, List, Contains, IsSome, Option};
 ghost use Rattle.std.specs.List.{list_any};
 ghost use Rattle.jfr_pool.specs.declared.entry.EntryAt.{EntryAt};
 ghost use Rattle.jfr_layout.specs.Classes.{Classes, Sound};
@@ -8,12 +8,13 @@ ghost use Rattle.jfr_pool.specs.Entries.{in_force};
 ghost use Rattle.jfr_header.specs.Fronts.{Whole};
 ghost use Rattle.jfr_chunk.specs.Laws.{AreEvents};
 ghost use Rattle.jfr_chunk.specs.Reach.{kept_by};
+ghost use Rattle.jfr_chunk.specs.Metas.{Names};
 ghost use Rattle.jfr_chunk.specs.Scrub.{output_records};
 ghost use Rattle.jfr_chunk.specs.Parts.{AreParts, EventAt, Parts};
 ghost use Rattle.jfr_renumber.specs.Laws.{AgreeOnUsed, KeepsMeaning, RekeyedRecords};
 ghost use Rattle.jfr_renumber.specs.Meaning.{AreNewKeys, AreRekeyedEntries, IsInOrder, IsRenumbered, RekeyedMeaning};
 ghost use Rattle.jfr_renumber.specs.Rekeyed.{rekeyed_pair};
-ghost use Rattle.jfr_renumber.specs.Renumber.{Used, assembled_by, firsts, firsts_with, new_bytes, new_key, renumber_of, used_keys};
+ghost use Rattle.jfr_renumber.specs.Renumber.{Used, assembled_by, firsts, firsts_with, new_bytes, new_key, renumber_with, used_keys};
 
 /// A value with new keys is read by its format. It has the same shape and the same leaves, except for the
 /// keys.
@@ -52,7 +53,7 @@ pub fn renamed_paths()
 /// has exactly these events and, of the entries that they reach, the first of each group, and means the same
 /// except for the keys.
 pub fn renumbered_means_the_same()
-    ensures { (p : Parts) (flags : List Bool) → Whole p.bytes → AreParts p → IsRenumbered p (kept_by p flags) }
+    ensures { (names : Names) (p : Parts) (flags : List Bool) → Whole p.bytes → AreParts p → IsRenumbered names p (kept_by p flags) }
 {}
 
 /// An entry that is added at the end of a list is one of its first entries, unless the test says that an
@@ -65,5 +66,5 @@ pub fn firsts_one_by_one()
 /// Keys that agree with the new ones on all that is used give the same output.
 #[tactic(auto, using(crate::proofs::AgreeLaws::output_same))]
 pub fn only_used_keys_matter()
-    ensures { (p : Parts) (flags : List Bool) (new : ℕ × ℕ → ℕ) → AreParts p → ((t : ℕ × ℕ) → Used p (kept_by p flags) t → new t ≡ new_key p (kept_by p flags) t) → assembled_by p (new_bytes new p (kept_by p flags) (firsts p (kept_by p flags))) (output_records p (kept_by p flags)) ≡ renumber_of p (kept_by p flags) }
+    ensures { (slim : Option (List ℕ)) (p : Parts) (flags : List Bool) (new : ℕ × ℕ → ℕ) → AreParts p → ((t : ℕ × ℕ) → Used p (kept_by p flags) t → new t ≡ new_key p (kept_by p flags) t) → assembled_by p (new_bytes new p (kept_by p flags) (firsts p (kept_by p flags))) (output_records slim p (kept_by p flags)) ≡ renumber_with slim p (kept_by p flags) }
 {}

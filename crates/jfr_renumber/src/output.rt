@@ -4,11 +4,11 @@ ghost use Rattle.jfr_frame.specs.Records.{IsRecord, record_bytes};
 ghost use Rattle.jfr_chunk.specs.Reach.{kept_by};
 ghost use Rattle.jfr_chunk.specs.Scrub.{groups_of, output_records};
 ghost use Rattle.jfr_chunk.specs.Written.{distance, sized};
-ghost use Rattle.jfr_output.specs.OutputRecords.{new_metadata, output_record_as};
+ghost use Rattle.jfr_output.specs.OutputRecords.{IsNewMetadata, output_record_as};
 ghost use Rattle.jfr_output.specs.Positions.{IsBefore, offset_so_far};
 ghost use Rattle.jfr_output.specs.Remaining.{NotFalling};
 ghost use Rattle.jfr_renumber.specs.Numbers.{number_of, number_or_zero};
-ghost use Rattle.jfr_renumber.specs.Renumber.{checkpoint_tail, firsts, new_bytes, new_key_of, renumber_of};
+ghost use Rattle.jfr_renumber.specs.Renumber.{checkpoint_tail, firsts, new_bytes, new_key_of, renumber_with};
 ghost use Rattle.jfr_renumber.specs.Writing.{CanWrite, CheckpointFits, IsBody, IsWritten, progress_of};
 
 use crate::checkpoints::{OutputCheckpoint, put_checkpoint};
@@ -49,10 +49,10 @@ pub(crate) fn put_chunk<L: Ledger>(
     kept: &Kept,
     steps: &mut Steps<L>,
 ) -> Result<Vec<u8>, NoMemory>
-    requires slim { option_map (λ s. s.now) source.slim ≡ new_metadata source.chunk.now kept.now }
+    requires slim { IsNewMetadata source.chunk.now (kept_by source.chunk.now kept.now) (option_map (λ s. s.now) source.slim) }
     requires entries { source.entries.now ≡ firsts source.chunk.now (kept_by source.chunk.now kept.now) }
     requires keys { (t : ℕ × ℕ) → number_of source.keys.now t ≡ new_key_of source.chunk.now (kept_by source.chunk.now kept.now) t }
-    ensures { IfOk result (λ out. out.items ≡ renumber_of source.entry.chunk.now (kept_by source.entry.chunk.now kept.now)) }
+    ensures { IfOk result (λ out. out.items ≡ renumber_with (option_map (λ s. s.now) source.entry.slim) source.entry.chunk.now (kept_by source.entry.chunk.now kept.now)) }
 {
     source.chunk.parts_are_valid();
     out.clear();
@@ -81,10 +81,10 @@ fn put_records<L: Ledger>(
     steps: &mut Steps<L>,
 ) -> Result<(), NoMemory>
     requires empty { progress_of output.old ≡ record { bytes = replicate 68 0; newest = None; metadata = None } }
-    requires slim { option_map (λ s. s.now) source.slim ≡ new_metadata source.chunk.now kept.now }
+    requires slim { IsNewMetadata source.chunk.now (kept_by source.chunk.now kept.now) (option_map (λ s. s.now) source.slim) }
     requires entries { source.entries.now ≡ firsts source.chunk.now (kept_by source.chunk.now kept.now) }
     requires below { (t : ℕ × ℕ) → number_or_zero source.keys.now t ≤ t.1 }
-    ensures ok { OnOk result (IsBody source.entry.chunk.now (new_bytes (number_or_zero source.entry.keys.now) source.entry.chunk.now (kept_by source.entry.chunk.now kept.now) source.entry.entries.now) (output_records source.entry.chunk.now (kept_by source.entry.chunk.now kept.now)) (progress_of output.new)) }
+    ensures ok { OnOk result (IsBody source.entry.chunk.now (new_bytes (number_or_zero source.entry.keys.now) source.entry.chunk.now (kept_by source.entry.chunk.now kept.now) source.entry.entries.now) (output_records (option_map (λ s. s.now) source.entry.slim) source.entry.chunk.now (kept_by source.entry.chunk.now kept.now)) (progress_of output.new)) }
 {
     source.chunk.parts_are_valid();
     let mut cursor = Cursor {

@@ -3,6 +3,7 @@ ghost use Rattle.std.specs.Prelude.{◌≡◌, ℕ, ◌<◌, length, IfOk};
 ghost use Rattle.jfr_chunk.specs.Chosen.{kept_of};
 ghost use Rattle.jfr_chunk.specs.Parts.{events_of};
 ghost use Rattle.jfr_chunk.specs.Reach.{kept_by, reached_marks};
+ghost use Rattle.jfr_filter.specs.Filters.{describes};
 ghost use Rattle.jfr_renumber.specs.Meaning.{IsRenumbered};
 ghost use Rattle.jfr_renumber.specs.Numbers.{number_of};
 ghost use Rattle.jfr_renumber.specs.Renumber.{new_key_of, renumber_of};
@@ -47,11 +48,11 @@ impl Renumberer {
     ) -> Result<Renumberer, NoMemory>
         // The new keys, which classes and keys have one, and the output with them.
         ensures keys { IfOk result (λ r. (t : ℕ × ℕ) → number_of r.keys t ≡ new_key_of chunk.now (kept_of filter.now chunk.now) t) }
-        ensures bytes { IfOk result (λ r. r.bytes ≡ renumber_of chunk.now (kept_of filter.now chunk.now)) }
+        ensures bytes { IfOk result (λ r. r.bytes ≡ renumber_of (describes filter.now) chunk.now (kept_of filter.now chunk.now)) }
 
         // The output is accepted, is no longer than the chunk or than its scrub, and means the same except for
         // the keys.
-        ensures renumbered { IfOk result (λ r. IsRenumbered chunk.now (kept_of filter.now chunk.now)) }
+        ensures renumbered { IfOk result (λ r. IsRenumbered (describes filter.now) chunk.now (kept_of filter.now chunk.now)) }
     {
         Renumberer::prepare_in(alloc, Vec::new(alloc), chunk, filter)
     }
@@ -64,11 +65,11 @@ impl Renumberer {
         filter: &Filter,
     ) -> Result<Renumberer, NoMemory>
         ensures keys { IfOk result (λ r. (t : ℕ × ℕ) → number_of r.keys t ≡ new_key_of chunk.now (kept_of filter.now chunk.now) t) }
-        ensures bytes { IfOk result (λ r. r.bytes ≡ renumber_of chunk.now (kept_of filter.now chunk.now)) }
-        ensures renumbered { IfOk result (λ r. IsRenumbered chunk.now (kept_of filter.now chunk.now)) }
+        ensures bytes { IfOk result (λ r. r.bytes ≡ renumber_of (describes filter.now) chunk.now (kept_of filter.now chunk.now)) }
+        ensures renumbered { IfOk result (λ r. IsRenumbered (describes filter.now) chunk.now (kept_of filter.now chunk.now)) }
     {
         let kept = choose(alloc, chunk, filter)?;
-        renumbered::<Brand>(alloc, Blank::new(1), memory, chunk, &kept)
+        renumbered::<Brand>(alloc, Blank::new(1), memory, chunk, &kept, filter)
     }
 
     /// The output chunk. Allocates nothing.
@@ -101,14 +102,15 @@ fn renumbered<L: Ledger>(
     memory: Vec<u8>,
     chunk: &Chunk<'_>,
     kept: &Kept,
+    filter: &Filter,
 ) -> Result<Renumberer, NoMemory>
     requires name { blank.name ≡ L.name }
     requires parts { blank.parts ≡ L.parts }
     requires some { 0 < blank.parts }
     requires kept { length kept.now ≡ length (events_of chunk.now) }
     ensures keys { IfOk result (λ r. (t : ℕ × ℕ) → number_of r.keys t ≡ new_key_of chunk.now (kept_by chunk.now kept.now) t) }
-    ensures bytes { IfOk result (λ r. r.bytes ≡ renumber_of chunk.now (kept_by chunk.now kept.now)) }
-    ensures renumbered { IfOk result (λ r. IsRenumbered chunk.now (kept_by chunk.now kept.now)) }
+    ensures bytes { IfOk result (λ r. r.bytes ≡ renumber_of (describes filter.now) chunk.now (kept_by chunk.now kept.now)) }
+    ensures renumbered { IfOk result (λ r. IsRenumbered (describes filter.now) chunk.now (kept_by chunk.now kept.now)) }
 {
     // For the proof: its clauses say that the chunk is whole and has parts.
     chunk.bytes();
@@ -119,6 +121,7 @@ fn renumbered<L: Ledger>(
     let chosen = Chosen {
         chunk,
         kept,
+        filter,
         marks: &marks,
     };
     let bytes = put_output(alloc, memory, chosen, &keys, &mut steps)?;
@@ -130,6 +133,7 @@ fn renumbered<L: Ledger>(
 struct Chosen<'c> {
     chunk: &'c Chunk<'c>,
     kept: &'c Kept,
+    filter: &'c Filter,
     marks: &'c Marks,
 }
 
@@ -145,12 +149,12 @@ fn put_output<L: Ledger>(
     requires size { length chosen.marks.now ≡ length chosen.chunk.now.entries }
     requires marks { chosen.marks.now ≡ reached_marks chosen.chunk.now (kept_by chosen.chunk.now chosen.kept.now) }
     requires keys { (t : ℕ × ℕ) → number_of keys.now t ≡ new_key_of chosen.chunk.now (kept_by chosen.chunk.now chosen.kept.now) t }
-    ensures { IfOk result (λ out. out.items ≡ renumber_of chosen.entry.chunk.now (kept_by chosen.entry.chunk.now chosen.entry.kept.now)) }
+    ensures { IfOk result (λ out. out.items ≡ renumber_of (describes chosen.entry.filter.now) chosen.entry.chunk.now (kept_by chosen.entry.chunk.now chosen.entry.kept.now)) }
 {
     let chunk = chosen.chunk;
     let new = EntryKeys::make(alloc, keys, chunk.pools())?;
     let entries = first_entries(alloc, chunk, chosen.marks, &new)?;
-    let slim = slim_metadata(alloc, chunk, chosen.kept)?;
+    let slim = slim_metadata(alloc, chunk, chosen.kept, chosen.filter)?;
     let source = Source {
         chunk,
         slim: slim.as_deref(),

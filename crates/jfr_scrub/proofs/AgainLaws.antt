@@ -9,7 +9,7 @@ use Rattle.jfr_header.specs.Fronts.{Whole, flaw_at, front}
 use Rattle.jfr_header.specs.Cuts.{Cuts, cut, joined}
 use Rattle.jfr_header.proofs.CutLaws.{all_whole, are_cut}
 use Rattle.jfr_header.proofs.Cutting.{cut_bad}
-use Rattle.jfr_filter.specs.Filters.{Given}
+use Rattle.jfr_filter.specs.Filters.{Given, describes}
 use Rattle.jfr_chunk.specs.Parts.{Parts, AreParts}
 use Rattle.jfr_chunk.specs.Chosen.{kept_of}
 use Rattle.jfr_chunk.specs.Scrub.{scrub_of}
@@ -53,8 +53,8 @@ becomes_whole g c b s = subst Whole (sym s.becomes) s.settled.kept.whole
 
 becomes_short : (g : Given) (c b : List ℕ) → IsScrubbed g c b → length b ≤ length c
 becomes_short g c b s =
-    let k : length (scrub_of s.parts (kept_of g s.parts)) ≤ length s.parts.bytes = s.settled.kept.size in
-    let m : length b ≡ length (scrub_of s.parts (kept_of g s.parts)) = ap (λ (z : List ℕ). length z) s.becomes in
+    let k : length (scrub_of (describes g) s.parts (kept_of g s.parts)) ≤ length s.parts.bytes = s.settled.kept.size in
+    let m : length b ≡ length (scrub_of (describes g) s.parts (kept_of g s.parts)) = ap (λ (z : List ℕ). length z) s.becomes in
     let n : length s.parts.bytes ≡ length c = ap (λ (z : List ℕ). length z) s.bytes in
     omega arith
 

@@ -11,7 +11,6 @@ use Rattle.jfr_pool.specs.Entries.{AreEntries, entries_from}
 use Rattle.jfr_chunk.specs.Parts.{Parts, EventAt, AreParts, events_of, metadata_at}
 use Rattle.jfr_chunk.specs.Reach.{kept_by, marked, reached_marks, remain}
 use Rattle.jfr_chunk.specs.Scrub.{Whole, Chained, output_record_by, output_record_of, output_records, is_kept_or_metadata, written_anew}
-use Rattle.jfr_chunk.specs.Metas.{metadata_size, rebuilt}
 use Rattle.jfr_worklist.specs.Members.{In}
 use Rattle.jfr_worklist.proofs.Members.{contains_in, in_cases}
 use Rattle.jfr_chunk.proofs.AllLaws.{all_in, in_filter_map}
@@ -21,7 +20,6 @@ use Rattle.jfr_laws.proofs.Marks.{all_marked}
 use Rattle.jfr_laws.proofs.Order.{Numbered, found_numbered}
 use Rattle.jfr_laws.proofs.Premises.{all_links, IsCheckpoint, chained_checkpoints, metadata_stands}
 use Rattle.jfr_output.specs.OutputRecords.{link_there}
-use Rattle.jfr_output.proofs.NewLaws.{new_written}
 use Rattle.jfr_output.proofs.CursorLaws.{cursor_first, event_in, events_given}
 use Rattle.jfr_output.proofs.CheckpointEntries.{pools_number}
 use Rattle.jfr_scrub.specs.declared.piece.Part.{Part}
@@ -81,13 +79,13 @@ or_true false d e = e
 or_first : (b d : Bool) → b ≡ true → b || d ≡ true
 or_first b d e = ap (λ z. z || d) e
 
-module _ (p : Parts) (a : AreParts p) (ps : List Part) where
+module _ (new : Option (List ℕ)) (p : Parts) (a : AreParts p) (ps : List Part) where
   -- Of what stays whole.
-  whole_copied : (kept : List EventAt) (remaining : List EntryAt) (r : Framed) → AllByRecursion (OutputRecordIsCopied remaining ps) (output_records p kept) → In p.records r → link_there p r ≡ None → is_kept_or_metadata p kept r ≡ true → written_anew p kept r ≡ None → RecordIsCopied ps r
+  whole_copied : (kept : List EventAt) (remaining : List EntryAt) (r : Framed) → AllByRecursion (OutputRecordIsCopied remaining ps) (output_records new p kept) → In p.records r → link_there p r ≡ None → is_kept_or_metadata p kept r ≡ true → written_anew new p r ≡ None → RecordIsCopied ps r
   whole_copied kept remaining r c i l w n =
-      all_in (OutputRecordIsCopied remaining ps) (output_records p kept) (Whole r) c (in_given (output_record_of p kept) p.records r (Whole r) i (λ j. output_record_by (l j) (w j) (n j) r))
+      all_in (OutputRecordIsCopied remaining ps) (output_records new p kept) (Whole r) c (in_given (output_record_of new p kept) p.records r (Whole r) i (λ j. output_record_by (l j) (w j) (n j) r))
 
-  event_copied : (flags : List Bool) (remaining : List EntryAt) → AllByRecursion (OutputRecordIsCopied remaining ps) (output_records p (kept_by p flags)) → (e : EventAt) → In (kept_by p flags) e → EventIsCopied ps e
+  event_copied : (flags : List Bool) (remaining : List EntryAt) → AllByRecursion (OutputRecordIsCopied remaining ps) (output_records new p (kept_by p flags)) → (e : EventAt) → In (kept_by p flags) e → EventIsCopied ps e
   unfolding events_of
   event_copied flags remaining c e i =
       let there = in_filter_map (event_in p) p.records e (subst (λ z. In z e) (events_given p p.records) (in_marked flags (events_of p) e i)) in
@@ -99,23 +97,23 @@ module _ (p : Parts) (a : AreParts p) (ps : List Part) where
       in_any (λ (x : EventAt). x.record_of.at == r.at) (kept_by p flags) e i (is_eq e.record_of.at r.at (ap (λ (z : Framed). z.at) recorded.0)) in
       subst (RecordIsCopied ps) (sym recorded.0)
       (whole_copied (kept_by p flags) remaining r c there.1 alone.1 (or_first (list_any (λ x. x.record_of.at == r.at) (kept_by p flags)) (r.at == metadata_at p.bytes) chosen)
-      (ap (λ t. if t then rebuilt p (kept_by p flags) r.size else None) alone.0))
+      (ap (λ t. if t then new else None) alone.0))
 
-  pub events_are_copied : (flags : List Bool) (remaining : List EntryAt) → AllByRecursion (OutputRecordIsCopied remaining ps) (output_records p (kept_by p flags)) → AllByRecursion (EventIsCopied ps) (kept_by p flags)
+  pub events_are_copied : (flags : List Bool) (remaining : List EntryAt) → AllByRecursion (OutputRecordIsCopied remaining ps) (output_records new p (kept_by p flags)) → AllByRecursion (EventIsCopied ps) (kept_by p flags)
   events_are_copied flags remaining c = all_from (EventIsCopied ps) (kept_by p flags) (event_copied flags remaining c)
 
-  entry_copied : (kept : List EventAt) → AllByRecursion (OutputRecordIsCopied (remain p kept) ps) (output_records p kept) → (e : EntryAt) → In (remain p kept) e → In p.entries e → EntryIsCopied ps e
+  entry_copied : (kept : List EventAt) → AllByRecursion (OutputRecordIsCopied (remain p kept) ps) (output_records new p kept) → (e : EntryAt) → In (remain p kept) e → In p.entries e → EntryIsCopied ps e
   entry_copied kept c e i j =
       let remaining = remain p kept in
       let link = entry_link p.bytes p.classes 0 (reverse p.chain) p.entries e a.entries j in
       let there = in_filter_map (link_there p) p.records (e.checkpoint, link.0) (subst (λ z. In z (e.checkpoint, link.0)) ((cursor_first p [] a).links) link.1) in
       let r : Framed = there.0 in
       let all : AllByRecursion (EntryIsCopied ps) (filter (λ x. x.checkpoint == e.checkpoint) remaining) =
-      all_in (OutputRecordIsCopied remaining ps) (output_records p kept) (Chained e.checkpoint link.0) c
-      (in_given (output_record_of p kept) p.records r (Chained e.checkpoint link.0) there.1 (λ h. output_record_by (there.2 h) (is_kept_or_metadata p kept r) (written_anew p kept r) r)) in
+      all_in (OutputRecordIsCopied remaining ps) (output_records new p kept) (Chained e.checkpoint link.0) c
+      (in_given (output_record_of new p kept) p.records r (Chained e.checkpoint link.0) there.1 (λ h. output_record_by (there.2 h) (is_kept_or_metadata p kept r) (written_anew new p r) r)) in
       all_in (EntryIsCopied ps) (filter (λ x. x.checkpoint == e.checkpoint) remaining) e all (in_filter (λ x. x.checkpoint == e.checkpoint) remaining e i (is_eq e.checkpoint e.checkpoint refl))
 
-  pub entries_are_copied : (kept : List EventAt) → AllByRecursion (OutputRecordIsCopied (remain p kept) ps) (output_records p kept) → AllByRecursion (EntryIsCopied ps) (remain p kept)
+  pub entries_are_copied : (kept : List EventAt) → AllByRecursion (OutputRecordIsCopied (remain p kept) ps) (output_records new p kept) → AllByRecursion (EntryIsCopied ps) (remain p kept)
   unfolding remain
   entries_are_copied kept c = all_from (EntryIsCopied ps) (remain p kept) (λ e i. entry_copied kept c e i (in_marked (reached_marks p kept) p.entries e i))
 
@@ -133,7 +131,7 @@ module _ (p : Parts) (a : AreParts p) (ps : List Part) where
           let m : a.metadata_record.type_id ≡ 0 = a.metadata_there.type_is in
           cc
 
-  pub metadata_is_copied : (kept : List EventAt) (remaining : List EntryAt) → AllByRecursion (OutputRecordIsCopied remaining ps) (output_records p kept) → rebuilt p kept (metadata_size p) ≡ None → MetadataIsCopied ps p
+  pub metadata_is_copied : (kept : List EventAt) (remaining : List EntryAt) → AllByRecursion (OutputRecordIsCopied remaining ps) (output_records new p kept) → new ≡ None → MetadataIsCopied ps p
   metadata_is_copied kept remaining c none =
       let r = a.metadata_record in
       record {
@@ -141,5 +139,5 @@ module _ (p : Parts) (a : AreParts p) (ps : List Part) where
         there = a.metadata_there;
         copied = whole_copied kept remaining r c (contains_in p.records r a.metadata_there.listed) no_link
             (or_true (list_any (λ e. e.record_of.at == r.at) kept) (r.at == metadata_at p.bytes) (is_eq r.at (metadata_at p.bytes) a.metadata_there.place))
-            (sym (new_written p a kept r (metadata_stands p a)) ∙ (ap (λ t. if t then rebuilt p kept (metadata_size p) else None) (is_eq r.at (metadata_at p.bytes) a.metadata_there.place) ∙ none));
+            (ap (λ t. if t then new else None) (is_eq r.at (metadata_at p.bytes) a.metadata_there.place) ∙ none);
       }

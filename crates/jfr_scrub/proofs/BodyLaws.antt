@@ -1,5 +1,5 @@
 -- The body while it is laid out.
-use Rattle.std.specs.Prelude.{◌≡◌, ℕ, ◌+◌, ◌≤◌, Bool, true, false, ◌==◌, List, [], ◌∷◌, ◌++◌, length, take, filter, None, unwrap_or, cond}
+use Rattle.std.specs.Prelude.{◌≡◌, ℕ, ◌+◌, ◌≤◌, Bool, true, false, ◌==◌, List, [], ◌∷◌, ◌++◌, length, take, filter, Option, None, unwrap_or, cond}
 use Rattle.std.specs.List.{flat_map, AllByRecursion}
 use Rattle.std.proofs.Common.{ap, arith, refl, sym, ◌∙◌, subst, length-append}
 use Rattle.std.proofs.lemmas.List.{append-nil}
@@ -8,7 +8,7 @@ use Rattle.jfr_header.specs.Headers.{header_of, header_bytes}
 use Rattle.jfr_header.specs.declared.header.Header.{Header}
 use Rattle.jfr_chunk.specs.Reach.{remain}
 use Rattle.jfr_chunk.specs.Parts.{Parts, EventAt, metadata_at}
-use Rattle.jfr_chunk.specs.Scrub.{OutputRecord, Written, bytes_of, written_bytes, older_after, written, last_at, record_of, moved, output_records, scrub_of}
+use Rattle.jfr_chunk.specs.Scrub.{OutputRecord, Written, bytes_of, written_bytes, older_after, written, last_at, record_of, moved, output_records, scrub_with}
 use Rattle.jfr_output.specs.Positions.{IsBefore, offset_so_far}
 use Rattle.jfr_output.proofs.PositionLaws.{last_next, last_none, moved_next, or_none, or_place, still_before}
 use Rattle.jfr_scrub.specs.Bodies.{Progress, OutputRecordFits, body_with, IsBody}
@@ -100,10 +100,10 @@ going_all p remaining all ss b g e = done (subst (λ z. Going p remaining all z 
         }
 
 -- The header before the body is what the chunk becomes.
-pub laid_all : (p : Parts) (kept : List EventAt) (remaining : List EntryAt) (b : Progress) (h : Header) (front joined : List ℕ) → remaining ≡ remain p kept → IsBody p remaining (output_records p kept) b → h ≡ header_of (take 68 p.bytes) →
-    front ≡ header_bytes (record h { size = b.at; pools = unwrap_or b.older 0; metadata = unwrap_or b.metadata 0 }) → joined ≡ front ++ b.output.bytes → joined ≡ scrub_of p kept
-unfolding scrub_of
-laid_all p kept remaining b h front joined l i e f j =
-    let k : IsBody p (remain p kept) (output_records p kept) b = subst (λ z. IsBody p z (output_records p kept) b) l i in
+pub laid_all : (new : Option (List ℕ)) (p : Parts) (kept : List EventAt) (remaining : List EntryAt) (b : Progress) (h : Header) (front joined : List ℕ) → remaining ≡ remain p kept → IsBody p remaining (output_records new p kept) b → h ≡ header_of (take 68 p.bytes) →
+    front ≡ header_bytes (record h { size = b.at; pools = unwrap_or b.older 0; metadata = unwrap_or b.metadata 0 }) → joined ≡ front ++ b.output.bytes → joined ≡ scrub_with new p kept
+unfolding scrub_with
+laid_all new p kept remaining b h front joined l i e f j =
+    let k : IsBody p (remain p kept) (output_records new p kept) b = subst (λ z. IsBody p z (output_records new p kept) b) l i in
     let bytes = ap (λ (z : OutputSoFar). z.bytes) k.output in
     j ∙ (ap (λ z. z ++ b.output.bytes) f ∙ (λ n. header_bytes (record (e n) { size = k.at n; pools = k.older n; metadata = k.metadata n }) ++ bytes n))

@@ -19,6 +19,7 @@ use Rattle.jfr_pool.specs.Entries.{Constant, PoolAt, entry_of, entries_from, Are
 use Rattle.jfr_chunk.specs.Parts.{Parts, EventAt, AreParts}
 use Rattle.jfr_chunk.specs.Reach.{reached_marks, remain}
 use Rattle.jfr_chunk.specs.Written.{distance}
+use Rattle.jfr_chunk.specs.Metas.{Names, new_metadata}
 use Rattle.jfr_chunk.specs.Scrub.{OutputRecord, Whole, Chained, Rebuilt, groups_of, bytes_of, written_bytes, written, written_anew, output_records, is_kept_or_metadata}
 use Rattle.jfr_laws.specs.InChunk.{IsLinkIn, Constants, Pools}
 use Rattle.jfr_laws.proofs.InChunk.{body_stands}
@@ -28,7 +29,7 @@ use Rattle.jfr_laws.proofs.OutputRecords.{Deltas, IsOutputRecordIn, own_frame}
 use Rattle.jfr_laws.proofs.ReadBack.{tail_small}
 use Rattle.jfr_laws.proofs.Premises.{all_links, IsCheckpoint, Ready, ready, chained_checkpoints}
 use Rattle.jfr_laws.proofs.Lengths.{length_back, sizes_within}
-use Rattle.jfr_laws.proofs.AnewLaws.{good_anew}
+use Rattle.jfr_laws.proofs.Anews.{good_anew}
 use Rattle.jfr_scrub.specs.Fits.{LinkFits}
 use Rattle.jfr_scrub.specs.Bodies.{OutputRecordFits}
 use Rattle.jfr_scrub.specs.Sizes.{HasRange}
@@ -69,22 +70,25 @@ some_written c remaining (Chained i l) at older f =
     let w = size_width c l.frame f.framed in
     omega (arith, w.0)
 
-module _ (p : Parts) (a : AreParts p) (kept : List EventAt) where
+module _ (names : Names) (p : Parts) (a : AreParts p) (kept : List EventAt) where
+  abbrev new : Option (List ℕ)
+  new = new_metadata names p kept
+
   records_of : (ts : List Numbered) → AllByRecursion (IsCheckpoint p.bytes) ts → AllByRecursion (λ m. IsRecord p.bytes m.1.frame) ts
   records_of [] b = tt
   records_of (t ∷ ts) b = (b.0.0, records_of ts b.1)
 
-  is_ready : Ready p (remain p kept) (output_records p kept)
+  is_ready : Ready p (remain p kept) (output_records new p kept)
   unfolding remain
-  is_ready = ready p a (is_kept_or_metadata p kept) (written_anew p kept) (good_anew p a kept) (reached_marks p kept)
+  is_ready = ready p a (is_kept_or_metadata p kept) (written_anew new p) (good_anew names p a kept) (reached_marks p kept)
 
-  pub all_fit : AllByRecursion (WrittenFits p.bytes (remain p kept)) (written p.bytes (remain p kept) 68 None (output_records p kept))
-  all_fit = all_written p.bytes (remain p kept) p.classes (output_records p kept) 68 None is_ready.valid is_ready.deltas
+  pub all_fit : AllByRecursion (WrittenFits p.bytes (remain p kept)) (written p.bytes (remain p kept) 68 None (output_records new p kept))
+  all_fit = all_written p.bytes (remain p kept) p.classes (output_records new p kept) 68 None is_ready.valid is_ready.deltas
 
-  pub all_within : 68 + length (flat_map (written_bytes p.bytes (remain p kept)) (written p.bytes (remain p kept) 68 None (output_records p kept))) ≤ length p.bytes
+  pub all_within : 68 + length (flat_map (written_bytes p.bytes (remain p kept)) (written p.bytes (remain p kept) 68 None (output_records new p kept))) ≤ length p.bytes
   all_within =
-      let i = length_back p.bytes (remain p kept) p.classes (output_records p kept) 68 None is_ready.valid is_ready.deltas in
-      let j = sizes_within p.bytes (all_links p) (is_kept_or_metadata p kept) (written_anew p kept) (records_of (all_links p) (chained_checkpoints p a)) p.records 68 (length p.bytes) a.records in
+      let i = length_back p.bytes (remain p kept) p.classes (output_records new p kept) 68 None is_ready.valid is_ready.deltas in
+      let j = sizes_within p.bytes (all_links p) (is_kept_or_metadata p kept) (written_anew new p) (records_of (all_links p) (chained_checkpoints p a)) p.records 68 (length p.bytes) a.records in
       omega arith
 
 module _ (c : List ℕ) (k : Classes) where

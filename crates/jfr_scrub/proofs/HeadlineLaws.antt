@@ -5,7 +5,7 @@ use Rattle.jfr_base.specs.declared.flaw.Refusal.{Refusal}
 use Rattle.jfr_outside.specs.World.{State, IfKnown}
 use Rattle.jfr_header.specs.declared.ending.Ending.{Ending}
 use Rattle.jfr_header.specs.declared.ending.Ending.TheVariants as ending
-use Rattle.jfr_filter.specs.Filters.{Given}
+use Rattle.jfr_filter.specs.Filters.{Given, describes}
 use Rattle.jfr_plan.specs.Ends.{Fine, Refused}
 use Rattle.jfr_plan.specs.Effects.{without_sink}
 use Rattle.jfr_plan.specs.Clauses.{over, Ended}
@@ -33,7 +33,7 @@ pub headline : (g : Given) (input output : List ℕ) (e : Ending) (a b : State) 
 headline g input output = made_by_plan refusal_of (scrubbed g) input output (Scrubs g input output) (has_output refusal_of (scrubbed g) (IsScrubbed g) (is_scrubbed g) (recording_chunks g) input output)
 
 -- What a chunk is read as is scrubbed.
-pub made_of : (g : Given) (c b : List ℕ) (p : Parts) → read_parts c ≡ Ok p → b ≡ scrub_of p (kept_of g p) → (refusal_of c ≡ None) × (b ≡ scrubbed g c)
+pub made_of : (g : Given) (c b : List ℕ) (p : Parts) → read_parts c ≡ Ok p → b ≡ scrub_of (describes g) p (kept_of g p) → (refusal_of c ≡ None) × (b ≡ scrubbed g c)
 unfolding refusal_of scrubbed
 made_of g c b p e h = (ap flaw_in e, h ∙ sym (ap (scrubbed_by g) e))
 

@@ -16,7 +16,6 @@ use Rattle.jfr_pool.specs.declared.link.Link.{Link}
 use Rattle.jfr_chunk.specs.Parts.{Parts, EventAt, AreParts, events_of, metadata_at}
 use Rattle.jfr_chunk.specs.Reach.{kept_by}
 use Rattle.jfr_chunk.specs.Scrub.{OutputRecord, Whole, output_record_by, output_record_of, written, written_anew, written_bytes}
-use Rattle.jfr_chunk.specs.Metas.{rebuilt}
 use Rattle.jfr_chunk.proofs.AllLaws.{all_append, all_get}
 use Rattle.jfr_laws.proofs.Quiet.{IsQuiet, quiet_records}
 use Rattle.jfr_output.specs.declared.output_records.Cursor.{Cursor}
@@ -44,7 +43,7 @@ pub record AtRun (p : Parts) (flags : List Bool) (c : Cursor) : Type 0 where
   pub event : c.event < length (events_of p)
   pub other : (frame.at == metadata_at p.bytes) ≡ false
   pub cursor : IsCursor p flags (next_event c)
-  pub output_records : remaining_output_records p flags c ≡ Whole frame ∷ remaining_output_records p flags (next_event c)
+  pub output_records : (new : Option (List ℕ)) → remaining_output_records new p flags c ≡ Whole frame ∷ remaining_output_records new p flags (next_event c)
 
 unlinked : (ls : List Link) (n at : ℕ) → linked_at ls n at ≡ None → link_after ls n at ≡ n
 unlinked ls n at e = by_link (slice_get ls n) e
@@ -84,8 +83,8 @@ at_run p flags c i h =
     let u = cursor_passed p flags c x.frame i x.framed in
     let w = event_alone p i.parts c.frame x.frame x.framed ((event_recorded p x.frame x.event x.given).1) in
     let l : link_after (reverse p.chain) c.link x.frame.at ≡ c.link = unlinked (reverse p.chain) c.link x.frame.at (u.2 ∙ w.1) in
-    let n : written_anew p (kept_by p flags) x.frame ≡ None = ap (λ t. if t then rebuilt p (kept_by p flags) x.frame.size else None) w.0 in
-    let s : output_record_of p (kept_by p flags) x.frame ≡ Some (Whole x.frame) = λ j. output_record_by (w.1 j) ((sym u.1 ∙ x.keep) j || (x.frame.at == metadata_at p.bytes)) (n j) x.frame in
+    let n : (new : Option (List ℕ)) → written_anew new p x.frame ≡ None = λ new. ap (λ t. if t then new else None) w.0 in
+    let s : (new : Option (List ℕ)) → output_record_of new p (kept_by p flags) x.frame ≡ Some (Whole x.frame) = λ new j. output_record_by (w.1 j) ((sym u.1 ∙ x.keep) j || (x.frame.at == metadata_at p.bytes)) (n new j) x.frame in
     record {
       frame = x.frame;
       there = x.framed;
@@ -93,7 +92,7 @@ at_run p flags c i h =
       event = slice_get_within (events_of p) c.event x.event x.there;
       other = w.0;
       cursor = subst (IsCursor p flags) (λ j. record { frame = c.frame + 1; event = x.behind j; link = l j }) u.0;
-      output_records = output_records_at p flags c x.frame x.framed ∙ ap (λ o. cons_option o (filter_map (output_record_of p (kept_by p flags)) (drop (c.frame + 1) p.records))) s;
+      output_records = λ new. output_records_at new p flags c x.frame x.framed ∙ ap (λ o. cons_option o (filter_map (output_record_of new p (kept_by p flags)) (drop (c.frame + 1) p.records))) (s new);
     }
 
 -- What is computed of a record's place.
@@ -129,7 +128,7 @@ start_within p a n = by_record (slice_get p.records n) refl
     by_record (Some r) e = let s = start_next p.bytes 68 (length p.bytes) p.records n r a.records e in let i : record_end r ≤ length p.bytes = s.0.within in omega arith
 
 pub run_none : (p : Parts) (flags : List Bool) (c : Cursor) (from : ℕ) → IsCursor p flags c → from ≡ record_start p c.frame → IsRun p flags c c from (record_start p c.frame)
-run_none p flags c from i e = record { records = []; tiles = e; within = start_within p i.parts c.frame; others = tt; output_records = refl }
+run_none p flags c from i e = record { records = []; tiles = e; within = start_within p i.parts c.frame; others = tt; output_records = λ new. refl }
 
 more_output_records : (rs : List Framed) (r : Framed) (ss : List OutputRecord) → map (λ s. Whole s) rs ++ (Whole r ∷ ss) ≡ map (λ s. Whole s) (rs ++ r ∷ []) ++ ss
 more_output_records [] r ss = refl
@@ -145,7 +144,7 @@ run_next p flags c d from u a =
       tiles = subst (Tiles p.bytes from (u.records ++ a.frame ∷ [])) (sym e) (tiles_more p.bytes from (record_start p d.frame) u.records a.frame u.tiles (sym f) s.0);
       within = start_within p a.cursor.parts (d.frame + 1);
       others = all_append (λ r. (r.at == metadata_at p.bytes) ≡ false) u.records (a.frame ∷ []) u.others (a.other, tt);
-      output_records = u.output_records ∙ (ap (λ ss. map (λ r. Whole r) u.records ++ ss) a.output_records ∙ more_output_records u.records a.frame (remaining_output_records p flags (next_event d)));
+      output_records = λ new. u.output_records new ∙ (ap (λ ss. map (λ r. Whole r) u.records ++ ss) (a.output_records new) ∙ more_output_records u.records a.frame (remaining_output_records new p flags (next_event d)));
     }
 
 -- If all events are kept, consecutive ones are a run.
@@ -231,10 +230,10 @@ laid_run p remaining all ss (r ∷ rs) from to b g t o =
     subst (Going p remaining all ss) (e ∙ ap (λ n. with_range b n to) t.0) rest
 
 -- What is left to lay out after a run.
-pub going_run : (p : Parts) (flags : List Bool) (remaining : List EntryAt) (all rest : List OutputRecord) (c d : Cursor) (run : Run) (b next : Progress) → IsRun p flags c d run.from run.to → Going p remaining all (remaining_output_records p flags c) b → next ≡ body_with_run b run → remaining_output_records p flags d ≡ rest → Going p remaining all rest next
-going_run p flags remaining all rest c d run b next u g n e =
-    let laid = laid_run p remaining all (remaining_output_records p flags d) u.records run.from run.to b (subst (λ ss. Going p remaining all ss b) u.output_records g) u.tiles u.others in
-    subst (λ ss. Going p remaining all ss next) e (subst (Going p remaining all (remaining_output_records p flags d)) (sym n) laid)
+pub going_run : (new : Option (List ℕ)) (p : Parts) (flags : List Bool) (remaining : List EntryAt) (all rest : List OutputRecord) (c d : Cursor) (run : Run) (b next : Progress) → IsRun p flags c d run.from run.to → Going p remaining all (remaining_output_records new p flags c) b → next ≡ body_with_run b run → remaining_output_records new p flags d ≡ rest → Going p remaining all rest next
+going_run new p flags remaining all rest c d run b next u g n e =
+    let laid = laid_run p remaining all (remaining_output_records new p flags d) u.records run.from run.to b (subst (λ ss. Going p remaining all ss b) (u.output_records new) g) u.tiles u.others in
+    subst (λ ss. Going p remaining all ss next) e (subst (Going p remaining all (remaining_output_records new p flags d)) (sym n) laid)
 
 -- What is laid out is no longer than the chunk.
 pub going_within : (p : Parts) (remaining : List EntryAt) (all ss : List OutputRecord) (b : Progress) → Going p remaining all ss b → b.at ≤ length p.bytes
@@ -245,3 +244,7 @@ going_within p remaining all ss b g =
     let w : 68 + length (flat_map (written_bytes p.bytes remaining) (written p.bytes remaining 68 None all)) ≤ length p.bytes = g.within in
     let a : b.at ≡ 68 + length b.output.bytes = g.at in
     omega arith
+
+-- A run and the record after it leave fewer.
+pub run_shorter : (rs : List Framed) (before rest after : List OutputRecord) (s : OutputRecord) → before ≡ map (λ r. Whole r) rs ++ rest → rest ≡ s ∷ after → length after < length before
+run_shorter rs before rest after s e f = omega (arith, ap (λ (z : List OutputRecord). length z) e, length-append (map (λ r. Whole r) rs) rest, ap (λ (z : List OutputRecord). length z) f)

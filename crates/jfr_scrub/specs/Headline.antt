@@ -1,6 +1,6 @@
 -- The output of a scrub: a recording with a chunk for each chunk before the first that is refused.
 use Rattle.std.specs.Prelude.{◌≡◌, ℕ, List, [], ◌∷◌, ⊤}
-use Rattle.jfr_filter.specs.Filters.{Given}
+use Rattle.jfr_filter.specs.Filters.{Given, describes}
 use Rattle.jfr_outside.specs.World.{World}
 use Rattle.jfr_chunk.specs.Parts.{Parts, AreParts}
 use Rattle.jfr_chunk.specs.Chosen.{kept_of}
@@ -17,7 +17,7 @@ pub record IsScrubbed (g : Given) (c b : List ℕ) : Type 0 where
   pub parts : Parts
   pub bytes : parts.bytes ≡ c
   pub valid : AreParts parts
-  pub becomes : b ≡ scrub_of parts (kept_of g parts)
+  pub becomes : b ≡ scrub_of (describes g) parts (kept_of g parts)
   pub settled : IsSettled g parts
 
 -- The bytes y are the scrubs of the chunks of x before the first refused one: a recording of exactly these

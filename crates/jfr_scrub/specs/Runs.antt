@@ -1,5 +1,5 @@
 -- Runs of kept events.
-use Rattle.std.specs.Prelude.{◌≡◌, ℕ, ◌+◌, ◌-◌, ◌^◌, ◌<◌, ◌≤◌, Bool, false, ◌==◌, List, ◌++◌, length, map, drop, slice_get, slice_range, Some}
+use Rattle.std.specs.Prelude.{◌≡◌, ℕ, ◌+◌, ◌-◌, ◌^◌, ◌<◌, ◌≤◌, Bool, false, ◌==◌, List, ◌++◌, length, map, drop, slice_get, slice_range, Option, Some}
 use Rattle.std.specs.List.{AllByRecursion}
 use Rattle.std.specs.Option.{option_map_or}
 use Rattle.jfr_frame.specs.declared.framed.Framed.{Framed}
@@ -45,7 +45,7 @@ pub record IsRun (p : Parts) (flags : List Bool) (c d : Cursor) (from to : ℕ) 
   pub tiles : Tiles p.bytes from records to
   pub within : to ≤ length p.bytes
   pub others : AllByRecursion (λ r. (r.at == metadata_at p.bytes) ≡ false) records
-  pub output_records : remaining_output_records p flags c ≡ map (λ r. Whole r) records ++ remaining_output_records p flags d
+  pub output_records : (slim : Option (List ℕ)) → remaining_output_records slim p flags c ≡ map (λ r. Whole r) records ++ remaining_output_records slim p flags d
 
 -- The cursor has moved past a run.
 pub record Passes (p : Parts) (flags : List Bool) (c d : Cursor) : Type 0 where

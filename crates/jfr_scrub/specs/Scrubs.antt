@@ -1,7 +1,7 @@
 -- What scrubbing does with a recording.
 use Rattle.std.specs.Prelude.{ℕ, List, [], Result, Ok, Err}
 use Rattle.jfr_base.specs.declared.flaw.Flaw.{Flaw}
-use Rattle.jfr_filter.specs.Filters.{Given}
+use Rattle.jfr_filter.specs.Filters.{Given, describes}
 use Rattle.jfr_plan.specs.Rules.{Rule}
 use Rattle.jfr_plan.specs.Makes.{making}
 use Rattle.jfr_chunk.specs.Parts.{Parts}
@@ -11,7 +11,7 @@ use Rattle.jfr_chunk.specs.Scrub.{scrub_of}
 
 -- The output of a chunk with these parts; none for a chunk that is refused.
 abbrev pub scrubbed_by : Given → Result Parts Flaw → List ℕ
-scrubbed_by g (Ok p) = scrub_of p (kept_of g p)
+scrubbed_by g (Ok p) = scrub_of (describes g) p (kept_of g p)
 scrubbed_by g (Err flaw) = []
 
 -- The output of a chunk, with the events that the filter keeps.

@@ -4,7 +4,7 @@ ghost use Rattle.std.specs.List.{AllByRecursion, flat_map};
 ghost use Rattle.jfr_chunk.specs.Reach.{kept_by, remain};
 ghost use Rattle.jfr_chunk.specs.Scrub.{bytes_of, output_records};
 ghost use Rattle.jfr_output.specs.Metadata.{IsMetadataRecord};
-ghost use Rattle.jfr_output.specs.OutputRecords.{ShowsMetadata, new_metadata, output_record_as};
+ghost use Rattle.jfr_output.specs.OutputRecords.{IsNewMetadata, ShowsMetadata, output_record_as};
 ghost use Rattle.jfr_output.specs.Positions.{IsBefore};
 ghost use Rattle.jfr_output.specs.Remaining.{NotFalling};
 ghost use Rattle.jfr_scrub.specs.Bodies.{IsBody, OutputRecordFits, OutputRecordIsCopied, OutputRecordsAreCopied, body_with, progress_of, output_record_parts};
@@ -41,11 +41,11 @@ pub(crate) fn lay_body<'a>(
     slim: Option<&[u8]>,
 ) -> Result<Body<'a>, NoMemory>
     requires remaining { remaining.now ≡ remain chunk.now (kept_by chunk.now kept.now) }
-    requires slim { option_map (λ s. s.now) slim ≡ new_metadata chunk.now kept.now }
+    requires slim { IsNewMetadata chunk.now (kept_by chunk.now kept.now) (option_map (λ s. s.now) slim) }
     requires metadata { IfSome slim (λ s. IsMetadataRecord s.now) }
-    ensures ok { IfOk result (λ body. IsBody chunk.now remaining.now (output_records chunk.now (kept_by chunk.now kept.now)) (progress_of body)) }
-    ensures copied { IfOk result (λ body. OutputRecordsAreCopied remaining.now (output_records chunk.now (kept_by chunk.now kept.now)) body.output.pieces) }
-    ensures made { IfOk result (λ body. made_parts body.output.pieces ≡ flat_map (output_record_parts remaining.now) (output_records chunk.now (kept_by chunk.now kept.now))) }
+    ensures ok { IfOk result (λ body. IsBody chunk.now remaining.now (output_records (option_map (λ s. s.now) slim.entry) chunk.now (kept_by chunk.now kept.now)) (progress_of body)) }
+    ensures copied { IfOk result (λ body. OutputRecordsAreCopied remaining.now (output_records (option_map (λ s. s.now) slim.entry) chunk.now (kept_by chunk.now kept.now)) body.output.pieces) }
+    ensures made { IfOk result (λ body. made_parts body.output.pieces ≡ flat_map (output_record_parts remaining.now) (output_records (option_map (λ s. s.now) slim.entry) chunk.now (kept_by chunk.now kept.now))) }
     ensures accepted { IsAccepted chunk.now }
 {
     let mut body = Body {

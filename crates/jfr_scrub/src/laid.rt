@@ -5,7 +5,9 @@ ghost use Rattle.jfr_chunk.specs.Parts.{events_of};
 ghost use Rattle.jfr_chunk.specs.Reach.{kept_by, reached_marks};
 ghost use Rattle.jfr_laws.specs.Laws.{IsSettled};
 ghost use Rattle.jfr_output.specs.Metadata.{IsMetadataRecord};
-ghost use Rattle.jfr_output.specs.OutputRecords.{new_metadata};
+ghost use Rattle.jfr_filter.specs.Filters.{describes};
+ghost use Rattle.jfr_chunk.specs.Metas.{new_metadata};
+ghost use Rattle.jfr_output.specs.OutputRecords.{IsNewMetadata};
 ghost use Rattle.jfr_scrub.specs.IsLaidOut.{IsLaidOut};
 ghost use Rattle.jfr_scrub.specs.Pieces.{joined, laid_in, LieIn};
 ghost use Rattle.jfr_scrub.specs.Scrubbing.{IsAccepted};
@@ -52,12 +54,12 @@ impl<'a> LaidOut<'a> {
         chunk: &Chunk<'a>,
         filter: &Filter,
     ) -> Result<LaidOut<'a>, NoMemory>
-        ensures laid { IfOk result (λ s. IsLaidOut chunk.now (kept_of filter.now chunk.now) s.laid s.events s.entries) }
+        ensures laid { IfOk result (λ s. IsLaidOut (new_metadata (describes filter.now) chunk.now (kept_of filter.now chunk.now)) chunk.now (kept_of filter.now chunk.now) s.laid s.events s.entries) }
         ensures settled { IfOk result (λ s. IsSettled filter.now chunk.now) }
     {
         let kept = choose(alloc, chunk, filter)?;
         let marks = marks_of::<Brand>(alloc, Blank::new(1), chunk, &kept)?;
-        let slim = slim_metadata(alloc, chunk, &kept)?;
+        let slim = slim_metadata(alloc, chunk, &kept, filter)?;
         lay_out(alloc, chunk, &kept, &marks, slim.as_deref())
     }
 
@@ -110,9 +112,9 @@ fn lay_out<'a>(
 ) -> Result<LaidOut<'a>, NoMemory>
     requires marks { marks.now ≡ reached_marks chunk.now (kept_by chunk.now kept.now) }
     requires kept { length kept.now ≡ length (events_of chunk.now) }
-    requires slim { option_map (λ s. s.now) slim ≡ new_metadata chunk.now kept.now }
+    requires slim { IsNewMetadata chunk.now (kept_by chunk.now kept.now) (option_map (λ s. s.now) slim) }
     requires metadata { IfSome slim (λ s. IsMetadataRecord s.now) }
-    ensures laid { IfOk result (λ s. IsLaidOut chunk.now (kept_by chunk.now kept.now) s.laid s.events s.entries) }
+    ensures laid { IfOk result (λ s. IsLaidOut (option_map (λ s. s.now) slim.entry) chunk.now (kept_by chunk.now kept.now) s.laid s.events s.entries) }
     ensures accepted { IfOk result (λ s. IsAccepted chunk.now) }
 {
     let remaining = remaining_entries(alloc, chunk.pools(), marks)?;

@@ -2,6 +2,8 @@
 ghost use Rattle.std.specs.Prelude.{◌≡◌, [], length, slice_get, option_map, IfOk, IfSome};
 ghost use Rattle.jfr_chunk.specs.Chosen.{kept_of};
 ghost use Rattle.jfr_laws.specs.Laws.{IsSettled};
+ghost use Rattle.jfr_filter.specs.Filters.{describes};
+ghost use Rattle.jfr_chunk.specs.Metas.{new_metadata};
 ghost use Rattle.jfr_scrub.specs.IsLaidOut.{IsLaidOut};
 ghost use Rattle.jfr_scrub.specs.Pieces.{IsOfChunk, part_of};
 ghost use Rattle.jfr_scrub.specs.Scrubbing.{all_written};
@@ -43,7 +45,7 @@ impl<'a> Scrubber<'a> {
         filter: &Filter,
     ) -> Result<Scrubber<'a>, NoMemory>
         // The pieces make up the output. Nothing is written yet.
-        ensures laid { IfOk result (λ s. IsLaidOut chunk.now (kept_of filter.now chunk.now) s.laid s.events s.entries) }
+        ensures laid { IfOk result (λ s. IsLaidOut (new_metadata (describes filter.now) chunk.now (kept_of filter.now chunk.now)) chunk.now (kept_of filter.now chunk.now) s.laid s.events s.entries) }
         ensures empty { IfOk result (λ s. s.written ≡ []) }
 
         // The output is accepted, and no longer than the chunk. It has exactly the events that the filter keeps

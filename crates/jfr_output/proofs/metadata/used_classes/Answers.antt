@@ -1,6 +1,8 @@
-use Rattle.std.proofs.Common.{◌≡◌, ◌<◌, ◌∙◌, ap, arith, false, sym, length}
+use Rattle.std.proofs.Common.{◌≡◌, ◌<◌, ◌∙◌, ◌||◌, ap, arith, false, sym, length}
 use Rattle.std.specs.Prelude.{unwrap_or}
 use Rattle.jfr_chunk.specs.Parts.{events_of}
+use Rattle.jfr_filter.specs.Filters.{describes}
+use Rattle.jfr_chunk.specs.Metas.{is_described}
 use Rattle.jfr_output.proofs.UsedLaws.{used_end, used_more, used_skip}
 use Rattle.jfr_output.proofs.metadata.used_classes.Goals as goal
 
@@ -24,4 +26,6 @@ loop-number-preserved-then-not-unwrap_or c =
     }
 
 pub returns : goal.returns
-returns c = λ id. c.loop-number.invariant.ids id ∙ used_end c.args.kept.now (events_of c.args.chunk.now) c.requires c.loop-number.number id (omega arith)
+returns c = λ id.
+    let k = ap (λ m. is_described (describes c.args.filter.now) m id) c.classes.ensures in
+    c.in_ok-add_described.ensures id ∙ (λ i. (c.loop-number.invariant.ids id ∙ used_end c.args.kept.now (events_of c.args.chunk.now) c.requires c.loop-number.number id (omega arith)) i || k i)

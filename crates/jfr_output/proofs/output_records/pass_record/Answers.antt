@@ -6,8 +6,7 @@ use Rattle.jfr_chunk.specs.Reach.{kept_by}
 use Rattle.jfr_chunk.specs.Scrub.{output_record_by, output_record_of, is_kept_or_metadata}
 use Rattle.jfr_chunk.specs.Parts.{events_of}
 use Rattle.jfr_output.specs.declared.output_records.Cursor.{Cursor}
-use Rattle.jfr_output.specs.OutputRecords.{IsChosen, IsCursor, is_kept_at, link_after, link_there, linked_at, new_metadata, output_record_in}
-use Rattle.jfr_output.proofs.NewLaws.{new_written, record_there}
+use Rattle.jfr_output.specs.OutputRecords.{IsChosen, IsCursor, is_kept_at, link_after, link_there, linked_at, output_record_as}
 use Rattle.jfr_output.proofs.CursorLaws.{chosen_event, chosen_metadata, place_passed, some_if}
 use Rattle.jfr_output.proofs.output_records.pass_record.Goals as goal
 
@@ -19,21 +18,18 @@ returns-clause-cursor c =
     (λ i. record { frame = c.args.cursor.now.frame + 1; event = sym c.pass_event-event.ensures.number i; link = sym (c.pass_link-link.ensures.number ∙ ap (λ ls. link_after ls c.args.cursor.now.link c.args.at) chain) i }) p.behind.0
 
 pub returns-clause-exact : goal.returns-clause-exact
-returns-clause-exact c =
+returns-clause-exact c = λ anew.
     let parts = c.args.chunk.now in
     let flags = c.args.kept.now in
-    let anew = new_metadata parts flags in
     let p = place_passed parts flags c.args.cursor.now c.args.at c.requires.cursor c.requires.there in
     let chain = sym (reverse-reverse c.chain.result.now) ∙ ap reverse c.chain.ensures in
     let l = c.pass_link-link.ensures.link ∙ (ap (λ ls. linked_at ls c.args.cursor.now.link c.args.at) chain ∙ p.behind.2) in
     let k = ap is_some c.pass_event-event.ensures.kept ∙ (some_if (is_kept_at (events_of parts) flags c.args.cursor.now.event c.args.at) c.args.cursor.now.event ∙ p.behind.1) in
     let m = ap (λ (h : Header). h.metadata) c.header.ensures in
     let there = ap (λ rs. slice_get rs c.args.cursor.now.frame) c.frames.ensures ∙ p.there in
-    let chosen = subst (λ o. IfSome o (λ r. option_map (output_record_in parts flags) c.chosen.result ≡ output_record_by c.pass_link-link.result (is_some c.pass_event-event.result || (c.args.at == c.header.result.now.metadata)) (if c.args.at == c.header.result.now.metadata then anew else None) r)) there (c.chosen.ensures.exact anew) in
-    let new = new_written parts c.requires.cursor.parts (kept_by parts flags) p.frame (record_there parts c.requires.cursor.parts c.args.cursor.now.frame p.frame p.there) in
-    subst (λ o. IfSome o (λ r. option_map (output_record_in parts flags) c.chosen.result ≡ output_record_of parts (kept_by parts flags) r)) (sym p.there)
-    (chosen ∙ ((λ i. output_record_by (l i) (k i || (sym p.place i == m i)) (if sym p.place i == m i then anew else None) p.frame)
-    ∙ ap (λ w. output_record_by (link_there parts p.frame) (is_kept_or_metadata parts (kept_by parts flags) p.frame) w p.frame) new))
+    let chosen = subst (λ o. IfSome o (λ r. option_map (output_record_as anew) c.chosen.result ≡ output_record_by c.pass_link-link.result (is_some c.pass_event-event.result || (c.args.at == c.header.result.now.metadata)) (if c.args.at == c.header.result.now.metadata then anew else None) r)) there (c.chosen.ensures.exact anew) in
+    subst (λ o. IfSome o (λ r. option_map (output_record_as anew) c.chosen.result ≡ output_record_of anew parts (kept_by parts flags) r)) (sym p.there)
+    (chosen ∙ (λ i. output_record_by (l i) (k i || (sym p.place i == m i)) (if sym p.place i == m i then anew else None) p.frame))
 
 pub returns-clause-metadata : goal.returns-clause-metadata
 returns-clause-metadata c =

@@ -1,5 +1,5 @@
 use Rattle.std.proofs.Common.{◌∙◌, ◌++◌, ap, drop}
-use Rattle.std.specs.Prelude.{unwrap_or}
+use Rattle.std.specs.Prelude.{option_map, unwrap_or}
 use Rattle.jfr_header.specs.Headers.{header_bytes}
 use Rattle.jfr_chunk.specs.Reach.{kept_by}
 use Rattle.jfr_chunk.specs.Scrub.{output_records}
@@ -21,6 +21,6 @@ returns g c =
     let output = c.put_records.new.output in
     let size = c.len.ensures ∙ output.bytes.ok.0 in
     let header = c.output_header-header.ensures ∙ ap (λ n. header_bytes (record (c.header.result.now) { size = n; pools = unwrap_or output.newest 0; metadata = unwrap_or output.metadata 0 })) size in
-    all_renumbered p c.parts_are_valid.ensures.parts flags keys entries c.put_header.new.out.items c.requires.keys c.requires.entries
-    (all_assembled p (new_bytes (number_or_zero keys) p (kept_by p flags) entries) (output_records p (kept_by p flags)) (progress_of output) c.header.result.now c.put_header.new.out.items c.in_ok-put_records.ensures.ok c.header.ensures
+    all_renumbered (option_map (λ s. s.now) c.args.source.slim) p c.parts_are_valid.ensures.parts flags keys entries c.put_header.new.out.items c.requires.keys c.requires.entries
+    (all_assembled p (new_bytes (number_or_zero keys) p (kept_by p flags) entries) (output_records (option_map (λ s. s.now) c.args.source.slim) p (kept_by p flags)) (progress_of output) c.header.result.now c.put_header.new.out.items c.in_ok-put_records.ensures.ok c.header.ensures
     (c.put_header.ensures ∙ ap (λ z. z ++ drop 68 output.bytes.items) header))

@@ -1,4 +1,5 @@
 use Rattle.std.specs.List.{AllByRecursion, flat_map}
+use Rattle.std.specs.Prelude.{option_map}
 use Rattle.std.proofs.Common.{ap, sym, subst, ◌∙◌, ◌∷◌, length, rules, List}
 use Rattle.jfr_pool.specs.declared.entry.EntryAt.{EntryAt}
 use Rattle.jfr_chunk.specs.Parts.{events_of}
@@ -26,13 +27,13 @@ returns-clause-laid c =
     let remaining = c.as_slice-remaining.ensures ∙ left_is _ _ _ _ _ c.requires.marks c.pools.ensures c.in_ok-remaining.ensures in
     let copied = c.in_ok-body.ensures.copied qs c.in_ok-pieces.ensures.keeps in
     record {
-      becomes = laid_all p kept _ _ _ _ _ remaining c.in_ok-body.ensures.ok c.header.ensures c.output_header-header.ensures c.in_ok-pieces.ensures.ok;
+      becomes = laid_all (option_map (λ s. s.now) c.args.slim) p kept _ _ _ _ _ remaining c.in_ok-body.ensures.ok c.header.ensures c.output_header-header.ensures c.in_ok-pieces.ensures.ok;
       of_chunk = search rules;
       made = search rules;
-      kinds = c.in_ok-pieces.ensures.made ∙ ap (λ z. ChunkHeader ∷ z) (c.in_ok-body.ensures.made ∙ ap (λ (z : List EntryAt). flat_map (output_record_parts z) (output_records p kept)) remaining);
-      events_copied = events_are_copied p c.lay_body.ensures.accepted.parts qs c.args.kept.now _ copied;
-      entries_copied = entries_are_copied p c.lay_body.ensures.accepted.parts qs kept (subst (λ (z : List EntryAt). AllByRecursion (OutputRecordIsCopied z qs) (output_records p kept)) remaining copied);
-      metadata_copied = metadata_is_copied p c.lay_body.ensures.accepted.parts qs kept _ copied;
+      kinds = c.in_ok-pieces.ensures.made ∙ ap (λ z. ChunkHeader ∷ z) (c.in_ok-body.ensures.made ∙ ap (λ (z : List EntryAt). flat_map (output_record_parts z) (output_records (option_map (λ s. s.now) c.args.slim) p kept)) remaining);
+      events_copied = events_are_copied (option_map (λ s. s.now) c.args.slim) p c.lay_body.ensures.accepted.parts qs c.args.kept.now _ copied;
+      entries_copied = entries_are_copied (option_map (λ s. s.now) c.args.slim) p c.lay_body.ensures.accepted.parts qs kept (subst (λ (z : List EntryAt). AllByRecursion (OutputRecordIsCopied z qs) (output_records (option_map (λ s. s.now) c.args.slim) p kept)) remaining copied);
+      metadata_copied = metadata_is_copied (option_map (λ s. s.now) c.args.slim) p c.lay_body.ensures.accepted.parts qs kept _ copied;
       events = c.kept_count.ensures ∙ marked_count c.args.kept.now (events_of p) c.requires.kept;
       entries = ap (λ (z : List EntryAt). length z) remaining;
     }
