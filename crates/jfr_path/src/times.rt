@@ -34,7 +34,12 @@ impl Times {
 
 /// Whether an event is in the window, by the times in its fields. Without a start it isn't; without a duration,
 /// or with a negative one, it lasts no time.
-pub(crate) fn is_timely(chunk: &Chunk<'_>, window: &Window, fields: &Node<'_>, times: &Times) -> bool
+pub(crate) fn is_timely(
+    chunk: &Chunk<'_>,
+    window: &Window,
+    fields: &Node<'_>,
+    times: &Times,
+) -> bool
     requires value { IsValue chunk.now.classes fields.now }
     requires of_chunk { fields.now.bytes.now ≡ chunk.now.bytes }
     ensures { (g : Given) → IsWindowOf g chunk.now window.now → result ≡ is_timely g chunk.now (node_of fields.now) times.now }

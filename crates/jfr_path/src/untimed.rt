@@ -55,8 +55,7 @@ fn untimed_by_strings(
     ensures ok { IfOk result (λ untimed. untimed.items ≡ map (λ c. is_always filter.now c.name) chunk.now.classes) }
 {
     let classes = chunk.class_names(alloc)?;
-    let mut names =
-        StringVerdicts::new(alloc, filter, Side::Always, Side::Always, chunk.strings());
+    let mut names = StringVerdicts::new(alloc, filter, Side::Always, Side::Always, chunk.strings());
     let mut untimed = Vec::new(alloc);
     for class in &classes {
         let always = names.includes(class.name)?;
