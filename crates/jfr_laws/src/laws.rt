@@ -9,10 +9,9 @@ ghost use Rattle.std.specs.List.{AllByRecursion};
 ghost use Rattle.jfr_meta.specs.Written.{IsText};
 ghost use Rattle.jfr_laws.specs.Laws.{IsKept, IsSettled};
 
-/// The output of an accepted chunk is accepted, for every choice of the events that are kept
-/// and of the classes that are described. It has exactly
-/// these events and exactly the constants that they reach, and means the same. Scrubbed with all its events
-/// kept it doesn't change.
+/// The output of an accepted chunk is accepted, for every choice of the events that are kept and of the names
+/// whose classes are described even without events. It has exactly these events and exactly the constants that
+/// they reach, and means the same. Scrubbed with all its events kept it doesn't change.
 pub fn scrubbed_is_kept()
     ensures { (names : Names) (p : Parts) (flags : List Bool) → Whole p.bytes → AreParts p → IsKept names p (kept_by p flags) }
 {}

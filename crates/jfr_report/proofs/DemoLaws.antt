@@ -6,6 +6,7 @@ use Rattle.std.proofs.lemmas.Str.{chars-IsAscii}
 use Rattle.jfr_base.specs.declared.flaw.Flaw.{Flaw}
 use Rattle.jfr_base.proofs.TextLaws.{word_ascii}
 use Rattle.jfr_base.specs.declared.memory.NoMemory.{NoMemory}
+use Rattle.jfr_filter.specs.Filters.{describes}
 use Rattle.jfr_chunk.specs.Parts.{Parts, EventAt}
 use Rattle.jfr_chunk.specs.Chosen.{kept_of}
 use Rattle.jfr_chunk.specs.Reach.{remain}
@@ -25,8 +26,8 @@ pub a_chars : chars (codes "t.A") ≡ codes "t.A"
 a_chars = chars-IsAscii (codes "t.A") (word_ascii (codes "t.A") refl)
 
 -- The lines of a chunk and the scrub with the kept events.
-pub lines_by : (result : Result (List ℕ) NoMemory) (p : Parts) (events entries : ℕ) (written : List ℕ) (kept : List EventAt) → IfOk result (λ text. (k : List EventAt) → events ≡ length k → entries ≡ length (remain p k) → written ≡ scrub_of p k → text ≡ lines_of p k)
-    → events ≡ length kept → entries ≡ length (remain p kept) → written ≡ scrub_of p kept → IfOk result (λ text. text ≡ lines_of p kept)
+pub lines_by : (result : Result (List ℕ) NoMemory) (p : Parts) (events entries : ℕ) (written : List ℕ) (kept : List EventAt) → IfOk result (λ text. (k : List EventAt) → events ≡ length k → entries ≡ length (remain p k) → written ≡ scrub_of (describes only_a) p k → text ≡ lines_of p k)
+    → events ≡ length kept → entries ≡ length (remain p kept) → written ≡ scrub_of (describes only_a) p kept → IfOk result (λ text. text ≡ lines_of p kept)
 lines_by (Ok text) p events entries written kept h e n w = h kept e n w
 lines_by (Err fault) p events entries written kept h e n w = tt
 

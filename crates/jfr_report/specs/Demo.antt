@@ -2,7 +2,7 @@
 use Rattle.std.specs.Prelude.{ℕ, List, [], ◌++◌, length, codes, Result, Ok, Err}
 use Rattle.jfr_base.specs.declared.flaw.Flaw.{Flaw}
 use Rattle.jfr_filter.specs.declared.side.Side.TheVariants.{IncludeEvents}
-use Rattle.jfr_filter.specs.Filters.{Given, nothing_given, with_patterns}
+use Rattle.jfr_filter.specs.Filters.{Given, describes, nothing_given, with_patterns}
 use Rattle.jfr_filter.specs.Patterns.{patterns_in}
 use Rattle.jfr_chunk.specs.Parts.{Parts, EventAt, events_of}
 use Rattle.jfr_chunk.specs.Chosen.{kept_of}
@@ -25,7 +25,7 @@ lines_of p kept =
     ++ number_line (codes "constants") (length p.entries)
     ++ number_line (codes "kept constants") (length (remain p kept))
     ++ number_line (codes "bytes") (length p.bytes)
-    ++ number_line (codes "kept bytes") (length (scrub_of p kept))
+    ++ number_line (codes "kept bytes") (length (scrub_of (describes only_a) p kept))
 
 -- The six lines of a chunk that is scrubbed with this filter.
 unfoldable pub counted : Parts → List ℕ

@@ -6,6 +6,7 @@ ghost use Rattle.jfr_chunk.specs.Parts.{EventAt};
 ghost use Rattle.jfr_chunk.specs.Chosen.{kept_of};
 ghost use Rattle.jfr_chunk.specs.Reach.{remain};
 ghost use Rattle.jfr_chunk.specs.Scrub.{scrub_of};
+ghost use Rattle.jfr_filter.specs.Filters.{describes};
 ghost use Rattle.jfr_report.specs.Demo.{counted, lines_of, only_a, sampled};
 
 use jfr_base::ReadFault;
@@ -44,7 +45,7 @@ fn counted(alloc: Global, chunk: &Chunk<'_>) -> Result<Text, NoMemory>
 
 /// The scrubbed chunk, with only the events of `t.A`, written.
 fn scrubbed<'a>(alloc: Global, chunk: &Chunk<'a>) -> Result<Scrubber<'a>, NoMemory>
-    ensures written { IfOk result (λ s. s.written ≡ scrub_of chunk.now (kept_of only_a chunk.now)) }
+    ensures written { IfOk result (λ s. s.written ≡ scrub_of (describes only_a) chunk.now (kept_of only_a chunk.now)) }
     ensures events { IfOk result (λ s. s.events ≡ length (kept_of only_a chunk.now)) }
     ensures entries { IfOk result (λ s. s.entries ≡ length (remain chunk.now (kept_of only_a chunk.now))) }
 {
@@ -57,7 +58,7 @@ fn scrubbed<'a>(alloc: Global, chunk: &Chunk<'a>) -> Result<Scrubber<'a>, NoMemo
 /// The six lines of a chunk and its scrubber.
 fn lines_of(alloc: Global, chunk: &Chunk<'_>, scrubber: &Scrubber<'_>) -> Result<Text, NoMemory>
     ensures ok { IfOk result (λ text. (kept : List EventAt) → scrubber.now.events ≡ length kept → scrubber.now.entries ≡ length (remain chunk.now kept)
-        → scrubber.now.written ≡ scrub_of chunk.now kept → text ≡ lines_of chunk.now kept) }
+        → scrubber.now.written ≡ scrub_of (describes only_a) chunk.now kept → text ≡ lines_of chunk.now kept) }
 {
     let mut text = TextBuilder::new(alloc);
     push_count(&mut text, "events", chunk.event_count())?;

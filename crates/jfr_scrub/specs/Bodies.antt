@@ -73,6 +73,7 @@ output_record_parts remaining (Whole r) = []
 output_record_parts remaining (Rebuilt r x) = MetadataRecord ∷ []
 output_record_parts remaining (Chained number l) = checkpoint_parts (groups_of remaining number)
 
--- All made parts of the output if these events are kept, given the new metadata record, if there is one: the header, then those of each output record.
+-- All made parts of the output if these events are kept, given the new metadata record, if there is one: the
+-- header, then those of each output record.
 abbrev pub all_made : Option (List ℕ) → Parts → List EventAt → List MadePart
 all_made slim p kept = ChunkHeader ∷ flat_map (output_record_parts (remain p kept)) (output_records slim p kept)

@@ -17,7 +17,7 @@ use Rattle.jfr_chunk.specs.Reach.{Reached, reached_marks, remain, kept_by, roots
 use Rattle.jfr_chunk.specs.Laws.{SameRecords}
 use Rattle.jfr_worklist.specs.Members.{In}
 use Rattle.jfr_worklist.proofs.Members.{get_in, in_contains, all_from_get}
-use Rattle.jfr_chunk.specs.Metas.{metadata_size, rebuilt, stays_in}
+use Rattle.jfr_chunk.specs.Metas.{Names, new_metadata, stays_in}
 use Rattle.jfr_worklist.proofs.SweepLaws.{root, more}
 use Rattle.jfr_chunk.proofs.ReachedLaws.{reached_marked, path_reach, reach_path}
 use Rattle.jfr_chunk.proofs.HasNodesLaws.{has_nodes}
@@ -52,9 +52,9 @@ in_filtered t (y ∷ ys) x i = by_test (t y) i (in_filtered t ys x)
     by_test false j f = inr (f j)
 
 -- The classes of the output are classes of the input.
-has_left : (p : Parts) (kept : List EventAt) (o : Option (List ℕ)) → HasClasses p.classes (option_map_or (λ x. staying (stays_in p kept) p.classes) o p.classes)
-has_left p kept None = All-contains_itself p.classes
-has_left p kept (Some x) = all_of_members (Contains p.classes) (staying (stays_in p kept) p.classes) (λ c i. in_contains p.classes c (in_filtered (λ (d : Class). stays_in p kept d.id) p.classes c i))
+has_left : (names : Names) (p : Parts) (kept : List EventAt) (o : Option (List ℕ)) → HasClasses p.classes (option_map_or (λ x. staying (stays_in names p kept) p.classes) o p.classes)
+has_left names p kept None = All-contains_itself p.classes
+has_left names p kept (Some x) = all_of_members (Contains p.classes) (staying (stays_in names p kept) p.classes) (λ c i. in_contains p.classes c (in_filtered (λ (d : Class). stays_in names p kept d.id) p.classes c i))
 
 module _ (p : Parts) (a : AreParts p) (flags : List Bool) where
   abbrev kept : List EventAt
@@ -83,10 +83,10 @@ module _ (p : Parts) (a : AreParts p) (flags : List Bool) where
     entries = λ n m. all_of_members (IsMarked marks) (next_entries p n) (λ i h. (marked_is i).0 (reach_path p (has_nodes p a) kept kept_node (more (path_reach p (has_nodes p a) kept kept_node n ((marked_is n).1 m)) h)));
   }
 
-  pub kept_passes : (k : IsKept p kept) → (AllReached k.parts → IsReceiptOf (receipt_of k.parts) k.parts) → Passes p k.parts kept (receipt_of k.parts)
+  pub kept_passes : (names : Names) (k : IsKept names p kept) → (AllReached k.parts → IsReceiptOf (receipt_of k.parts) k.parts) → Passes p k.parts kept (receipt_of k.parts)
   unfolding remain
-  kept_passes k s = record {
-    classes = subst (HasClasses p.classes) (sym k.classes) (has_left p kept (rebuilt p kept (metadata_size p)));
+  kept_passes names k s = record {
+    classes = subst (HasClasses p.classes) (sym k.classes) (has_left names p kept (new_metadata names p kept));
     events = contents_of p k.parts kept (events_of k.parts) k.events;
     marks = marks;
     among = record { in_force = marked_in_force; copied = k.entries };

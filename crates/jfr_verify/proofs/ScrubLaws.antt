@@ -9,12 +9,13 @@ use Rattle.jfr_header.specs.Cuts.{Cuts, cut, joined, AreCut}
 use Rattle.jfr_header.specs.Fronts.{Bad, End, Chunk, Whole, flaw_at, front}
 use Rattle.jfr_header.proofs.CutLaws.{Begins, are_cut, cut_is, front_begins}
 use Rattle.jfr_header.proofs.Steps.{front_long, front_none, whole_front}
-use Rattle.jfr_chunk.specs.Chosen.{kept_of}
+use Rattle.jfr_chunk.specs.Chosen.{chosen, kept_of}
+use Rattle.jfr_chunk.specs.Metas.{Names}
 use Rattle.jfr_chunk.specs.Parts.{Parts, AreParts}
 use Rattle.jfr_chunk.specs.Refusal.{read_parts}
 use Rattle.jfr_chunk.proofs.ChainAnswers.{is_computed}
 use Rattle.jfr_laws.specs.Laws.{IsKept}
-use Rattle.jfr_laws.proofs.Settled.{settled}
+use Rattle.jfr_laws.proofs.Scrubbed.{scrubbed_kept}
 use Rattle.jfr_verify.specs.Receipts.{receipt_of}
 use Rattle.jfr_verify.specs.Recordings.{read_on, recording_from, recording_of}
 use Rattle.jfr_verify.specs.Streams.{AreScrubbed, receipts}
@@ -56,29 +57,29 @@ abbrev bytes_of : List Parts → List (List ℕ)
 bytes_of ps = map (λ p. p.bytes) ps
 
 -- The scrubs of chunks, and the receipts that are written for them.
-record Made (g : Given) (ps : List Parts) : Type 0 where
+record Made (names : Names) (g : Given) (ps : List Parts) : Type 0 where
   outputs : List Parts
-  scrubbed : AreScrubbed g ps outputs
-  bytes : flat_map (output_of g) ps ≡ joined (bytes_of outputs)
-  receipted : flat_map (receipt_for g) ps ≡ receipts outputs
+  scrubbed : AreScrubbed names g ps outputs
+  bytes : flat_map (output_of names g) ps ≡ joined (bytes_of outputs)
+  receipted : flat_map (receipt_for names g) ps ≡ receipts outputs
   read : (n : ℕ) → recording_from n (bytes_of outputs) None ≡ record { parts = outputs; refusal = None }
   whole : AllByRecursion (λ p. Whole p.bytes) outputs
   cuts : (rest : List ℕ) (start later : ℕ) (first : Bool) → start ≤ later → AreCut (bytes_of ps) None rest later first → AreCut (bytes_of outputs) None (joined (bytes_of outputs)) start false
 
-read_output : (g : Given) (p : Parts) (k : IsKept p (kept_of g p)) → read_parts (output_of g p) ≡ Ok k.parts
-read_output g p k = ((is_computed (output_of g p) k.whole.long).parts k.parts).0 (k.bytes, k.valid)
+read_output : (names : Names) (g : Given) (p : Parts) (k : IsKept names p (kept_of g p)) → read_parts (output_of names g p) ≡ Ok k.parts
+read_output names g p k = ((is_computed (output_of names g p) k.whole.long).parts k.parts).0 (k.bytes, k.valid)
 
-make_one : (g : Given) (p : Parts) (ps : List Parts) → Whole p.bytes → AreParts p → IsKept p (kept_of g p) → Made g ps → Made g (p ∷ ps)
-make_one g p ps w a k m =
+make_one : (names : Names) (g : Given) (p : Parts) (ps : List Parts) → Whole p.bytes → AreParts p → IsKept names p (kept_of g p) → Made names g ps → Made names g (p ∷ ps)
+make_one names g p ps w a k m =
     let q : Parts = k.parts in
-    let read : read_parts q.bytes ≡ Ok q = ap read_parts k.bytes ∙ read_output g p k in
+    let read : read_parts q.bytes ≡ Ok q = ap read_parts k.bytes ∙ read_output names g p k in
     let whole : Whole q.bytes = subst Whole (sym k.bytes) k.whole in
     let size : length q.bytes ≤ length p.bytes = subst (λ (z : List ℕ). length z ≤ length p.bytes) (sym k.bytes) k.size in
     record {
       outputs = q ∷ m.outputs;
       scrubbed = (a, (k, refl), m.scrubbed);
-      bytes = ap (λ (z : List ℕ). z ++ flat_map (output_of g) ps) (sym k.bytes) ∙ ap (λ (z : List ℕ). q.bytes ++ z) m.bytes;
-      receipted = ap (λ (z : List ℕ). z ++ flat_map (receipt_for g) ps) (ap receipt_by (read_output g p k)) ∙ ap (λ (z : List ℕ). receipt_of q ++ z) m.receipted;
+      bytes = ap (λ (z : List ℕ). z ++ flat_map (output_of names g) ps) (sym k.bytes) ∙ ap (λ (z : List ℕ). q.bytes ++ z) m.bytes;
+      receipted = ap (λ (z : List ℕ). z ++ flat_map (receipt_for names g) ps) (ap receipt_by (read_output names g p k)) ∙ ap (λ (z : List ℕ). receipt_of q ++ z) m.receipted;
       read = λ n. ap (λ z. read_on n z (recording_from (n + 1) (bytes_of m.outputs) None)) read ∙ ap (read_on n (Ok q)) (m.read (n + 1));
       whole = (whole, m.whole);
       cuts = λ rest start later first h c. (
@@ -88,8 +89,8 @@ make_one g p ps w a k m =
       );
     }
 
-make : (g : Given) (ps : List Parts) → AllByRecursion (λ p. Whole p.bytes) ps → AllByRecursion AreParts ps → Made g ps
-make g [] w a = record {
+make : (names : Names) (g : Given) (ps : List Parts) → AllByRecursion (λ p. Whole p.bytes) ps → AllByRecursion AreParts ps → Made names g ps
+make names g [] w a = record {
   outputs = [];
   scrubbed = tt;
   bytes = refl;
@@ -98,34 +99,34 @@ make g [] w a = record {
   whole = tt;
   cuts = λ rest start later first h c. nothing_is_the_end start;
 }
-make g (p ∷ ps) w a = make_one g p ps w.0 a.0 (settled g p w.0 a.0).kept (make g ps w.1 a.1)
+make names g (p ∷ ps) w a = make_one names g p ps w.0 a.0 (scrubbed_kept names p a.0 (chosen g p) w.0) (make names g ps w.1 a.1)
 
 -- The outputs, joined, are cut into just these chunks.
 cut_outputs : (qs : List Parts) → AllByRecursion (λ p. Whole p.bytes) qs → AreCut (bytes_of qs) None (joined (bytes_of qs)) 0 false → (qs ≡ [] → ⊥) → cut (joined (bytes_of qs)) 0 true ≡ record { chunks = bytes_of qs; flaw = None }
 cut_outputs [] w a h = absurd (h refl)
 cut_outputs (q ∷ qs) w a h = cut_is (bytes_of (q ∷ qs)) None (joined (bytes_of (q ∷ qs))) 0 true (whole_front q.bytes (joined (bytes_of qs)) 0 true w.0 (omega arith), a.1)
 
-some_outputs : (g : Given) (ps qs : List Parts) → AreScrubbed g ps qs → qs ≡ [] → ps ≡ []
-some_outputs g [] qs s e = refl
-some_outputs g (p ∷ ps) [] s e = absurd s
-some_outputs g (p ∷ ps) (q ∷ qs) s e = cc
+some_outputs : (names : Names) (g : Given) (ps qs : List Parts) → AreScrubbed names g ps qs → qs ≡ [] → ps ≡ []
+some_outputs names g [] qs s e = refl
+some_outputs names g (p ∷ ps) [] s e = absurd s
+some_outputs names g (p ∷ ps) (q ∷ qs) s e = cc
 
 -- The scrubs of a recording's chunks, joined, are read as just these.
-pub record MadeOf (g : Given) (x : List ℕ) : Type 0 where
+pub record MadeOf (names : Names) (g : Given) (x : List ℕ) : Type 0 where
   pub outputs : List Parts
-  pub scrubbed : AreScrubbed g (recording_of x).parts outputs
-  pub receipted : flat_map (receipt_for g) (recording_of x).parts ≡ receipts outputs
-  pub read : recording_of (flat_map (output_of g) (recording_of x).parts) ≡ record { parts = outputs; refusal = None }
+  pub scrubbed : AreScrubbed names g (recording_of x).parts outputs
+  pub receipted : flat_map (receipt_for names g) (recording_of x).parts ≡ receipts outputs
+  pub read : recording_of (flat_map (output_of names g) (recording_of x).parts) ≡ record { parts = outputs; refusal = None }
 
-pub made_of : (g : Given) (x : List ℕ) → (recording_of x).refusal ≡ None → MadeOf g x
+pub made_of : (names : Names) (g : Given) (x : List ℕ) → (recording_of x).refusal ≡ None → MadeOf names g x
 unfolding recording_of
-made_of g x e =
+made_of names g x e =
     let ps : List Parts = (recording_of x).parts in
     let r = is_read x in
-    let m = make g ps r.whole r.parts in
+    let m = make names g ps r.whole r.parts in
     let whole : cut x 0 true ≡ record { chunks = bytes_of ps; flaw = None } = r.all e in
     let cuts : AreCut (bytes_of ps) None x 0 true = subst (λ (k : Cuts). AreCut k.chunks k.flaw x 0 true) whole (are_cut x 0 true) in
-    let some : m.outputs ≡ [] → ⊥ = λ h. no_end x 0 (subst (λ (z : List Parts). AreCut (bytes_of z) None x 0 true) (some_outputs g ps m.outputs m.scrubbed h) cuts) in
+    let some : m.outputs ≡ [] → ⊥ = λ h. no_end x 0 (subst (λ (z : List Parts). AreCut (bytes_of z) None x 0 true) (some_outputs names g ps m.outputs m.scrubbed h) cuts) in
     let made : cut (joined (bytes_of m.outputs)) 0 true ≡ record { chunks = bytes_of m.outputs; flaw = None } = cut_outputs m.outputs m.whole (m.cuts x 0 0 true (omega arith) cuts) some in
     record {
       outputs = m.outputs;

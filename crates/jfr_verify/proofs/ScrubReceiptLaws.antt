@@ -24,6 +24,7 @@ use Rattle.jfr_chunk.proofs.AllLaws.{all_append}
 use Rattle.jfr_worklist.proofs.MarkLaws.{all_here, all_only, none_marked, set_here, set_old, set_only, set_stays}
 use Rattle.jfr_chunk.proofs.ReachedLaws.{path_reach}
 use Rattle.jfr_chunk.proofs.HasNodesLaws.{event_is, has_nodes}
+use Rattle.jfr_chunk.specs.Metas.{Names}
 use Rattle.jfr_laws.specs.Laws.{IsKept}
 use Rattle.jfr_laws.proofs.Entries.{copied_force, in_force_same, marked_force}
 use Rattle.jfr_laws.proofs.Marks.{rank}
@@ -371,11 +372,11 @@ module _ (p q : Parts) (a : AreParts p) (b : AreParts q) (flags : List Bool) (re
         ∙ ap (λ z. spell (length (lines_of q)) ++ z) (bytes_are (kept_lines p kept) all_lines.good ∙ ap (flat_map line_bytes) (sym all_lines.lines))
 
 -- The bytes of these lines with the ranks of their entries are the receipt of the scrub.
-pub scrub_receipt_is : (p : Parts) (a : AreParts p) (flags : List Bool) (k : IsKept p (kept_by p flags)) (f : List Bool) (ranks : List ℕ) (lines : List Line) (head all : List ℕ) → lines ≡ kept_lines p (kept_by p flags) → length f ≡ length p.entries
+pub scrub_receipt_is : (p : Parts) (a : AreParts p) (flags : List Bool) (names : Names) (k : IsKept names p (kept_by p flags)) (f : List Bool) (ranks : List ℕ) (lines : List Line) (head all : List ℕ) → lines ≡ kept_lines p (kept_by p flags) → length f ≡ length p.entries
     → f ≡ marked_at (replicate (length f) false) (entries lines) → AreRanks f ranks → head ≡ spell (length lines) → all ≡ head ++ flat_map (ranked_bytes ranks) lines → all ≡ receipt_of k.parts
-scrub_receipt_is p a flags k f ranks lines head all e size listed are c d =
+scrub_receipt_is p a flags names k f ranks lines head all e size listed are c d =
     let q : Parts = k.parts in
     let reach = λ (i : ℕ) (l : i < length q.entries). path_reach q (has_nodes q k.valid) (events_of q) (λ x m. (let v = event_is q k.valid x m in (v.value, v.node))) i (k.reached i l) in
-    let h : Passes p q (kept_by p flags) (receipt_of q) = kept_passes p a flags k (λ r. receipt_of_is_receipt q reach (receipt_exact q)) in
+    let h : Passes p q (kept_by p flags) (receipt_of q) = kept_passes p a flags names k (λ r. receipt_of_is_receipt q reach (receipt_exact q)) in
     d ∙ (ap (λ z. z ++ flat_map (ranked_bytes ranks) lines) c ∙ (ap (λ z. spell (length z) ++ flat_map (ranked_bytes ranks) z) e
     ∙ bytes_same p q a k.valid flags (receipt_of q) h (each_has_line q reach) f size (subst (λ z. f ≡ marked_at (replicate (length f) false) (entries z)) e listed) ranks are))

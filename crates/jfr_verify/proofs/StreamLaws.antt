@@ -8,6 +8,7 @@ use Rattle.jfr_chunk.specs.Parts.{Parts, AreParts, events_of}
 use Rattle.jfr_chunk.specs.Chosen.{chosen, kept_of}
 use Rattle.jfr_chunk.proofs.ReachedLaws.{path_reach}
 use Rattle.jfr_chunk.proofs.HasNodesLaws.{has_nodes, event_is}
+use Rattle.jfr_chunk.specs.Metas.{Names}
 use Rattle.jfr_laws.specs.Laws.{IsKept}
 use Rattle.jfr_verify.specs.Receipts.{receipt_of}
 use Rattle.jfr_verify.specs.Laws.{Passes}
@@ -82,17 +83,17 @@ module _ (g : Given) where
       by_verdict (Err d) c k f = cc
 
   -- The outputs of a scrub are verified with their own receipts.
-  pub scrubbed_is_verified : (ps qs : List Parts) (n : ℕ) → AreScrubbed g ps qs → Compared g ps None qs (receipts qs) n (Verified (n + length ps))
-  scrubbed_is_verified [] [] n l = ap Verified (let z : n + 0 ≡ n = omega arith in z)
-  scrubbed_is_verified [] (q ∷ qs) n l = absurd l
-  scrubbed_is_verified (p ∷ ps) [] n l = absurd l
-  scrubbed_is_verified (p ∷ ps) (q ∷ qs) n l = (Ok (length (receipt_of q)), checked, onward (scrubbed_is_verified ps qs (n + 1) l.2))
+  pub scrubbed_is_verified : (names : Names) (ps qs : List Parts) (n : ℕ) → AreScrubbed names g ps qs → Compared g ps None qs (receipts qs) n (Verified (n + length ps))
+  scrubbed_is_verified names [] [] n l = ap Verified (let z : n + 0 ≡ n = omega arith in z)
+  scrubbed_is_verified names [] (q ∷ qs) n l = absurd l
+  scrubbed_is_verified names (p ∷ ps) [] n l = absurd l
+  scrubbed_is_verified names (p ∷ ps) (q ∷ qs) n l = (Ok (length (receipt_of q)), checked, onward (scrubbed_is_verified names ps qs (n + 1) l.2))
     where
-      k : IsKept p (kept_of g p)
+      k : IsKept names p (kept_of g p)
       k = l.1.0
 
       passes : Passes p k.parts (kept_of g p) (receipt_of k.parts)
-      passes = kept_passes p l.0 (chosen g p) k (λ all. receipt_of_is_receipt k.parts (λ i h. path_reach k.parts (has_nodes k.parts k.valid) (events_of k.parts) (λ e m. (let v = event_is k.parts k.valid e m in (v.value, v.node))) i (all i h)) (receipt_exact k.parts))
+      passes = kept_passes p l.0 (chosen g p) names k (λ all. receipt_of_is_receipt k.parts (λ i h. path_reach k.parts (has_nodes k.parts k.valid) (events_of k.parts) (λ e m. (let v = event_is k.parts k.valid e m in (v.value, v.node))) i (all i h)) (receipt_exact k.parts))
 
       checked : Checked p q (kept_of g p) (receipts (q ∷ qs)) (Ok (length (receipt_of q)))
       checked = (front_within (receipt_of q) (receipts qs), subst (Passes p q (kept_of g p)) (sym (take_front (receipt_of q) (receipts qs))) (subst (λ z. Passes p z (kept_of g p) (receipt_of z)) l.1.1 passes))

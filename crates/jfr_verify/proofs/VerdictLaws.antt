@@ -97,12 +97,12 @@ module _ (g : Given) (t : Three) where
   -- The scrubs of a recording are verified.
   pub scrubs_verified : HasVerifiedScrubs g t
   scrubs_verified s =
-      let m = made_of g s.input s.input_ends in
+      let m = made_of s.names g s.input s.input_ends in
       let ps : List Parts = (recording_of s.input).parts in
-      let made : List ℕ = flat_map (output_of g) ps in
-      let receipt : List ℕ = flat_map (receipt_for g) ps in
+      let made : List ℕ = flat_map (output_of s.names g) ps in
+      let receipt : List ℕ = flat_map (receipt_for s.names g) ps in
       let zero : 0 + length ps ≡ length ps = omega arith in
-      let c : Compared g ps None m.outputs (receipts m.outputs) 0 (Verified (length ps)) = subst (λ (k : ℕ). Compared g ps None m.outputs (receipts m.outputs) 0 (Verified k)) zero (scrubbed_is_verified g ps m.outputs 0 m.scrubbed) in
+      let c : Compared g ps None m.outputs (receipts m.outputs) 0 (Verified (length ps)) = subst (λ (k : ℕ). Compared g ps None m.outputs (receipts m.outputs) 0 (Verified k)) zero (scrubbed_is_verified g s.names ps m.outputs 0 m.scrubbed) in
       compared (record { bytes = receipt; is = s.receipt_is; short = s.short }) (record { bytes = made; is = s.output_is }) (ap (λ (k : Recording). k.refusal) m.read) s.input s.input_is
       (subst (λ (z : Option Refusal). Compared g ps z (recording_of made).parts receipt 0 (Verified (length ps))) (sym s.input_ends)
       (subst (λ (k : Recording). Compared g ps None k.parts receipt 0 (Verified (length ps))) (sym m.read)

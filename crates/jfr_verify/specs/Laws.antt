@@ -3,6 +3,7 @@ use Rattle.std.specs.Prelude.{◌≡◌, ◌<◌, ℕ, Bool, List, length}
 use Rattle.jfr_chunk.specs.Parts.{Parts, EventAt, events_of}
 use Rattle.jfr_chunk.specs.Reach.{Reached, remain}
 use Rattle.jfr_chunk.specs.Meaning.{SameMeaning}
+use Rattle.jfr_chunk.specs.Metas.{Names}
 use Rattle.jfr_laws.specs.Laws.{AreCopied, IsKept}
 use Rattle.jfr_verify.specs.Receipts.{IsReceiptOf, receipt_of}
 use Rattle.jfr_verify.specs.Checks.{HasClasses, contents, AreAmong, AreClosed}
@@ -27,6 +28,7 @@ pub record IsVerified (p q : Parts) (kept : List EventAt) : Type 0 where
 abbrev pub AllReached : Parts → Type 0
 AllReached p = (number : ℕ) → number < length p.entries → Reached p (events_of p) number
 
--- The output of a scrub passes the checks with the receipt that is written for it.
+-- The output of a scrub passes the checks with the receipt that is written for it, whichever classes it
+-- describes.
 abbrev pub IsKeptPassed : Parts → List EventAt → Type 0
-IsKeptPassed p kept = (k : IsKept p kept) → Passes p k.parts kept (receipt_of k.parts)
+IsKeptPassed p kept = (names : Names) (k : IsKept names p kept) → Passes p k.parts kept (receipt_of k.parts)

@@ -5,6 +5,7 @@ use Rattle.jfr_base.specs.declared.flaw.Refusal.{Refusal}
 use Rattle.jfr_filter.specs.Filters.{Given}
 use Rattle.jfr_chunk.specs.Parts.{Parts, AreParts}
 use Rattle.jfr_chunk.specs.Chosen.{kept_of}
+use Rattle.jfr_chunk.specs.Metas.{Names}
 use Rattle.jfr_laws.specs.Laws.{IsKept}
 use Rattle.jfr_verify.specs.Receipts.{receipt_of}
 use Rattle.jfr_verify.specs.Laws.{IsVerified}
@@ -37,12 +38,13 @@ AreVerified g [] (q ∷ qs) = ⊥
 AreVerified g (p ∷ ps) [] = ⊥
 AreVerified g (p ∷ ps) (q ∷ qs) = IsVerified p q (kept_of g p) × AreVerified g ps qs
 
--- Each output is the output of a scrub of its input with this filter.
-abbrev pub AreScrubbed : Given → List Parts → List Parts → Type 0
-AreScrubbed g [] [] = ⊤
-AreScrubbed g [] (q ∷ qs) = ⊥
-AreScrubbed g (p ∷ ps) [] = ⊥
-AreScrubbed g (p ∷ ps) (q ∷ qs) = AreParts p × ((k : IsKept p (kept_of g p)) × (k.parts ≡ q)) × AreScrubbed g ps qs
+-- Each output is the output of a scrub of its input with the events that this filter keeps and the classes of
+-- these names described.
+abbrev pub AreScrubbed : Names → Given → List Parts → List Parts → Type 0
+AreScrubbed names g [] [] = ⊤
+AreScrubbed names g [] (q ∷ qs) = ⊥
+AreScrubbed names g (p ∷ ps) [] = ⊥
+AreScrubbed names g (p ∷ ps) (q ∷ qs) = AreParts p × ((k : IsKept names p (kept_of g p)) × (k.parts ≡ q)) × AreScrubbed names g ps qs
 
 -- The receipts that are written for these chunks, one after another.
 abbrev pub receipts : List Parts → List ℕ
@@ -54,4 +56,4 @@ pub record IsComparison (g : Given) (ps : List Parts) (end : Option Refusal) (qs
   pub there : (x : Verdict) × Compared g ps end qs r n x
   pub one : (x y : Verdict) → Compared g ps end qs r n x → Compared g ps end qs r n y → x ≡ y
   pub sound : (m : ℕ) → AllByRecursion AreParts ps → AllByRecursion AreParts qs → Compared g ps end qs r n (Verified m) → AreVerified g ps qs × (m ≡ n + length ps) × (end ≡ None)
-  pub complete : AreScrubbed g ps qs → Compared g ps None qs (receipts qs) n (Verified (n + length ps))
+  pub complete : (names : Names) → AreScrubbed names g ps qs → Compared g ps None qs (receipts qs) n (Verified (n + length ps))

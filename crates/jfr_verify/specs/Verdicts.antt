@@ -9,6 +9,7 @@ use Rattle.jfr_header.specs.Taking.{IsKept}
 use Rattle.jfr_chunk.specs.Parts.{Parts}
 use Rattle.jfr_chunk.specs.Chosen.{kept_of}
 use Rattle.jfr_chunk.specs.Refusal.{read_parts}
+use Rattle.jfr_chunk.specs.Metas.{Names}
 use Rattle.jfr_chunk.specs.Scrub.{scrub_of}
 use Rattle.jfr_verify.specs.Receipts.{receipt_of}
 use Rattle.jfr_verify.specs.Recordings.{Recording, recording_of}
@@ -81,9 +82,10 @@ pub record AllVerified (g : Given) (t : Three) (count : ℕ) : Type 0 where
   pub verified : AreVerified g (recording_of input).parts (recording_of output).parts
   pub counted : count ≡ length (recording_of input).parts
 
--- The output of a scrub of a chunk with this filter.
-abbrev pub output_of : Given → Parts → List ℕ
-output_of g p = scrub_of p (kept_of g p)
+-- The output of a scrub of a chunk with the events that this filter keeps and the classes of these names
+-- described.
+abbrev pub output_of : Names → Given → Parts → List ℕ
+output_of names g p = scrub_of names p (kept_of g p)
 
 -- The receipt that is written for a chunk that was read.
 abbrev pub receipt_by : Result Parts Flaw → List ℕ
@@ -91,18 +93,19 @@ receipt_by (Ok q) = receipt_of q
 receipt_by (Err flaw) = []
 
 -- The receipt that is written for the output of a scrub of a chunk.
-abbrev pub receipt_for : Given → Parts → List ℕ
-receipt_for g p = receipt_by (read_parts (output_of g p))
+abbrev pub receipt_for : Names → Given → Parts → List ℕ
+receipt_for names g p = receipt_by (read_parts (output_of names g p))
 
--- The input is read to its end, the output is the scrubs of its chunks, and the receipts are those that are
--- written for them, and not too long.
+-- The input is read to its end, the output is the scrubs of its chunks, whichever classes they describe, and the
+-- receipts are those that are written for them, and not too long.
 pub record AreScrubs (g : Given) (t : Three) : Type 0 where
+  pub names : Names
   pub input : List ℕ
   pub input_is : t.input ≡ Some input
   pub input_ends : (recording_of input).refusal ≡ None
-  pub output_is : t.output ≡ Some (flat_map (output_of g) (recording_of input).parts)
-  pub receipt_is : t.receipt ≡ Some (flat_map (receipt_for g) (recording_of input).parts)
-  pub short : length (flat_map (receipt_for g) (recording_of input).parts) < 2 ^ 40
+  pub output_is : t.output ≡ Some (flat_map (output_of names g) (recording_of input).parts)
+  pub receipt_is : t.receipt ≡ Some (flat_map (receipt_for names g) (recording_of input).parts)
+  pub short : length (flat_map (receipt_for names g) (recording_of input).parts) < 2 ^ 40
 
 -- The output of a scrub and its receipts are verified.
 abbrev pub HasVerifiedScrubs : Given → Three → Type 0

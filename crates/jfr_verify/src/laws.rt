@@ -23,7 +23,7 @@ pub fn receipt_of_reached()
     ensures { (p : Parts) → AreParts p → AllReached p → IsReceiptOf (receipt_of p) p }
 {}
 
-/// The output of a scrub passes the checks with its own receipt.
+/// The output of a scrub passes the checks with its own receipt, whichever classes it describes.
 pub fn kept_is_passed()
     ensures { (p : Parts) (flags : List Bool) → AreParts p → IsKeptPassed p (kept_by p flags) }
 {}
@@ -55,7 +55,7 @@ pub fn verdict_is_unique()
     ensures there { (g : Given) (t : Three) → HasVerdict g t }
 {}
 
-/// The output of a scrub and the receipts of its chunks are verified.
+/// The output of a scrub and the receipts of its chunks are verified, whichever classes the output describes.
 pub fn scrubs_are_verified()
     ensures { (g : Given) (t : Three) → HasVerifiedScrubs g t }
 {}

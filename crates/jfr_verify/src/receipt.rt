@@ -3,6 +3,7 @@ ghost use Rattle.std.specs.Prelude.{◌≡◌, ◌∷◌, ◌++◌, length, OnOk
 ghost use Rattle.std.specs.List.{flat_map};
 ghost use Rattle.jfr_base.specs.Integer.{spell};
 ghost use Rattle.jfr_chunk.specs.Reach.{kept_by};
+ghost use Rattle.jfr_chunk.specs.Metas.{Names};
 ghost use Rattle.jfr_laws.specs.Laws.{IsKept};
 ghost use Rattle.jfr_verify.specs.Ranks.{ranked_bytes};
 ghost use Rattle.jfr_verify.specs.Receipts.{line_bytes, parent_kind, parent_number, receipt_of};
@@ -52,10 +53,10 @@ pub fn receipt_of(alloc: Global, chunk: &Chunk<'_>) -> Result<Receipt, NoMemory>
     Ok(Receipt { bytes })
 }
 
-/// The receipt of the scrub of a chunk in which these events are kept. It is made from the chunk itself; the
-/// scrub isn't needed.
+/// The receipt of the scrub of a chunk in which these events are kept, whichever classes it describes. It is
+/// made from the chunk itself; the scrub isn't needed.
 pub fn receipt_of_scrub(alloc: Global, chunk: &Chunk<'_>, kept: &Kept) -> Result<Receipt, NoMemory>
-    ensures ok { IfOk result (λ receipt. (scrub : IsKept chunk.now (kept_by chunk.now kept.now)) → receipt ≡ receipt_of scrub.parts) }
+    ensures ok { IfOk result (λ receipt. (names : Names) (scrub : IsKept names chunk.now (kept_by chunk.now kept.now)) → receipt ≡ receipt_of scrub.parts) }
 {
     chunk.parts_are_valid();
     let lines = kept_lines_in::<Brand>(alloc, chunk, kept, Blank::new(1))?;
