@@ -7,6 +7,7 @@ mod jdk_slim;
 mod null_name;
 mod records;
 mod slim;
+mod timed;
 
 pub use chunks::{
     PLAIN, Times, USUAL, chunk_at, chunk_of, inert, inert_at, plain_with, with_classes,
@@ -23,3 +24,4 @@ pub use records::{
     THREE, THREE_SCRUBBED, TWICE, TWICE_SCRUBBED, UNKNOWN, WIDE, WIDE_SCRUBBED,
 };
 pub use slim::{CLASSES_OF_A, CLASSES_OF_B, NO_EVENT_CLASSES};
+pub use timed::{Clock, timed};
