@@ -8,14 +8,16 @@ use Rattle.std.proofs.lemmas.List.Sorted.{length_permutation}
 use Rattle.std.proofs.lemmas.Slice.Eq.{bytes_eq-Decides}
 use Rattle.jfr_filter.specs.Filters.{Given, nothing_given, with_patterns}
 use Rattle.jfr_words.specs.declared.order.Order.{Order}
+use Rattle.jfr_words.specs.declared.order.Order.TheVariants as orders
 use Rattle.jfr_words.specs.declared.print.PrintOption.{PrintOption}
 use Rattle.jfr_words.specs.declared.print.PrintOption.TheVariants.{Patterns, Depth, Json}
 use Rattle.jfr_words.specs.declared.print.PrintSettings.{PrintSettings}
 use Rattle.jfr_words.specs.declared.split.SplitOption.{SplitOption}
 use Rattle.jfr_words.specs.declared.split.SplitOption.TheVariants.{Output, MaxChunks, MaxSize}
 use Rattle.jfr_words.specs.declared.split.SplitSettings.{SplitSettings}
+use Rattle.jfr_words.specs.Jsons.{is_json, asks_json, after_json}
 use Rattle.jfr_words.specs.Laws.{filter_options, valued_options, bare_options, is_option, is_same_option, AreOptions, line}
-use Rattle.jfr_words.specs.Names.{name_in}
+use Rattle.jfr_words.specs.Names.{name_in, only_name}
 use Rattle.jfr_words.specs.Numbers.{number_in}
 use Rattle.jfr_words.specs.Patterns.{given_with}
 use Rattle.jfr_words.specs.Prints.{no_print_option, print_option_of, print_with, print_from}
@@ -266,9 +268,46 @@ stacks_read g (word ∷ []) rest e = cc
 stacks_read g (word ∷ value ∷ []) rest e = stacks_valued word e value rest g
 stacks_read g (word ∷ value ∷ more ∷ others) rest e = cc
 
--- Six commands have options, and no other word has any.
+-- `--json`, for a command that has no other option. What is given so far is whether it was given.
+abbrev json_option_of : List ℕ → Option (Unit {0})
+json_option_of word = if is_json word then Some tt else None
+
+abbrev json_with : Unit {0} → List ℕ → Bool → Option Bool
+json_with _ next given = if given then None else Some true
+
+json_settles : Settles json_with
+json_settles = settles json_with (λ _. Unit {0}) (λ _ given. given) (λ _ _ given. true) (λ _ _. Some tt) (λ _ v given. refl) (λ _ _ given. refl) (λ _ _. inl refl)
+
+module _ (named : Bool → List ℕ → Order) where
+  abbrev json_from : Bool → List (List ℕ) → Option Order
+  json_from true words = option_map (named true) (only_name words)
+  json_from false words = option_map (λ file. named (asks_json words) file) (only_name (after_json words))
+
+  json_bare : (word : List ℕ) → list_any (bytes_eq word) (codes "--json" ∷ []) ≡ true → Takes json_option_of json_with json_from (word ∷ [])
+  json_bare word e = of_each (λ w. Takes json_option_of json_with json_from (w ∷ [])) (codes "--json" ∷ []) (json, tt) word e
+    where
+      json : Takes json_option_of json_with json_from (codes "--json" ∷ [])
+      json rest false = refl
+      json [] true = refl
+      json (next ∷ rest) true = refl
+
+  summary_read : (given : Bool) (option : List (List ℕ)) (rest : List (List ℕ)) → IsTrue (is_option (codes "summary") option) → json_from given (option ++ rest) ≡ option_and_then (λ h. json_from h rest) (give json_option_of json_with option given)
+  summary_read given [] rest e = cc
+  summary_read given (word ∷ []) rest e = json_bare word e rest given
+  summary_read given (word ∷ value ∷ []) rest e = cc
+  summary_read given (word ∷ value ∷ more ∷ others) rest e = cc
+
+  metadata_read : (given : Bool) (option : List (List ℕ)) (rest : List (List ℕ)) → IsTrue (is_option (codes "metadata") option) → json_from given (option ++ rest) ≡ option_and_then (λ h. json_from h rest) (give json_option_of json_with option given)
+  metadata_read given [] rest e = cc
+  metadata_read given (word ∷ []) rest e = json_bare word e rest given
+  metadata_read given (word ∷ value ∷ []) rest e = cc
+  metadata_read given (word ∷ value ∷ more ∷ others) rest e = cc
+
+-- Eight commands have options, and no other word has any.
 data HasOptions (command : List ℕ) : Type 0 where
   print : command ≡ codes "print" → HasOptions command
+  summary : command ≡ codes "summary" → HasOptions command
+  metadata : command ≡ codes "metadata" → HasOptions command
   scrub : command ≡ codes "scrub" → HasOptions command
   split : command ≡ codes "disassemble" → HasOptions command
   receipt : command ≡ codes "receipt" → HasOptions command
@@ -278,22 +317,24 @@ data HasOptions (command : List ℕ) : Type 0 where
 
 has_options : (command : List ℕ) → HasOptions command
 has_options command =
-    by_tests (bytes_eq command (codes "print")) (bytes_eq command (codes "scrub")) (bytes_eq command (codes "disassemble")) (bytes_eq command (codes "receipt")) (bytes_eq command (codes "verify")) (bytes_eq command (codes "stacks"))
-    refl refl refl refl refl refl
+    by_tests (bytes_eq command (codes "print")) (bytes_eq command (codes "summary")) (bytes_eq command (codes "metadata")) (bytes_eq command (codes "scrub")) (bytes_eq command (codes "disassemble")) (bytes_eq command (codes "receipt")) (bytes_eq command (codes "verify")) (bytes_eq command (codes "stacks"))
+    refl refl refl refl refl refl refl refl
   where
-    by_tests : (p s d r v t : Bool) → bytes_eq command (codes "print") ≡ p → bytes_eq command (codes "scrub") ≡ s → bytes_eq command (codes "disassemble") ≡ d → bytes_eq command (codes "receipt") ≡ r → bytes_eq command (codes "verify") ≡ v → bytes_eq command (codes "stacks") ≡ t → HasOptions command
-    by_tests true s d r v t e f h i j k = print ((bytes_eq-Decides command (codes "print")).0 e)
-    by_tests false true d r v t e f h i j k = scrub ((bytes_eq-Decides command (codes "scrub")).0 f)
-    by_tests false false true r v t e f h i j k = split ((bytes_eq-Decides command (codes "disassemble")).0 h)
-    by_tests false false false true v t e f h i j k = receipt ((bytes_eq-Decides command (codes "receipt")).0 i)
-    by_tests false false false false true t e f h i j k = verify ((bytes_eq-Decides command (codes "verify")).0 j)
-    by_tests false false false false false true e f h i j k = stacks ((bytes_eq-Decides command (codes "stacks")).0 k)
-    by_tests false false false false false false e f h i j k = no_options none
+    by_tests : (p u m s d r v t : Bool) → bytes_eq command (codes "print") ≡ p → bytes_eq command (codes "summary") ≡ u → bytes_eq command (codes "metadata") ≡ m → bytes_eq command (codes "scrub") ≡ s → bytes_eq command (codes "disassemble") ≡ d → bytes_eq command (codes "receipt") ≡ r → bytes_eq command (codes "verify") ≡ v → bytes_eq command (codes "stacks") ≡ t → HasOptions command
+    by_tests true u m s d r v t e f g h i j k l = print ((bytes_eq-Decides command (codes "print")).0 e)
+    by_tests false true m s d r v t e f g h i j k l = summary ((bytes_eq-Decides command (codes "summary")).0 f)
+    by_tests false false true s d r v t e f g h i j k l = metadata ((bytes_eq-Decides command (codes "metadata")).0 g)
+    by_tests false false false true d r v t e f g h i j k l = scrub ((bytes_eq-Decides command (codes "scrub")).0 h)
+    by_tests false false false false true r v t e f g h i j k l = split ((bytes_eq-Decides command (codes "disassemble")).0 i)
+    by_tests false false false false false true v t e f g h i j k l = receipt ((bytes_eq-Decides command (codes "receipt")).0 j)
+    by_tests false false false false false false true t e f g h i j k l = verify ((bytes_eq-Decides command (codes "verify")).0 k)
+    by_tests false false false false false false false true e f g h i j k l = stacks ((bytes_eq-Decides command (codes "stacks")).0 l)
+    by_tests false false false false false false false false e f g h i j k l = no_options none
       where
         none : (option : List (List ℕ)) → IsTrue (is_option command option) → ⊥
         none [] t = cc
-        none (word ∷ []) t = cc (rw e at t)
-        none (word ∷ value ∷ []) t = cc (rw (e, f, h, i, j, k) at t)
+        none (word ∷ []) t = cc (rw (e, f, g) at t)
+        none (word ∷ value ∷ []) t = cc (rw (e, h, i, j, k, l) at t)
         none (word ∷ value ∷ more ∷ others) t = cc
 
 pub any_order : (command : List ℕ) (options others : List (List (List ℕ))) (rest : List (List ℕ)) → AreOptions command options → IsPermutation options others → order_of (line command others rest) ≡ order_of (line command options rest)
@@ -310,6 +351,8 @@ any_order command options others rest all p = by_command (has_options command) a
 
     by_command : HasOptions command → Same command
     by_command (print e) = subst Same (sym e) (λ all. in_any_order print_option_of print_with prints_settle print_from (λ o. IsTrue (is_option (codes "print") o)) print_read options others rest no_print_option all p)
+    by_command (summary e) = subst Same (sym e) (λ all. in_any_order json_option_of json_with json_settles (json_from orders.Summary) (λ o. IsTrue (is_option (codes "summary") o)) (summary_read orders.Summary) options others rest false all p)
+    by_command (metadata e) = subst Same (sym e) (λ all. in_any_order json_option_of json_with json_settles (json_from orders.Metadata) (λ o. IsTrue (is_option (codes "metadata") o)) (metadata_read orders.Metadata) options others rest false all p)
     by_command (scrub e) = subst Same (sym e) (λ all. in_any_order scrub_option_of scrub_with scrubs_settle scrub_from (λ o. IsTrue (is_option (codes "scrub") o)) scrub_read options others rest no_scrub_option all p)
     by_command (split e) = subst Same (sym e) (λ all. in_any_order split_option_of split_with splits_settle split_from (λ o. IsTrue (is_option (codes "disassemble") o)) split_read options others rest no_split_option all p)
     by_command (receipt e) = subst Same (sym e) (λ all. in_any_order side_of given_with sides_settle (filtered_from receipt_named) (λ o. IsTrue (is_option (codes "receipt") o)) (receipt_read receipt_named) options others rest nothing_given all p)
@@ -334,6 +377,8 @@ at_most_once command options rest all = by_command (has_options command) all
 
     by_command : HasOptions command → Once command
     by_command (print e) = subst Once (sym e) (λ all. given_once print_option_of print_with prints_settle print_from (λ o. IsTrue (is_option (codes "print") o)) print_read options rest no_print_option all)
+    by_command (summary e) = subst Once (sym e) (λ all. given_once json_option_of json_with json_settles (json_from orders.Summary) (λ o. IsTrue (is_option (codes "summary") o)) (summary_read orders.Summary) options rest false all)
+    by_command (metadata e) = subst Once (sym e) (λ all. given_once json_option_of json_with json_settles (json_from orders.Metadata) (λ o. IsTrue (is_option (codes "metadata") o)) (metadata_read orders.Metadata) options rest false all)
     by_command (scrub e) = subst Once (sym e) (λ all. given_once scrub_option_of scrub_with scrubs_settle scrub_from (λ o. IsTrue (is_option (codes "scrub") o)) scrub_read options rest no_scrub_option all)
     by_command (split e) = subst Once (sym e) (λ all. given_once split_option_of split_with splits_settle split_from (λ o. IsTrue (is_option (codes "disassemble") o)) split_read options rest no_split_option all)
     by_command (receipt e) = subst Once (sym e) (λ all. given_once side_of given_with sides_settle (filtered_from receipt_named) (λ o. IsTrue (is_option (codes "receipt") o)) (receipt_read receipt_named) options rest nothing_given all)

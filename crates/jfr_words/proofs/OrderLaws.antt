@@ -18,6 +18,7 @@ use Rattle.jfr_words.specs.declared.split.SplitSettings.{SplitSettings}
 use Rattle.jfr_filter.specs.Filters.{Given, nothing_given}
 use Rattle.jfr_filter.specs.declared.side.Side.{Side}
 use Rattle.jfr_words.specs.Filtered.{side_of, filtered_from}
+use Rattle.jfr_words.specs.Jsons.{after_json}
 use Rattle.jfr_words.specs.Names.{only_name, two_names, three_names, name_in}
 use Rattle.jfr_base.specs.Decimal.{decimal_number}
 use Rattle.jfr_words.specs.Numbers.{within, number_in}
@@ -182,8 +183,8 @@ unfolding order_of
 order_usable [] = tt
 order_usable (command ∷ rest) =
     gives_if IsUsableOrder (bytes_eq command (codes "print")) _ _ (print_usable no_print_option rest tt)
-    (gives_if IsUsableOrder (bytes_eq command (codes "summary")) _ _ (gives_map IsUsableOrder _ (only_name rest) (λ file. tt))
-    (gives_if IsUsableOrder (bytes_eq command (codes "metadata")) _ _ (gives_map IsUsableOrder _ (only_name rest) (λ file. tt))
+    (gives_if IsUsableOrder (bytes_eq command (codes "summary")) _ _ (gives_map IsUsableOrder _ (only_name (after_json rest)) (λ file. tt))
+    (gives_if IsUsableOrder (bytes_eq command (codes "metadata")) _ _ (gives_map IsUsableOrder _ (only_name (after_json rest)) (λ file. tt))
     (gives_if IsUsableOrder (bytes_eq command (codes "scrub")) _ _ (scrub_usable no_scrub_option rest)
     (gives_if IsUsableOrder (bytes_eq command (codes "disassemble")) _ _ (split_usable no_split_option rest (tt, tt))
     (gives_if IsUsableOrder (bytes_eq command (codes "assemble")) _ _ (gives_map IsUsableOrder _ (two_names rest) (λ names. tt))

@@ -39,17 +39,34 @@ late_option_row : order_of (codes "print" ∷ codes "a" ∷ codes "--json" ∷ [
 unfolding order_of
 late_option_row = refl
 
-summary_row : order_of (codes "summary" ∷ codes "a" ∷ []) ≡ Some (Summary (codes "a"))
+summary_row : order_of (codes "summary" ∷ codes "a" ∷ []) ≡ Some (Summary false (codes "a"))
 unfolding order_of
 summary_row = refl
+
+summary_json_row : order_of (codes "summary" ∷ codes "--json" ∷ codes "a" ∷ []) ≡ Some (Summary true (codes "a"))
+unfolding order_of
+summary_json_row = refl
+
+summary_json_twice_row : order_of (codes "summary" ∷ codes "--json" ∷ codes "--json" ∷ codes "a" ∷ []) ≡ None
+unfolding order_of
+summary_json_twice_row = refl
 
 two_files_row : order_of (codes "summary" ∷ codes "a" ∷ codes "b" ∷ []) ≡ None
 unfolding order_of
 two_files_row = refl
 
-metadata_row : order_of (codes "metadata" ∷ codes "a" ∷ []) ≡ Some (Metadata (codes "a"))
+metadata_row : order_of (codes "metadata" ∷ codes "a" ∷ []) ≡ Some (Metadata false (codes "a"))
 unfolding order_of
 metadata_row = refl
+
+metadata_json_row : order_of (codes "metadata" ∷ codes "--json" ∷ codes "a" ∷ []) ≡ Some (Metadata true (codes "a"))
+unfolding order_of
+metadata_json_row = refl
+
+-- The option comes before the name.
+late_json_row : order_of (codes "metadata" ∷ codes "a" ∷ codes "--json" ∷ []) ≡ None
+unfolding order_of
+late_json_row = refl
 
 -- A name doesn't begin with a dash, and isn't empty.
 dash_row : order_of (codes "metadata" ∷ codes "-a" ∷ []) ≡ None

@@ -20,7 +20,11 @@ valued_options command =
 
 -- The options of a command that take none.
 abbrev pub bare_options : List ℕ → List (List ℕ)
-bare_options command = if bytes_eq command (codes "print") then codes "--json" ∷ [] else []
+bare_options command =
+    if bytes_eq command (codes "print") then codes "--json" ∷ [] else
+    if bytes_eq command (codes "summary") then codes "--json" ∷ [] else
+    if bytes_eq command (codes "metadata") then codes "--json" ∷ [] else
+    []
 
 -- Whether words are an option of the command as it is given: its word, followed by its value, which may be
 -- any word, if it takes one.

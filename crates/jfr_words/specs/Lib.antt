@@ -1,4 +1,5 @@
 pub mod Filtered
+pub mod Jsons
 pub mod Laws
 pub mod Names
 pub mod Numbers

@@ -4,6 +4,7 @@
 #![tactic(auto)]
 
 mod filter;
+mod json;
 pub mod laws;
 mod name;
 mod number;
