@@ -1,3 +1,4 @@
+pub mod FilterOptions
 pub mod Filtered
 pub mod Jsons
 pub mod Laws

@@ -4,6 +4,7 @@
 #![tactic(auto)]
 
 mod filter;
+mod filter_option;
 mod json;
 pub mod laws;
 mod name;
