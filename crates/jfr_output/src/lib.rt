@@ -6,12 +6,14 @@
 //! `specs/OutputRecords.antt` first, then `specs/Remaining.antt` and `specs/Recordings.antt`.
 #![tactic(auto)]
 
+mod laws;
 mod metadata;
 mod output_records;
 mod pools;
 mod positions;
 mod remaining;
 
+pub use laws::{cursors_start_at_zero, marked_entries_are_in_order};
 pub use metadata::slim_metadata;
 pub use output_records::{Cursor, OutputRecord, next_output_record};
 pub use pools::pool_len;

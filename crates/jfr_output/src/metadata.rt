@@ -18,7 +18,12 @@ use std::alloc::Global;
 /// The metadata record without the event classes that the output doesn't describe: those that no kept event
 /// needs, and whose names no pattern of `Side::Describe` matches. `None` if the output keeps the record of the
 /// chunk, since the new one would be longer.
-pub fn slim_metadata(alloc: Global, chunk: &Chunk, kept: &Kept, filter: &Filter) -> Result<Option<Vec<u8>>, NoMemory>
+pub fn slim_metadata(
+    alloc: Global,
+    chunk: &Chunk,
+    kept: &Kept,
+    filter: &Filter,
+) -> Result<Option<Vec<u8>>, NoMemory>
     requires { length kept.now ≡ length (events_of chunk.now) }
     ensures exact { IfOk result (λ found. option_map (λ v. v.items) found ≡ new_metadata (describes filter.now) chunk.now (kept_by chunk.now kept.now)) }
     ensures metadata { IfOk result (λ found. IfSome found (λ v. IsMetadataRecord v.items)) }
@@ -29,7 +34,12 @@ pub fn slim_metadata(alloc: Global, chunk: &Chunk, kept: &Kept, filter: &Filter)
 }
 
 /// The ids of the classes that the output describes if its metadata record is rebuilt.
-fn staying_classes(alloc: Global, chunk: &Chunk, kept: &Kept, filter: &Filter) -> Result<Ids, NoMemory>
+fn staying_classes(
+    alloc: Global,
+    chunk: &Chunk,
+    kept: &Kept,
+    filter: &Filter,
+) -> Result<Ids, NoMemory>
     requires { length kept.now ≡ length (events_of chunk.now) }
     ensures exact { IfOk result (λ stay. (id : ℕ) → is_in stay id ≡ stays_in (describes filter.now) chunk.now (kept_by chunk.now kept.now) id) }
 {
@@ -41,7 +51,12 @@ fn staying_classes(alloc: Global, chunk: &Chunk, kept: &Kept, filter: &Filter) -
 }
 
 /// The classes of the kept events, and those that the filter describes without events.
-fn used_classes(alloc: Global, chunk: &Chunk, kept: &Kept, filter: &Filter) -> Result<UsedClasses, NoMemory>
+fn used_classes(
+    alloc: Global,
+    chunk: &Chunk,
+    kept: &Kept,
+    filter: &Filter,
+) -> Result<UsedClasses, NoMemory>
     requires { length kept.now ≡ length (events_of chunk.now) }
     ensures { IfOk result (λ used. (id : ℕ) → is_in used.ids id ≡ is_used (describes filter.now) chunk.now (kept_by chunk.now kept.now) id) }
 {
@@ -67,7 +82,11 @@ fn add_described(used: &mut UsedClasses, classes: &Classes, filter: &Filter) -> 
 }
 
 /// Adds the class if the filter describes it.
-fn add_if_described(used: &mut UsedClasses, class: &ClassInfo, filter: &Filter) -> Result<(), NoMemory>
+fn add_if_described(
+    used: &mut UsedClasses,
+    class: &ClassInfo,
+    filter: &Filter,
+) -> Result<(), NoMemory>
     ensures { OnOk result ((id : ℕ) → is_in used.new.ids id ≡ (is_in used.old.ids id || ((class.now.id == id) && describes filter.now class.now.name))) }
 {
     if !filter.matches(Side::Describe, class.name.as_str()) {

@@ -257,9 +257,11 @@ fn parts(rt: HostRuntime) -> Result<(), Fail> {
     asks_three_options(&rt, rt.alloc())
 }
 
-static TWO_OPTIONS: [(Side, &str); 2] = [
+static FOUR_OPTIONS: [(Side, &str); 4] = [
     (Side::IncludeEvents, "A"),
     (Side::ExcludeCategories, "A,Java*"),
+    (Side::Always, "Flag"),
+    (Side::Describe, "jdk.*"),
 ];
 
 /// Each option by itself, for one text: a class is matched by its simple name too, a category only whole.
@@ -268,16 +270,36 @@ fn asks_options(rt: &impl Abort, filter: &Filter) {
     assert!(rt; !filter.matches(Side::ExcludeCategories, "t.A"));
     assert!(rt; filter.matches(Side::ExcludeCategories, "Java Application"));
     assert!(rt; !filter.matches(Side::IncludeThreads, "A"));
+    assert!(rt; filter.matches(Side::Always, "jdk.Flag"));
+    assert!(rt; !filter.matches(Side::Always, "jdk.LongFlag"));
+    assert!(rt; filter.matches(Side::Describe, "jdk.LongFlag"));
+    assert!(rt; !filter.matches(Side::Describe, "t.A"));
 }
 
-/// They are asked of the filter of two options.
-fn asks_two_options(rt: &impl Abort, alloc: Global) -> Result<(), Fail> {
-    let filter = filter_of(alloc, &TWO_OPTIONS)?;
+/// They are asked of the filter of four options.
+fn asks_four_options(rt: &impl Abort, alloc: Global) -> Result<(), Fail> {
+    let filter = filter_of(alloc, &FOUR_OPTIONS)?;
     asks_options(rt, &filter);
     Ok(())
 }
 
 #[test]
 fn options(rt: HostRuntime) -> Result<(), Fail> {
-    asks_two_options(&rt, rt.alloc())
+    asks_four_options(&rt, rt.alloc())
+}
+
+/// The bounds of the time window are those that were set, each by itself.
+fn has_window(rt: &impl Abort, alloc: Global) {
+    let mut filter = Filter::new(alloc);
+    assert!(rt; !filter.has_window());
+    filter.set_to(20);
+    assert!(rt; filter.has_window());
+    assert_eq!(rt; (filter.from(), filter.to()), (None, Some(20)));
+    filter.set_from(10);
+    assert_eq!(rt; (filter.from(), filter.to()), (Some(10), Some(20)));
+}
+
+#[test]
+fn windows(rt: HostRuntime) {
+    has_window(&rt, rt.alloc());
 }

@@ -14,8 +14,8 @@ returns-then-are_all c =
     let none = λ (name : List ℕ). no_patterns (event_matches name) c.args.filter.now.describe c.has.result c.has.ensures c.if-not-has.true in
     record {
       exact = stays_ok (describes c.args.filter.now) c.args.chunk.now (kept_by c.args.chunk.now c.args.kept.now) _ _ (is_in c.event_classes.result.now) c.staying.result c.metadata.ensures.body c.metadata.ensures.classes (λ id.
-        c.event_classes.ensures id ∙ (all_used (describes c.args.filter.now) c.args.chunk.now.classes id (used_by (events_of c.args.chunk.now) id) none
-        ∙ ap (λ es. used_by es id || is_described (describes c.args.filter.now) c.args.chunk.now.classes id) (sym all))) c.staying.ensures.exact;
+          c.event_classes.ensures id ∙ (all_used (describes c.args.filter.now) c.args.chunk.now.classes id (used_by (events_of c.args.chunk.now) id) none
+          ∙ ap (λ es. used_by es id || is_described (describes c.args.filter.now) c.args.chunk.now.classes id) (sym all))) c.staying.ensures.exact;
     }
 
 pub returns : goal.returns
