@@ -85,22 +85,22 @@ good_anew names p a kept r x i e = by_test (r.at == metadata_at p.bytes) refl e
         ((stands_anew names p a kept (metadata_size p) x n).is_record, omega (arith, n.fits, size_is p a, ap (λ (z : Framed). z.size) g))
     by_test false q e = cc
 
-module _ (names : Names) (p : Parts) (a : AreParts p) (kept : List EventAt) (are : AreEvents p kept) where
-  -- A kept event is of an event class.
-  is_event : (e : EventAt) → In kept e → is_event_class p.classes e.record_of.type_id ≡ true
-  is_event e i =
-      let j : In (events_of p) e = contains_in (events_of p) e (All-contains (Contains (events_of p)) kept e are (in_contains kept e i)) in
-      in_passes (λ (r : Framed). is_event_class p.classes r.type_id) p.records e.record_of (subst (λ z. In z e.record_of) (event_records_of p a) (in_map (λ (e : EventAt). e.record_of) (events_of p) e j))
+-- A kept event is of an event class.
+pub is_event : (p : Parts) (a : AreParts p) (kept : List EventAt) → AreEvents p kept → (e : EventAt) → In kept e → is_event_class p.classes e.record_of.type_id ≡ true
+is_event p a kept are e i =
+    let j : In (events_of p) e = contains_in (events_of p) e (All-contains (Contains (events_of p)) kept e are (in_contains kept e i)) in
+    in_passes (λ (r : Framed). is_event_class p.classes r.type_id) p.records e.record_of (subst (λ z. In z e.record_of) (event_records_of p a) (in_map (λ (e : EventAt). e.record_of) (events_of p) e j))
 
+module _ (names : Names) (p : Parts) (a : AreParts p) (kept : List EventAt) (are : AreEvents p kept) where
   suits_all : Suits p kept p.classes
-  suits_all = record { sound = (has_nodes p a).sound; agree = λ id e. agree_on_event p.classes id (has_nodes p a).sound e; before = λ id e. e; event = is_event }
+  suits_all = record { sound = (has_nodes p a).sound; agree = λ id e. agree_on_event p.classes id (has_nodes p a).sound e; before = λ id e. e; event = is_event p a kept are }
 
   abbrev stays : ℕ → Bool
   stays = stays_in names p kept
 
   used_stays : (e : EventAt) → In kept e → stays e.record_of.type_id ≡ true
   used_stays e i =
-      let c = some_class p.classes e.record_of.type_id (is_event e i) in
+      let c = some_class p.classes e.record_of.type_id (is_event p a kept are e i) in
       (stay names p a kept).has.uses e.record_of.type_id (any_of p.classes e.record_of.type_id c.0 c.1)
       (ap (λ t. t || is_described names p.classes e.record_of.type_id) (in_any (λ (f : EventAt). f.record_of.type_id == e.record_of.type_id) kept e i (eq-eqb e.record_of.type_id e.record_of.type_id refl)))
 
@@ -115,7 +115,7 @@ module _ (names : Names) (p : Parts) (a : AreParts p) (kept : List EventAt) (are
         let c = some_class p.classes id h.1 in
         laws.agree_left names p a kept id c.0 c.1 h.0);
     before = λ id e. (and_parts (stays id) (is_event_class p.classes id) (sym (events_staying p.classes stays id) ∙ e)).1;
-    event = λ e i. events_staying p.classes stays e.record_of.type_id ∙ both (stays e.record_of.type_id) (is_event_class p.classes e.record_of.type_id) (used_stays e i) (is_event e i);
+    event = λ e i. events_staying p.classes stays e.record_of.type_id ∙ both (stays e.record_of.type_id) (is_event_class p.classes e.record_of.type_id) (used_stays e i) (is_event p a kept are e i);
   }
 
   -- The class of a kept event is as it was.
