@@ -4,10 +4,10 @@
 mod chunks;
 mod jdk_like;
 mod jdk_slim;
+mod moments;
 mod null_name;
 mod records;
 mod slim;
-mod timed;
 
 pub use chunks::{
     PLAIN, Times, USUAL, chunk_at, chunk_of, inert, inert_at, plain_with, with_classes,
@@ -18,10 +18,10 @@ pub use jdk_slim::{
     ENTER_AND_LOAD_CLASSES, ENTER_CLASSES, LOAD_CLASSES, NO_JDK_EVENT_CLASSES,
     PARK_AND_ENTER_CLASSES, PARK_CLASSES,
 };
+pub use moments::{Clock, timed};
 pub use null_name::jdk_unnamed;
 pub use records::{
     BYTES_LEFT, CLASSES, KEYS, NO_CLASSES, NO_NODES, NO_POOLS, RINGS, STRINGS, STRINGS_SCRUBBED,
     THREE, THREE_SCRUBBED, TWICE, TWICE_SCRUBBED, UNKNOWN, WIDE, WIDE_SCRUBBED,
 };
 pub use slim::{CLASSES_OF_A, CLASSES_OF_B, NO_EVENT_CLASSES};
-pub use timed::{Clock, timed};
