@@ -9,8 +9,6 @@ use Rattle.jfr_value.specs.declared.node.Step.{Step}
 use Rattle.jfr_value.specs.Nodes.{NodeAt, node_bytes, target, Both}
 use Rattle.jfr_pool.specs.declared.entry.EntryAt.{EntryAt}
 use Rattle.jfr_pool.specs.Entries.{number_in_force, in_force, entry_node}
-use Rattle.jfr_pool.specs.Laws.{IsLast}
-use Rattle.jfr_pool.proofs.OneLaws.{last_is}
 use Rattle.jfr_worklist.specs.Marks.{IsMarked, marked_at}
 use Rattle.jfr_worklist.specs.Members.{In}
 use Rattle.jfr_worklist.proofs.Members.{contains_in, in_contains}
@@ -113,6 +111,7 @@ module _ (p q : Parts) (a : AreParts p) (b : AreParts q) where
       pub right : IsEvent q f
       pub same : SameRecord p q e f
       pub pair : NodePair e.node f.node
+      pub is_kept : In kept e
 
     events_from : (es fs : List EventAt) → ((e : EventAt) → In es e → In kept e) → ((f : EventAt) → In fs f → In others f) → SameRecords p q es fs → Each EventPair es fs
     events_from [] [] i j r = tt
@@ -121,7 +120,7 @@ module _ (p q : Parts) (a : AreParts p) (b : AreParts q) where
     events_from (e ∷ es) (f ∷ fs) i j r =
         let x : IsEvent p e = event_of_chunk p a kept these e (i e (inl refl)) in
         let y : IsEvent q f = event_of_chunk q b others those f (j f (inl refl)) in
-        (record { left = x; right = y; same = r.0; pair = event_pair p q a b e f x y r.0 }, events_from es fs (λ e k. i e (inr k)) (λ f k. j f (inr k)) r.1)
+        (record { left = x; right = y; same = r.0; pair = event_pair p q a b e f x y r.0; is_kept = i e (inl refl) }, events_from es fs (λ e k. i e (inr k)) (λ f k. j f (inr k)) r.1)
 
     pub event_pairs : Each EventPair kept others
     event_pairs = events_from kept others (λ e i. i) (λ f i. i) g.events
@@ -254,9 +253,9 @@ module _ (p q : Parts) (a : AreParts p) (b : AreParts q) where
       pub copied : IsCopied p q e f
       pub bytes : entry_bytes p.bytes e ≡ entry_bytes q.bytes f
       pub pair : NodePair (entry_node e) (entry_node f)
-      pub used : Used p kept (e.class, e.key)
+      pub remains : In (remain p kept) e
 
-    placed : (number : ℕ) (e f : EntryAt) → slice_get here number ≡ Some e → slice_get there number ≡ Some f → NodePair (entry_node e) (entry_node f) × Used p kept (e.class, e.key)
+    placed : (number : ℕ) (e f : EntryAt) → slice_get here number ≡ Some e → slice_get there number ≡ Some f → NodePair (entry_node e) (entry_node f)
     placed number e f x y = by_number (number_in_force q.entries o.key) refl
       where
         o : Origin number
@@ -265,13 +264,7 @@ module _ (p q : Parts) (a : AreParts p) (b : AreParts q) where
         entry_is : slice_get p.entries o.place ≡ Some e
         entry_is = sym (rank_get marks p.entries o.place o.is_marked) ∙ (ap (λ z. slice_get here z) o.rank_is ∙ x)
 
-        key_is : (e.class, e.key) ≡ o.key
-        key_is =
-            let l : IsLast p.entries o.key o.place = (last_is p.entries o.key o.place).0 o.in_force in
-            let h : l.entry ≡ e = (let z : Some l.entry ≡ Some e = sym l.holds ∙ entry_is in cc) in
-            subst (λ (z : EntryAt). (z.class, z.key) ≡ o.key) h l.has
-
-        by_number : (i : Option ℕ) → number_in_force q.entries o.key ≡ i → NodePair (entry_node e) (entry_node f) × Used p kept (e.class, e.key)
+        by_number : (i : Option ℕ) → number_in_force q.entries o.key ≡ i → NodePair (entry_node e) (entry_node f)
         by_number None h = absurd (some_none number (number_in_force there o.key) o.in_force_there (none_force g.flags q.entries o.key h))
         by_number (Some j) h =
             let m = g.no_other o.key j o.used h in
@@ -284,17 +277,16 @@ module _ (p q : Parts) (a : AreParts p) (b : AreParts q) where
             let n = right_of NodePair (leads p u.event.node u.path) (leads q k.0.node u.path) u.node (path_pair u.event k.0 u.path i k.2) u.leads_there in
             let t : target q.classes q.bytes n.0 ≡ Some o.key = sym (pair_target p q (has_nodes p a) (has_nodes q b) u.node n.0 n.2) ∙ u.refers in
             let both = follow_pair p q (has_nodes p a) (has_nodes q b) u.node n.0 n.2 (λ w v. same_entry w (record { event = u.event; is_kept = u.is_kept; path = u.path; node = u.node; leads_there = u.leads_there; refers = v })) in
-            (both_some NodePair (follow p u.node) (follow q n.0) (entry_node e) (entry_node f) both (follow_is p (has_nodes p a) u.node o.key e u.refers in_p) (follow_is q (has_nodes q b) n.0 o.key f t in_q), subst (Used p kept) (sym key_is) u)
+            both_some NodePair (follow p u.node) (follow q n.0) (entry_node e) (entry_node f) both (follow_is p (has_nodes p a) u.node o.key e u.refers in_p) (follow_is q (has_nodes q b) n.0 o.key f t in_q)
 
-    related_from : (es fs : List EntryAt) → SameEntries p q es fs
-        → ((number : ℕ) (e f : EntryAt) → slice_get es number ≡ Some e → slice_get fs number ≡ Some f → NodePair (entry_node e) (entry_node f) × Used p kept (e.class, e.key)) → Related EntryPair es fs
-    related_from [] [] s h = tt
-    related_from [] (f ∷ fs) s h = absurd s
-    related_from (e ∷ es) [] s h = absurd s
-    related_from (e ∷ es) (f ∷ fs) s h =
-        let k = h 0 e f refl refl in
-        (record { copied = s.0; bytes = s.1; pair = k.0; used = k.1 }, s.2, related_from es fs s.3 (λ n d c x y. h (suc n) d c x y))
+    related_from : (es fs : List EntryAt) → SameEntries p q es fs → ((e : EntryAt) → In es e → In (remain p kept) e)
+        → ((number : ℕ) (e f : EntryAt) → slice_get es number ≡ Some e → slice_get fs number ≡ Some f → NodePair (entry_node e) (entry_node f)) → Related EntryPair es fs
+    related_from [] [] s i h = tt
+    related_from [] (f ∷ fs) s i h = absurd s
+    related_from (e ∷ es) [] s i h = absurd s
+    related_from (e ∷ es) (f ∷ fs) s i h =
+        (record { copied = s.0; bytes = s.1; pair = h 0 e f refl refl; remains = i e (inl refl) }, s.2, related_from es fs s.3 (λ d j. i d (inr j)) (λ n d c x y. h (suc n) d c x y))
 
     pub entry_pairs : Related EntryPair (remain p kept) (remain q others)
     unfolding remain
-    entry_pairs = subst (Related EntryPair here) (sym remain_there) (related_from here there corresponding placed)
+    entry_pairs = subst (Related EntryPair here) (sym remain_there) (related_from here there corresponding (λ e i. i) placed)
