@@ -59,11 +59,12 @@ abbrev pub IsCheck : Work → Type 0
 IsCheck (Checks g input output receipt) = ⊤
 IsCheck _ = ⊥
 
--- A check has a doubt about a chunk. The files, the open output and the text written are as before, and no
--- fault was counted.
+-- A check has a doubt about a chunk. The files, the open output and the output sink are as before, and no fault
+-- was counted.
 pub record Doubts (k : Work) (chunk : ℕ) (doubt : Doubt) (a b : Outside) : Type 0 where
   pub check : IsCheck k
   pub verdict : IfFilesKnown k a b (λ w v s t. IsInDoubt k chunk doubt w × (t ≡ s))
+  pub sink : b.sink ≡ a.sink
   pub counts : Counted Unchanged Unchanged Unchanged a b
 
 -- The work is the building of a text that is refused for this line and reason.

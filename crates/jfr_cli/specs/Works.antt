@@ -17,9 +17,9 @@ use Rattle.jfr_show.specs.Texts.{newline}
 use Rattle.jfr_verify.specs.declared.verdict.Verdict.{Verdict}
 use Rattle.jfr_verify.specs.declared.verdict.Verdict.TheVariants.{Verified}
 use Rattle.jfr_verify.specs.declared.verdict.Verdict.TheVariants as verdicts
-use Rattle.jfr_verify.specs.Verdicts.{LacksOne, VerdictOf, three}
+use Rattle.jfr_verify.specs.Verdicts.{HasNoVerdict, VerdictOf, three}
 use Rattle.jfr_receipt.specs.Receipting.{receipting}
-use Rattle.jfr_build.specs.Streams.{building}
+use Rattle.jfr_build.specs.Streams.{IsUnread, building}
 use Rattle.jfr_report.specs.Reports.{printing, summing, describing, folding}
 use Rattle.jfr_report.specs.Demo.{sampled}
 use Rattle.jfr_words.specs.declared.order.Order.{Order}
@@ -88,13 +88,13 @@ target_of (Checks g input output receipt) = Text
 target_of (Builds text output) = File
 
 -- The state after a read fault. It can't happen if no file is read, and nothing was done yet in a check or a
--- build.
+-- build. Over a steady place a check has one only if no verdict is right.
 abbrev pub HaltsAs : Bool → Work → World → World → Snapshot → Snapshot → Type 0
 HaltsAs steady (Over r input) w v s t = HaltedIn steady r [] (file w input) v.input s t
 HaltsAs steady (Joins folder output) w v s t = Unfinished steady (effects (assembling folder output w.files).steps) s t
 HaltsAs steady (Planned p) w v s t = ⊥
-HaltsAs steady (Checks g input output receipt) w v s t = (t ≡ s) × (IsTrue steady → LacksOne (three input output receipt w))
-HaltsAs steady (Builds text output) w v s t = (t ≡ s) × (IsTrue steady → file w text ≡ None)
+HaltsAs steady (Checks g input output receipt) w v s t = (t ≡ s) × (IsTrue steady → HasNoVerdict g (three input output receipt w))
+HaltsAs steady (Builds text output) w v s t = (t ≡ s) × IsUnread steady text w v
 
 -- The state after memory ran out: the first effects are done. A check has only one, which is its last step.
 abbrev pub StopsAs : Work → World → Snapshot → Snapshot → Type 0
