@@ -1,5 +1,5 @@
 -- What building a file leaves.
-use Rattle.std.specs.Prelude.{◌≡◌, ◌≢◌, ℕ, Bool, IsTrue, true, List, [], ◌++◌, Vec, Option, None, Some, option_map, IsSome, IfSome, Result, Ok, Err, unwrap_or}
+use Rattle.std.specs.Prelude.{◌≡◌, ◌≢◌, ℕ, Bool, true, List, [], ◌++◌, Vec, Option, None, Some, option_map, IsSome, IfSome, Result, Ok, Err, unwrap_or}
 use Rattle.std.specs.FinMap as fin
 use Rattle.std.specs.declared.alloc.Global.{Global}
 use Rattle.std.proofs.Common.{ap, refl, sym, ◌∙◌, subst}

@@ -54,7 +54,7 @@ pub fn metadata_record(
     classes: Classes,
     region: Option<&Region<'_>>,
 ) -> Result<(Option<Vec<u8>>, Classes), NoMemory>
-    ensures exact { IfOk result (λ made. option_map (λ v. v.items) made.0 ≡ metadata_record classes (option_map (λ r. r.now) region)) }
+    ensures exact { IfOk result (λ made. option_map (λ v. v.items) made.0 ≡ metadata_record classes (option_map (λ r. r.now) region.entry)) }
     ensures classes { IfOk result (λ made. made.1 ≡ classes) }
 {
     let ids = ids_of(alloc, &classes)?;
@@ -114,8 +114,8 @@ fn root_of(
     region: Option<&Region<'_>>,
 ) -> Result<Element, NoMemory>
     requires fixed { strings.old ≡ fixed_texts }
-    ensures tree { IfOk result (λ root. root ≡ (body_of classes.now (option_map (λ r. r.now) region)).root) }
-    ensures strings { OnOk result (strings.new ≡ (body_of classes.now (option_map (λ r. r.now) region)).strings) }
+    ensures tree { IfOk result (λ root. root ≡ (body_of classes.now (option_map (λ r. r.now) region.entry)).root) }
+    ensures strings { OnOk result (strings.new ≡ (body_of classes.now (option_map (λ r. r.now) region.entry)).strings) }
 {
     let mut elements = Elements::new(alloc);
     for at in 0..classes.len() {
@@ -135,8 +135,8 @@ fn push_region(
     strings: &mut Words,
     region: Option<&Region<'_>>,
 ) -> Result<(), NoMemory>
-    ensures trees { OnOk result (children.new ≡ children.old ++ region_trees (length strings.old) (option_map (λ r. r.now) region)) }
-    ensures strings { OnOk result (strings.new ≡ strings.old ++ region_texts (option_map (λ r. r.now) region)) }
+    ensures trees { OnOk result (children.new ≡ children.old ++ region_trees (length strings.old) (option_map (λ r. r.now) region.entry)) }
+    ensures strings { OnOk result (strings.new ≡ strings.old ++ region_texts (option_map (λ r. r.now) region.entry)) }
 {
     let Some(region) = region else {
         return Ok(());

@@ -1,7 +1,7 @@
 //! The region of a text: the locale and the offset from UTC that the metadata names.
 ghost use Rattle.std.specs.Prelude.{◌≡◌, IfOk, option_map};
 ghost use Rattle.std.specs.Str.{chars};
-ghost use Rattle.jfr_build.specs.LeafWords.{number_of};
+ghost use Rattle.jfr_build.specs.LeafWords.{digits_of, number_of};
 ghost use Rattle.jfr_build.specs.Regions.{is_wide, is_wide_region, region_in};
 
 use crate::leaf::fits_int;
@@ -30,8 +30,7 @@ impl<'a> Number<'a> {
     pub fn of(word: &'a str) -> Option<Number<'a>>
         ensures { result ≡ number_of word.now }
     {
-        let digits = word.strip_prefix('-').unwrap_or(word);
-        decimal_number(digits)?;
+        decimal_number(digits_of(word))?;
         Some(Number { text: word })
     }
 
@@ -47,6 +46,16 @@ impl<'a> Number<'a> {
         ensures { IfOk result (λ text. text ≡ chars self.now) }
     {
         Text::make(alloc, self.text)
+    }
+}
+
+/// The digits of a number, after its `-`, if it has one.
+fn digits_of(word: &str) -> &str
+    ensures { result.now ≡ digits_of word.now }
+{
+    match word.strip_prefix('-') {
+        Some(digits) => digits,
+        None => word,
     }
 }
 
