@@ -21,7 +21,7 @@ use Rattle.jfr_pool.specs.Entries.{entry_node}
 use Rattle.jfr_value.specs.Nodes.{NodeAt}
 use Rattle.jfr_value.specs.Leaves.{leaves}
 use Rattle.jfr_build.specs.declared.line.Line.{Line}
-use Rattle.jfr_build.specs.declared.line.Line.TheVariants.{Class, Field, Constant, Record}
+use Rattle.jfr_build.specs.declared.line.Line.TheVariants.{Class, Field, Constant, Record, Region}
 use Rattle.jfr_build.specs.declared.lines.NumberedLine.{NumberedLine}
 use Rattle.jfr_build.specs.ClassLines.{classes_in}
 use Rattle.jfr_build.specs.LeafWords.{AreWordsOf}
@@ -66,12 +66,14 @@ module _ (p q : Parts) (bytes : p.bytes ≡ q.bytes) (classes : p.classes ≡ q.
   same_event (Field name shape) e h = h
   same_event (Constant class key words) e h = h
   same_event (Record class words) e h = (h.0, same_words class words e.node h.1)
+  same_event (Region region) e h = h
 
   same_entry : (line : Line) (e : EntryAt) → IsEntryOf p line e → IsEntryOf q line e
   same_entry (Class id name event) e h = h
   same_entry (Field name shape) e h = h
   same_entry (Constant class key words) e h = (h.0, h.1, same_words class words (entry_node e) h.2)
   same_entry (Record class words) e h = h
+  same_entry (Region region) e h = h
 
 -- One relation of two lists follows from another.
 zip_to : {A B : Type 0} (R S : A → B → Type 0) → ((a : A) (b : B) → R a b → S a b) → (xs : List A) (ys : List B) → AllZip R xs ys → AllZip S xs ys

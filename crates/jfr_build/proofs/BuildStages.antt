@@ -9,6 +9,7 @@ use Rattle.jfr_build.specs.Lines.{read_lines}
 use Rattle.jfr_build.specs.ClassLines.{classes_in}
 use Rattle.jfr_build.specs.LineValues.{first_bad_value}
 use Rattle.jfr_build.specs.Described.{metadata_record}
+use Rattle.jfr_build.specs.Regions.{region_in}
 use Rattle.jfr_build.specs.Built.{checkpoint_of, chunk_with, events_of}
 use Rattle.jfr_build.specs.Builds.{build_chunk, build_classes, build_lines, build_of, build_values, chunk_of, if_small, line_count, refused}
 
@@ -56,7 +57,7 @@ module _ (text chunk : List ℕ) where
 -- The chunk has fewer than 2 ^ 30 bytes, and these parts.
 pub record ChunkParts (k : Classes) (lines : List NumberedLine) (chunk : List ℕ) : Type 0 where
   pub metadata : List ℕ
-  pub recorded : metadata_record k ≡ Some metadata
+  pub recorded : metadata_record k (region_in lines) ≡ Some metadata
   pub is : chunk ≡ chunk_with metadata (events_of k lines) (checkpoint_of k lines)
   pub small : length chunk < 2 ^ 30
 
@@ -73,8 +74,8 @@ small_is made chunk e = by_test (nat_lt (length made) (2 ^ 30)) refl e
 -- What a chunk that was made consists of.
 pub chunk_parts : (k : Classes) (lines : List NumberedLine) (chunk : List ℕ) → chunk_of k lines ≡ Some chunk → ChunkParts k lines chunk
 unfolding chunk_of
-chunk_parts k lines chunk e = by_metadata (metadata_record k) refl e
+chunk_parts k lines chunk e = by_metadata (metadata_record k (region_in lines)) refl e
   where
-    by_metadata : (o : Option (List ℕ)) → metadata_record k ≡ o → option_and_then (λ metadata. if_small (chunk_with metadata (events_of k lines) (checkpoint_of k lines))) o ≡ Some chunk → ChunkParts k lines chunk
+    by_metadata : (o : Option (List ℕ)) → metadata_record k (region_in lines) ≡ o → option_and_then (λ metadata. if_small (chunk_with metadata (events_of k lines) (checkpoint_of k lines))) o ≡ Some chunk → ChunkParts k lines chunk
     by_metadata None q e = cc
     by_metadata (Some metadata) q e = let s = small_is (chunk_with metadata (events_of k lines) (checkpoint_of k lines)) chunk e in record { metadata = metadata; recorded = q; is = s.0; small = s.1 }

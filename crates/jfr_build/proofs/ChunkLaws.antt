@@ -16,6 +16,7 @@ use Rattle.jfr_build.specs.declared.reason.BuildFault.TheVariants.{Refused, Memo
 use Rattle.jfr_build.specs.declared.reason.BuildReason.TheVariants.{TooLarge}
 use Rattle.jfr_build.specs.Lines.{IsBadLine, read_lines}
 use Rattle.jfr_build.specs.Described.{metadata_record}
+use Rattle.jfr_build.specs.Regions.{region_in}
 use Rattle.jfr_build.specs.Built.{chunk_with, events_of, checkpoint_of, checkpoint_with, pools_of}
 use Rattle.jfr_build.specs.Builds.{IsFault, build_lines, build_of, chunk_of, if_small, line_count, refused}
 
@@ -95,18 +96,18 @@ chunk_joined m e p chunk last size a b q =
     ∙ sym (small_some (parts m e p) low)
 
 -- The chunk of classes and lines.
-pub no_metadata : (k : Classes) (lines : List NumberedLine) → None ≡ metadata_record k → None ≡ chunk_of k lines
+pub no_metadata : (k : Classes) (lines : List NumberedLine) → None ≡ metadata_record k (region_in lines) → None ≡ chunk_of k lines
 unfolding chunk_of
 no_metadata k lines e = ap (option_and_then (λ m. if_small (chunk_with m (events_of k lines) (checkpoint_of k lines)))) e
 
-pub large_events : (k j : Classes) (lines : List NumberedLine) (m : List ℕ) → j ≡ k → Some m ≡ metadata_record k → 2 ^ 30 ≤ length (events_of j lines) → None ≡ chunk_of k lines
+pub large_events : (k j : Classes) (lines : List NumberedLine) (m : List ℕ) → j ≡ k → Some m ≡ metadata_record k (region_in lines) → 2 ^ 30 ≤ length (events_of j lines) → None ≡ chunk_of k lines
 unfolding chunk_of
 large_events k j lines m s e l =
     let x : 2 ^ 30 ≤ length (events_of k lines) = subst (λ z. 2 ^ 30 ≤ length (events_of z lines)) s l in
     let n = chunk_length m (events_of k lines) (pools_of k lines) in
     sym (small_none (parts m (events_of k lines) (pools_of k lines)) (omega (arith, x, n))) ∙ ap (option_and_then (λ m. if_small (chunk_with m (events_of k lines) (checkpoint_of k lines)))) e
 
-pub chunk_made : (k j : Classes) (lines : List NumberedLine) (m e p : List ℕ) → j ≡ k → Some m ≡ metadata_record k → e ≡ events_of j lines → p ≡ pools_of j lines → if_small (parts m e p) ≡ chunk_of k lines
+pub chunk_made : (k j : Classes) (lines : List NumberedLine) (m e p : List ℕ) → j ≡ k → Some m ≡ metadata_record k (region_in lines) → e ≡ events_of j lines → p ≡ pools_of j lines → if_small (parts m e p) ≡ chunk_of k lines
 unfolding chunk_of
 chunk_made k j lines m e p s f g h =
     ap (λ z. if_small (parts m z p)) (g ∙ ap (λ z. events_of z lines) s)

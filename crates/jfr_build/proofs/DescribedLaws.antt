@@ -1,5 +1,5 @@
 -- The tree of classes, one element after another.
-use Rattle.std.specs.Prelude.{◌≡◌, ℕ, zero, suc, ◌+◌, ◌^◌, ◌<◌, ◌≤◌, ◌||◌, ◌==◌, Bool, true, false, List, [], ◌∷◌, ◌++◌, length, drop, slice_get, Some}
+use Rattle.std.specs.Prelude.{◌≡◌, ℕ, zero, suc, ◌+◌, ◌^◌, ◌<◌, ◌≤◌, ◌||◌, ◌==◌, Bool, true, false, List, [], ◌∷◌, ◌++◌, length, drop, slice_get, Option, Some, None}
 use Rattle.std.specs.List.{flat_map}
 use Rattle.std.specs.Fmt.{decimal}
 use Rattle.std.specs.Str.{chars}
@@ -12,7 +12,8 @@ use Rattle.jfr_meta.specs.Body.{Body}
 use Rattle.jfr_meta.specs.Slimmed.{slim_in}
 use Rattle.jfr_meta.specs.Trees.{Tree, trees_of}
 use Rattle.jfr_meta.specs.Written.{depth, depths}
-use Rattle.jfr_build.specs.Described.{body_of, class_texts, class_tree, class_trees, field_texts, field_tree, field_trees, metadata_record}
+use Rattle.jfr_build.specs.declared.region.Region.{Region}
+use Rattle.jfr_build.specs.Described.{body_of, class_texts, class_tree, class_trees, field_texts, field_tree, field_trees, metadata_record, region_trees, texts_before}
 
 pub decimal_chars : (n : ℕ) → n < 2 ^ 64 → chars (decimal n) ≡ decimal n
 decimal_chars n h = chars-IsAscii (decimal n) (IsAscii-decimal n h)
@@ -66,19 +67,23 @@ classes_low n (c ∷ cs) =
     let j = fields_low (n + 2) c.fields in
     omega (arith, i, j)
 
-pub root_low : (k : Classes) → depth (body_of k).root ≤ 16
-root_low k = let i = classes_low 12 k in omega (arith, i)
+region_low : (n : ℕ) (region : Option Region) → depths (trees_of (region_trees n region)) ≤ 1
+region_low n None = omega arith
+region_low n (Some r) = omega arith
+
+pub root_low : (k : Classes) (region : Option Region) → depth (body_of k region).root ≤ 16
+root_low k region = let i = classes_low 15 k in let j = region_low (length (texts_before k)) region in omega (arith, i, j)
 
 -- The body with this table and this tree.
 abbrev with_parts : List (List ℕ) → Tree → Body
 with_parts strings root = record { start = 0; duration = 0; id = 1; strings = strings; root = root }
 
 -- The record, from any set with the ids of all classes.
-pub slim_same : (k : Classes) (strings : List (List ℕ)) (root : Tree) (s : ℕ → Bool) → strings ≡ (body_of k).strings → root ≡ (body_of k).root → ((id : ℕ) → s id ≡ has_id k id)
-    → slim_in (record { start = 0; duration = 0; id = 1; strings = strings; root = root }) s (2 ^ 30) ≡ metadata_record k
+pub slim_same : (k : Classes) (region : Option Region) (strings : List (List ℕ)) (root : Tree) (s : ℕ → Bool) → strings ≡ (body_of k region).strings → root ≡ (body_of k region).root → ((id : ℕ) → s id ≡ has_id k id)
+    → slim_in (record { start = 0; duration = 0; id = 1; strings = strings; root = root }) s (2 ^ 30) ≡ metadata_record k region
 unfolding metadata_record
-slim_same k strings root s e f h =
+slim_same k region strings root s e f h =
     let p : s ≡ has_id k = λ i. λ id. h id i in
     ap (λ z. slim_in (with_parts z root) s (2 ^ 30)) e
-    ∙ (ap (λ z. slim_in (with_parts (body_of k).strings z) s (2 ^ 30)) f
-    ∙ ap (λ z. slim_in (body_of k) z (2 ^ 30)) p)
+    ∙ (ap (λ z. slim_in (with_parts (body_of k region).strings z) s (2 ^ 30)) f
+    ∙ ap (λ z. slim_in (body_of k region) z (2 ^ 30)) p)

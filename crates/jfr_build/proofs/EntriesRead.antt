@@ -16,7 +16,7 @@ use Rattle.jfr_value.specs.Reading.{value_format}
 use Rattle.jfr_pool.specs.Entries.{Constant as ConstantAt, constant_format, entry_of, inline}
 use Rattle.jfr_chunk.specs.Parts.{Parts}
 use Rattle.jfr_build.specs.declared.line.Line.{Line}
-use Rattle.jfr_build.specs.declared.line.Line.TheVariants.{Class, Field, Constant, Record}
+use Rattle.jfr_build.specs.declared.line.Line.TheVariants.{Class, Field, Constant, Record, Region}
 use Rattle.jfr_build.specs.declared.lines.NumberedLine.{NumberedLine}
 use Rattle.jfr_build.specs.LineValues.{line_value, spelled_value}
 use Rattle.jfr_build.specs.Built.{entries_of, entry_count, is_constant_of, line_entry}
@@ -110,6 +110,7 @@ module _ (p : Parts) (sound : Sound p.classes) (end : ℕ) where
   constants_stand number id (Class i name event ∷ ls) at good h = constants_stand number id ls at good.1 h
   constants_stand number id (Field name shape ∷ ls) at good h = constants_stand number id ls at good.1 h
   constants_stand number id (Record class words ∷ ls) at good h = constants_stand number id ls at good.1 h
+  constants_stand number id (Region region ∷ ls) at good h = constants_stand number id ls at good.1 h
   constants_stand number id (Constant class key words ∷ ls) at good h =
       let one : List ℕ = bytes_in k id (Constant class key words) in
       let more : List ℕ = flat_map (bytes_in k id) ls in

@@ -12,7 +12,7 @@ use Rattle.jfr_layout.specs.Classes.{Classes, Sound, is_event_class}
 use Rattle.jfr_value.specs.Values.{Value, bytes_of}
 use Rattle.jfr_chunk.specs.Parts.{Parts, EventAt, HasFields, event_by, event_of}
 use Rattle.jfr_build.specs.declared.line.Line.{Line}
-use Rattle.jfr_build.specs.declared.line.Line.TheVariants.{Class, Field, Constant, Record}
+use Rattle.jfr_build.specs.declared.line.Line.TheVariants.{Class, Field, Constant, Record, Region}
 use Rattle.jfr_build.specs.declared.lines.NumberedLine.{NumberedLine}
 use Rattle.jfr_build.specs.LineValues.{first_bad_value, is_bad_value, line_value, spelled_value}
 use Rattle.jfr_build.specs.Built.{event_record, line_event}
@@ -81,6 +81,7 @@ module _ (p : Parts) (sound : Sound p.classes) (small : length p.bytes < 2 ^ 30)
   events_stand (Class id name event ∷ ls) at good h = events_stand ls at good.1 h
   events_stand (Field name shape ∷ ls) at good h = events_stand ls at good.1 h
   events_stand (Constant class key words ∷ ls) at good h = events_stand ls at good.1 h
+  events_stand (Region region ∷ ls) at good h = events_stand ls at good.1 h
   events_stand (Record class words ∷ ls) at good h =
       let more : List ℕ = flat_map (line_event p.classes) ls in
       let one : List ℕ = line_event p.classes (Record class words) in

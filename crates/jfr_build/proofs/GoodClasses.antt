@@ -1,8 +1,8 @@
--- Classes that lines can name: their names are texts, and their ids are small.
+-- Classes that lines can name: their names are texts, and their ids are small. Regions of texts.
 use Rattle.std.specs.Prelude.{◌≡◌, ⊤, ℕ, ◌^◌, ◌<◌, true, List, [], ◌∷◌, ◌++◌, Option, Some, None, codes}
 use Rattle.std.specs.Fmt.{decimal}
 use Rattle.std.specs.List.{AllByRecursion, flat_map, list_all}
-use Rattle.std.specs.Str.{encode_utf8_all}
+use Rattle.std.specs.Str.{IsUtf8, encode_utf8_all}
 use Rattle.std.proofs.Common.{arith, refl}
 use Rattle.std.proofs.Math.Utf8.{scalars}
 use Rattle.std.proofs.lemmas.Bool.{and_parts}
@@ -11,7 +11,8 @@ use Rattle.std.proofs.lemmas.Str.{IsUtf8-from_ascii, chars-IsAscii, chars-encode
 use Rattle.jfr_layout.specs.Classes.{Class, Classes, Field}
 use Rattle.jfr_meta.specs.Attributes.{not_empty}
 use Rattle.jfr_meta.specs.Written.{IsText}
-use Rattle.jfr_build.specs.Described.{body_of, class_texts, field_texts, fixed_texts}
+use Rattle.jfr_build.specs.declared.region.Region.{Region}
+use Rattle.jfr_build.specs.Described.{body_of, class_texts, field_texts, fixed_texts, region_texts, texts_before}
 
 -- A name is a text that isn't empty.
 pub record IsName (name : List ℕ) : Type 0 where
@@ -35,6 +36,16 @@ pub record GoodClass (c : Class) : Type 0 where
   pub super : IsSuper c.super_name
   pub fields : AllByRecursion GoodField c.fields
   pub categories : c.categories ≡ []
+
+-- A region of texts, as a line has it.
+pub record GoodRegion (r : Region) : Type 0 where
+  pub locale : IsName r.locale
+  pub offset : IsUtf8 r.offset
+
+-- The region is of texts, if there is one.
+abbrev pub IsGoodRegion : Option Region → Type 0
+IsGoodRegion None = ⊤
+IsGoodRegion (Some r) = GoodRegion r
 
 -- Scalar values are the characters of a text.
 text_of : (cs : List ℕ) → scalars cs ≡ true → IsText cs
@@ -62,6 +73,11 @@ classes_texts [] g = tt
 classes_texts (c ∷ cs) g =
     all_append IsText (class_texts c) (flat_map class_texts cs) (g.0.name.text, (decimal_text c.id g.0.id, fields_texts c.fields g.0.fields)) (classes_texts cs g.1)
 
+region_good : (region : Option Region) → IsGoodRegion region → AllByRecursion IsText (region_texts region)
+region_good None g = tt
+region_good (Some r) g = (g.locale.text, ((r.offset, g.offset, refl), tt))
+
 -- The strings of the body are texts.
-pub body_texts : (k : Classes) → AllByRecursion GoodClass k → AllByRecursion IsText (body_of k).strings
-body_texts k g = all_append IsText fixed_texts (flat_map class_texts k) (texts_of fixed_texts refl) (classes_texts k g)
+pub body_texts : (k : Classes) (region : Option Region) → AllByRecursion GoodClass k → IsGoodRegion region → AllByRecursion IsText (body_of k region).strings
+body_texts k region g r =
+    all_append IsText (texts_before k) (region_texts region) (all_append IsText fixed_texts (flat_map class_texts k) (texts_of fixed_texts refl) (classes_texts k g)) (region_good region r)

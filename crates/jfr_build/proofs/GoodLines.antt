@@ -1,4 +1,4 @@
--- The classes of lines that were read have names that are texts, and small ids.
+-- The classes of lines that were read have names that are texts, and small ids; their region is of texts.
 use Rattle.std.specs.Prelude.{◌≡◌, ⊤, ℕ, ◌+◌, ◌^◌, ◌<◌, ◌==◌, Bool, true, false, List, [], ◌∷◌, ◌++◌, length, Option, Some, None, Ok, if◌then◌else◌, codes}
 use Rattle.std.specs.List.{AllByRecursion}
 use Rattle.std.specs.Str.{IsUtf8, bytes_eq, is_utf8}
@@ -9,10 +9,12 @@ use Rattle.jfr_build.specs.declared.line.Line.{Line}
 use Rattle.jfr_build.specs.declared.line.Line.TheVariants as lines
 use Rattle.jfr_build.specs.declared.lines.NumberedLine.{NumberedLine}
 use Rattle.jfr_build.specs.ClassLines.{class_before, classes_in, field_before, fields_in, super_of}
-use Rattle.jfr_build.specs.Lines.{at_end, class_line, constant_line, field_line, is_allowed, line_after, line_by, line_in, line_of, marks_of, name_of, read_from, read_lines, record_line, with_line, with_word}
+use Rattle.jfr_build.specs.Lines.{at_end, class_line, constant_line, field_line, is_allowed, line_after, line_by, line_in, line_of, marks_of, name_of, read_from, read_lines, record_line, region_line, with_line, with_word}
+use Rattle.jfr_build.specs.LeafWords.{number_of}
 use Rattle.jfr_build.specs.Pieces.{lines_of, words_of}
-use Rattle.jfr_build.proofs.GoodClasses.{GoodClass, GoodField, IsName, IsSuper}
-use Rattle.jfr_build.proofs.GoodWords.{ended, named, said, small, words_utf8}
+use Rattle.jfr_build.specs.Regions.{region_before, region_in}
+use Rattle.jfr_build.proofs.GoodClasses.{GoodClass, GoodField, GoodRegion, IsGoodRegion, IsName, IsSuper}
+use Rattle.jfr_build.proofs.GoodWords.{as_spelled, ended, named, said, small, words_utf8}
 
 -- Names and ids of a line.
 abbrev pub GoodLine : Line → Type 0
@@ -20,6 +22,7 @@ GoodLine (lines.Class id name event) = (id < 2 ^ 63) × IsName name
 GoodLine (lines.Field name shape) = IsName name × (shape.class < 2 ^ 63)
 GoodLine (lines.Constant class key words) = ⊤
 GoodLine (lines.Record class words) = ⊤
+GoodLine (lines.Region r) = GoodRegion r
 
 module _ (ws : List (List ℕ)) (l : Line) (u : AllByRecursion IsUtf8 ws) where
   same_line : (m : Line) → m ≡ l → GoodLine m → GoodLine l
@@ -57,16 +60,26 @@ module _ (ws : List (List ℕ)) (l : Line) (u : AllByRecursion IsUtf8 ws) where
       let q : lines.Record r.value r.rest ≡ l = cc in
       same_line _ q tt
 
+  region_good : region_line ws ≡ Some l → GoodLine l
+  region_good e =
+      let r = said name_of (λ locale us. with_word number_of (λ offset vs. at_end (lines.Region (record { locale = locale; offset = offset })) vs) us) ws l e in
+      let ur = subst (AllByRecursion IsUtf8) r.parts u in
+      let s = said number_of (λ offset vs. at_end (lines.Region (record { locale = r.value; offset = offset })) vs) r.rest l r.after in
+      let us = subst (AllByRecursion IsUtf8) s.parts ur.1 in
+      same_line (lines.Region (record { locale = r.value; offset = s.value })) (ended (lines.Region (record { locale = r.value; offset = s.value })) l s.rest s.after)
+      (record { locale = named r.word r.value ur.0 r.first; offset = subst IsUtf8 (as_spelled s.word s.value s.first) us.0 })
+
   line_by_good : (word : List ℕ) → line_by word ws ≡ Some l → GoodLine l
-  line_by_good word e = by_tests (bytes_eq word (codes "class")) (bytes_eq word (codes "event")) (bytes_eq word (codes "field")) (bytes_eq word (codes "constant")) (bytes_eq word (codes "record")) e
+  line_by_good word e = by_tests (bytes_eq word (codes "class")) (bytes_eq word (codes "event")) (bytes_eq word (codes "field")) (bytes_eq word (codes "constant")) (bytes_eq word (codes "record")) (bytes_eq word (codes "region")) e
     where
-      by_tests : (a b c d f : Bool) → (if a then class_line false ws else if b then class_line true ws else if c then field_line ws else if d then constant_line ws else if f then record_line ws else None) ≡ Some l → GoodLine l
-      by_tests true b c d f e = class_good false e
-      by_tests false true c d f e = class_good true e
-      by_tests false false true d f e = field_good e
-      by_tests false false false true f e = constant_good e
-      by_tests false false false false true e = record_good e
-      by_tests false false false false false e = cc
+      by_tests : (a b c d f g : Bool) → (if a then class_line false ws else if b then class_line true ws else if c then field_line ws else if d then constant_line ws else if f then record_line ws else if g then region_line ws else None) ≡ Some l → GoodLine l
+      by_tests true b c d f g e = class_good false e
+      by_tests false true c d f g e = class_good true e
+      by_tests false false true d f g e = field_good e
+      by_tests false false false true f g e = constant_good e
+      by_tests false false false false true g e = record_good e
+      by_tests false false false false false true e = region_good e
+      by_tests false false false false false false e = cc
 
 words_good : (ws : List (List ℕ)) (l : Line) → AllByRecursion IsUtf8 ws → line_in ws ≡ Some l → GoodLine l
 words_good [] l u e = cc
@@ -119,6 +132,7 @@ fields_good (l ∷ ls) g = by_line l.line g.0 (fields_good ls g.1)
     by_line (lines.Field name shape) h i = (record { name = h.0; class = h.1 }, i)
     by_line (lines.Constant class key words) h i = tt
     by_line (lines.Record class words) h i = tt
+    by_line (lines.Region r) h i = i
 
 super_good : (event : Bool) → IsSuper (super_of event)
 super_good true = refl
@@ -133,6 +147,23 @@ classes_good (l ∷ ls) g = by_line l.line g.0 (fields_good ls g.1) (classes_goo
     by_line (lines.Field name shape) h i j = j
     by_line (lines.Constant class key words) h i j = j
     by_line (lines.Record class words) h i j = j
+    by_line (lines.Region r) h i j = j
+
+-- Their region.
+region_found : (ls : List NumberedLine) → GoodLines ls → IsGoodRegion (region_in ls)
+region_found [] g = tt
+region_found (l ∷ ls) g = by_line l.line g.0 (region_found ls g.1)
+  where
+    by_line : (l : Line) → GoodLine l → IsGoodRegion (region_in ls) → IsGoodRegion (region_before l (region_in ls))
+    by_line (lines.Class id name event) h i = i
+    by_line (lines.Field name shape) h i = i
+    by_line (lines.Constant class key words) h i = i
+    by_line (lines.Record class words) h i = i
+    by_line (lines.Region r) h i = h
+
+pub read_region : (text : List ℕ) (ls : List NumberedLine) → read_lines text ≡ Ok ls → IsGoodRegion (region_in ls)
+unfolding read_lines
+read_region text ls e = region_found ls (read_good 1 [] (lines_of text) ls tt e)
 
 pub read_classes : (text : List ℕ) (ls : List NumberedLine) → read_lines text ≡ Ok ls → AllByRecursion GoodClass (classes_in ls)
 unfolding read_lines

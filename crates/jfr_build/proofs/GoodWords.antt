@@ -1,5 +1,5 @@
 -- The words of a line in UTF-8, and what they say.
-use Rattle.std.specs.Prelude.{◌≡◌, ℕ, ◌+◌, ◌^◌, ◌<◌, ◌==◌, nat_lt, Bool, true, false, List, [], ◌∷◌, ◌++◌, length, drop, Option, Some, None, option_and_then, if◌then◌else◌}
+use Rattle.std.specs.Prelude.{◌≡◌, ℕ, ◌+◌, ◌^◌, ◌<◌, ◌==◌, nat_lt, Bool, true, false, List, [], ◌∷◌, ◌++◌, length, drop, Option, Some, None, option_and_then, option_map, if◌then◌else◌}
 use Rattle.std.specs.List.{AllByRecursion, onto_first}
 use Rattle.std.specs.Str.{IsUtf8, chars}
 use Rattle.std.proofs.Common.{ap, append-nil, arith, get_or, length-append, refl, subst, sym, ◌∙◌}
@@ -12,6 +12,7 @@ use Rattle.std.proofs.lemmas.List.Splits.{slice_split-cons_no, slice_split-cons_
 use Rattle.std.proofs.lemmas.Str.{IsCharBoundary-after_ascii, IsCharBoundary-before_ascii, IsUtf8-drop, IsUtf8-take, encodes-chars}
 use Rattle.jfr_base.specs.Decimal.{below, decimal_number}
 use Rattle.jfr_meta.specs.Attributes.{id_of, not_empty}
+use Rattle.jfr_build.specs.LeafWords.{digits_of, number_of}
 use Rattle.jfr_build.specs.Lines.{at_end, name_of, with_word}
 use Rattle.jfr_build.specs.Pieces.{pieces, words_of}
 use Rattle.jfr_build.proofs.GoodClasses.{IsName}
@@ -101,3 +102,11 @@ said {A = A} {B = B} says next (w ∷ ws) b e = by_value (says w) refl e
 pub ended : {A : Type 0} (a b : A) (ws : List (List ℕ)) → at_end a ws ≡ Some b → a ≡ b
 ended a b [] e = cc
 ended a b (w ∷ ws) e = cc
+
+-- A number is spelled as its word.
+pub as_spelled : (word number : List ℕ) → number_of word ≡ Some number → word ≡ number
+as_spelled word number e = by_value (decimal_number (digits_of word)) e
+  where
+    by_value : (o : Option ℕ) → option_map (λ (n : ℕ). word) o ≡ Some number → word ≡ number
+    by_value None e = cc
+    by_value (Some n) e = cc

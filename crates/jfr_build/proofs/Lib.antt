@@ -17,6 +17,7 @@ mod PieceLaws
 mod PoolLaws
 mod PoolsRead
 mod QuotedLaws
+mod RegionLaws
 mod Rows
 mod SoundLaws
 mod Streaming

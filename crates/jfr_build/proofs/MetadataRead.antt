@@ -1,5 +1,5 @@
 -- The metadata record that is built is read, and describes the classes of the lines.
-use Rattle.std.specs.Prelude.{◌≡◌, ℕ, ◌+◌, ◌^◌, ◌<◌, ◌&&◌, nat_lt, nat_le, Bool, true, false, List, [], ◌∷◌, ◌++◌, length, filter, Some, None, Ok, if◌then◌else◌}
+use Rattle.std.specs.Prelude.{◌≡◌, ℕ, ◌+◌, ◌^◌, ◌<◌, ◌&&◌, nat_lt, nat_le, Bool, true, false, List, [], ◌∷◌, ◌++◌, length, filter, Option, Some, None, Ok, if◌then◌else◌}
 use Rattle.std.specs.List.{AllByRecursion}
 use Rattle.std.proofs.Common.{ap, arith, refl, subst, sym, ◌∙◌}
 use Rattle.std.proofs.lemmas.Bool.Decides.{nat_tests}
@@ -22,12 +22,14 @@ use Rattle.jfr_laws.proofs.Five.{StandsAnew, read_back}
 use Rattle.jfr_laws.proofs.Metadata.{metadata_copied}
 use Rattle.jfr_laws.proofs.OutputRecords.{own_frame}
 use Rattle.jfr_build.specs.declared.lines.NumberedLine.{NumberedLine}
+use Rattle.jfr_build.specs.declared.region.Region.{Region}
 use Rattle.jfr_build.specs.ClassLines.{classes_in}
 use Rattle.jfr_build.specs.Described.{body_of, metadata_record}
 use Rattle.jfr_build.specs.Lines.{read_lines}
+use Rattle.jfr_build.specs.Regions.{region_in}
 use Rattle.jfr_build.proofs.DescribedLaws.{root_low}
-use Rattle.jfr_build.proofs.GoodClasses.{GoodClass, body_texts}
-use Rattle.jfr_build.proofs.GoodLines.{read_classes}
+use Rattle.jfr_build.proofs.GoodClasses.{GoodClass, IsGoodRegion, body_texts}
+use Rattle.jfr_build.proofs.GoodLines.{read_classes, read_region}
 use Rattle.jfr_build.proofs.TreeRead.{body_described}
 
 -- The metadata record of these classes lies after the header, and describes them.
@@ -48,18 +50,18 @@ all_stay p (c ∷ cs) a = ap (λ t. if t then c ∷ filter p cs else filter p cs
 same_classes : (k : Classes) → staying (has_id k) k ≡ k
 same_classes k = all_stay (λ c. has_id k c.id) k (all_members (λ c. has_id k c.id ≡ true) k (λ c j. (let r = in_get k c j in at_any k r.0 c r.1)))
 
-module _ (k : Classes) (good : AllByRecursion GoodClass k) (sound : class_faults k ≡ []) where
+module _ (k : Classes) (region : Option Region) (good : AllByRecursion GoodClass k) (texts : IsGoodRegion region) (sound : class_faults k ≡ []) where
   abbrev b : Body
-  b = slim_body (body_of k) (has_id k)
+  b = slim_body (body_of k region) (has_id k)
 
-  slim : IsSlim (body_of k) k (has_id k)
-  slim = is_slim (body_of k) k (has_id k) (body_described k good sound) (λ ts e t id other i h s n there. there)
+  slim : IsSlim (body_of k region) k (has_id k)
+  slim = is_slim (body_of k region) k (has_id k) (body_described k region good sound) (λ ts e t id other i h s n there. there)
 
   slim_described : described b ≡ Ok k
   slim_described = slim.classes ∙ ap (λ z. Ok z) (same_classes k)
 
   -- The record by itself.
-  module _ (m : List ℕ) (made : metadata_record k ≡ Some m) where
+  module _ (m : List ℕ) (made : metadata_record k region ≡ Some m) where
     record IsWritten : Type 0 where
       bytes : m ≡ bytes_of_body b
       small : table_len b < 536870912
@@ -75,7 +77,7 @@ module _ (k : Classes) (good : AllByRecursion GoodClass k) (sound : class_faults
 
     holds : StandsAnew m b
     unfolding slim_body
-    holds = read_back 0 0 1 b.strings b.root m slim.indices (omega (arith, slim.levels, root_low k)) written.small (slim.texts (body_texts k good)) written.bytes
+    holds = read_back 0 0 1 b.strings b.root m slim.indices (omega (arith, slim.levels, root_low k region)) written.small (slim.texts (body_texts k region good texts)) written.bytes
 
     own_read : IsMetadata m (own_frame m) (record { start = b.start; duration = b.duration; id = b.id; strings = b.strings; root = holds.tree }) k
     own_read = record {
@@ -98,9 +100,9 @@ module _ (k : Classes) (good : AllByRecursion GoodClass k) (sound : class_faults
           read = r.1;
         }
 
-pub metadata_stands : (text : List ℕ) (ls : List NumberedLine) → read_lines text ≡ Ok ls → class_faults (classes_in ls) ≡ [] → (m : List ℕ) → metadata_record (classes_in ls) ≡ Some m
+pub metadata_stands : (text : List ℕ) (ls : List NumberedLine) → read_lines text ≡ Ok ls → class_faults (classes_in ls) ≡ [] → (m : List ℕ) → metadata_record (classes_in ls) (region_in ls) ≡ Some m
     → (h rest c : List ℕ) → c ≡ h ++ (m ++ rest) → length h ≡ 68 → length c < 2 ^ 30 → MetadataStands c m (classes_in ls)
 metadata_stands text ls e s m made h rest c is long small =
     let behind : Holds c (length c) (length h) (m ++ rest) = subst (λ z. Holds z (length z) (length h) (m ++ rest)) (sym is) (holds_after h (m ++ rest)) in
     let held : Holds c (length c) 68 m = (holds_parts c (length c) 68 m rest (holds_at c (length c) (length h) 68 (m ++ rest) long behind)).0 in
-    in_chunk (classes_in ls) (read_classes text ls e) s m made c held
+    in_chunk (classes_in ls) (region_in ls) (read_classes text ls e) (read_region text ls e) s m made c held

@@ -15,7 +15,7 @@ use Rattle.jfr_value.specs.Values.{Value}
 use Rattle.jfr_pool.specs.Entries.{PoolAt, constant_format, entries_from, entry_of, pool_check, pool_format}
 use Rattle.jfr_chunk.specs.Parts.{Parts}
 use Rattle.jfr_build.specs.declared.line.Line.{Line}
-use Rattle.jfr_build.specs.declared.line.Line.TheVariants.{Class, Field, Constant, Record}
+use Rattle.jfr_build.specs.declared.line.Line.TheVariants.{Class, Field, Constant, Record, Region}
 use Rattle.jfr_build.specs.declared.lines.NumberedLine.{NumberedLine}
 use Rattle.jfr_build.specs.LineValues.{spelled_value}
 use Rattle.jfr_build.specs.Built.{constant_class, entries_of, entry_count, pool_of, with_class, with_classes}
@@ -51,6 +51,7 @@ more_known : (k : Classes) (ids : List ℕ) (line : Line) → IsGood k line → 
 more_known k ids (Class id name event) good h = h
 more_known k ids (Field name shape) good h = h
 more_known k ids (Record class words) good h = h
+more_known k ids (Region region) good h = h
 more_known k ids (Constant class key words) good h = by_test (list_any (λ c. c == class) ids)
   where
     by_test : (t : Bool) → AllByRecursion (IsKnown k) (if t then ids else ids ++ class ∷ [])

@@ -12,6 +12,7 @@ use Rattle.jfr_build.specs.declared.line.Line.TheVariants as lines
 use Rattle.jfr_build.specs.declared.lines.NumberedLine.{NumberedLine}
 use Rattle.jfr_build.specs.Lines.{line_of, read_lines}
 use Rattle.jfr_build.specs.LeafWords.{base_of, unquoted}
+use Rattle.jfr_build.specs.Regions.{is_wide}
 use Rattle.jfr_build.specs.Taking.{class_taken, value_taken}
 use Rattle.jfr_build.specs.LineValues.{spelled_value}
 use Rattle.jfr_build.specs.Built.{pools_of}
@@ -35,6 +36,14 @@ record_with_an_empty_word : line_of (codes "record 8 ") ≡ Some (lines.Record 8
 unfolding line_of id_of decimal_number chars is_utf8 encode
 record_with_an_empty_word = refl
 
+region_is_read : line_of (codes "region en -007") ≡ Some (lines.Region (record { locale = codes "en"; offset = codes "-007" }))
+unfolding line_of id_of decimal_number chars is_utf8 encode
+region_is_read = refl
+
+offset_with_a_plus : line_of (codes "region en +1") ≡ None
+unfolding line_of id_of decimal_number chars is_utf8 encode
+offset_with_a_plus = refl
+
 two_spaces : line_of (codes "class 5  long") ≡ None
 unfolding line_of id_of decimal_number chars is_utf8 encode
 two_spaces = refl
@@ -51,7 +60,19 @@ class_after_a_value : read_lines (codes "constant 5 1" ++ 10 ∷ codes "class 5 
 unfolding read_lines line_of id_of decimal_number chars is_utf8 encode
 class_after_a_value = refl
 
+second_region : read_lines (codes "region a 0" ++ 10 ∷ codes "region a 0") ≡ Err 2
+unfolding read_lines line_of id_of decimal_number chars is_utf8 encode
+second_region = refl
+
 -- Numbers.
+wide_offset : is_wide (codes "2147483648") ≡ true
+unfolding decimal_number
+wide_offset = refl
+
+least_offset : is_wide (codes "-2147483648") ≡ false
+unfolding decimal_number
+least_offset = refl
+
 minus_zero : base_of kinds.Long (codes "-0") ≡ Some (0 ∷ [])
 unfolding decimal_number spell
 minus_zero = refl

@@ -1,5 +1,5 @@
 -- What building a file leaves.
-use Rattle.std.specs.Prelude.{◌≡◌, ◌≢◌, ℕ, Bool, IsTrue, true, List, [], ◌++◌, Vec, Option, None, Some, option_map, IsSome, IfSome, Result, Ok, Err, unwrap_or}
+use Rattle.std.specs.Prelude.{◌≡◌, ◌≢◌, ℕ, Bool, true, List, [], ◌++◌, Vec, Option, None, Some, option_map, IsSome, IfSome, Result, Ok, Err, unwrap_or}
 use Rattle.std.specs.FinMap as fin
 use Rattle.std.specs.declared.alloc.Global.{Global}
 use Rattle.std.proofs.Common.{ap, refl, sym, ◌∙◌, subst}
@@ -23,7 +23,7 @@ use Rattle.jfr_build.specs.declared.ending.BuildEnding.TheVariants.{Done, Refuse
 use Rattle.jfr_build.specs.Accepted.{IsBuiltOf}
 use Rattle.jfr_build.specs.Builds.{Build, build_of}
 use Rattle.jfr_build.specs.Endings.{after_write}
-use Rattle.jfr_build.specs.Streams.{Builds, IfNotRefused, IsDecided, ByChunk, ByRefusal, ForMemory, TextBuilt, TextCounts, building, builds, plan_by}
+use Rattle.jfr_build.specs.Streams.{Builds, IfNotRefused, IsDecided, IsUnread, ByChunk, ByRefusal, ForMemory, TextBuilt, TextCounts, building, builds, plan_by}
 
 -- The files and the open output are unchanged, so nothing was done.
 same_stand : (w v : World) → IsKept w v → snapshot v None ≡ snapshot w None
@@ -35,11 +35,11 @@ not_both (Some x) e h = cc
 
 -- A steady place that has the text gives no read fault.
 never_halts : (text out : List ℕ) → NeverHalts (builds text out)
-never_halts text out x y can h = by_told y.place.contents (subst (λ (t : Option World). IfKnown t y.place.contents (λ w v. (snapshot v y.sink.written ≡ snapshot w x.sink.written) × (IsTrue x.place.steady → file w text ≡ None))) can.contents h)
+never_halts text out x y can h = by_told y.place.contents (subst (λ (t : Option World). IfKnown t y.place.contents (λ w v. (snapshot v y.sink.written ≡ snapshot w x.sink.written) × IsUnread x.place.steady text w v)) can.contents h)
   where
-    by_told : (t : Option World) → IfKnown (Some can.world) t (λ w v. (snapshot v y.sink.written ≡ snapshot w x.sink.written) × (IsTrue x.place.steady → file w text ≡ None)) → ⊥
+    by_told : (t : Option World) → IfKnown (Some can.world) t (λ w v. (snapshot v y.sink.written ≡ snapshot w x.sink.written) × IsUnread x.place.steady text w v) → ⊥
     by_told None k = absurd k
-    by_told (Some v) k = not_both (file can.world text) (k.1 can.steady) can.there
+    by_told (Some v) k = not_both (file can.world text) (k.1.0 can.steady) can.there
 
 -- What is known of the world before follows from what is known of both.
 if_before : (t u : Option World) (P : World → World → Type 0) (F : World → Type 0) → IfKnown t u P → ((w v : World) → P w v → F w) → IfSome t F
@@ -75,8 +75,8 @@ module _ (text out : List ℕ) (a : State) where
     abbrev OfText : World → World → Type 0
     OfText w v = (option_map build_of (file w text) ≡ Some (Ok chunk.items)) × IsKept w v
 
-    abbrev Halts : World → Snapshot → Snapshot → Type 0
-    Halts w s t = (t ≡ s) × (IsTrue a.steady → file w text ≡ None)
+    abbrev Halts : World → World → Snapshot → Snapshot → Type 0
+    Halts w u s t = (t ≡ s) × IsUnread a.steady text w u
 
     abbrev Stood : Result (Unit {0}) Ending → World → World → Type 0
     Stood r w u = PartOutcome a.steady (Goes (writes out chunk.items)) r (snapshot w None) (snapshot u None)
@@ -98,13 +98,13 @@ module _ (text out : List ℕ) (a : State) where
         (subst (λ (st : Bool). IfKnown b.contents c.contents (PartWorld st (Goes (writes out chunk.items)) r None None)) counts.3 (wrote no_sink))
         (λ w v u p q. f w u p.0 (subst (λ (s : Snapshot). PartOutcome a.steady (Goes (writes out chunk.items)) r s (snapshot u None)) (same_stand w v p.1) q.1))
 
-    outcome : (w u : World) → Stood r w u → Outcome a.steady (plan_by out (Some (Ok chunk.items))) (Halts w) (command_end (written_ending r)) (snapshot w None) (snapshot u None)
-    outcome w u = by_result (λ r. Stood r w u → Outcome a.steady (plan_by out (Some (Ok chunk.items))) (Halts w) (command_end (written_ending r)) (snapshot w None) (snapshot u None)) (λ x h. record { end = refl; holds = h.1 }) (λ h. h) (λ h. h)
+    outcome : (w u : World) → Stood r w u → Outcome a.steady (plan_by out (Some (Ok chunk.items))) (Halts w u) (command_end (written_ending r)) (snapshot w None) (snapshot u None)
+    outcome w u = by_result (λ r. Stood r w u → Outcome a.steady (plan_by out (Some (Ok chunk.items))) (Halts w u) (command_end (written_ending r)) (snapshot w None) (snapshot u None)) (λ x h. record { end = refl; holds = h.1 }) (λ h. h) (λ h. h)
 
     leaves : IsAfterTask (builds text out) (command_end (written_ending r)) (without_sink a) (without_sink c)
     leaves =
-        chained (λ w u. Outcome a.steady (building out (file w text)) (Halts w) (command_end (written_ending r)) (snapshot w None) (snapshot u None))
-        (λ w u p q. subst (λ (o : Option Build). Outcome a.steady (plan_by out o) (Halts w) (command_end (written_ending r)) (snapshot w None) (snapshot u None)) (sym p) (outcome w u q))
+        chained (λ w u. Outcome a.steady (building out (file w text)) (Halts w u) (command_end (written_ending r)) (snapshot w None) (snapshot u None))
+        (λ w u p q. subst (λ (o : Option Build). Outcome a.steady (plan_by out o) (Halts w u) (command_end (written_ending r)) (snapshot w None) (snapshot u None)) (sym p) (outcome w u q))
 
     tallies : Tallied File (command_end (written_ending r)) (without_sink a) (without_sink c)
     tallies = by_result (λ r. Counts r → Tallied File (command_end (written_ending r)) (without_sink a) (without_sink c)) (λ x k. (tt, k)) (λ k. k) (λ k. k) all

@@ -22,5 +22,5 @@ pub text_failed : (steady : Bool) (name : List ℕ) (fault : FileFault) (t u : O
 text_failed steady name fault None u h k = tt
 text_failed steady name fault (Some w) None h k = absurd h
 text_failed steady name TooLong (Some w) (Some v) h k = (too_long (file w name) h.0, (ap (λ z. z.files) h.1, ap (λ z. z.output) h.1))
-text_failed steady name Failed (Some w) (Some v) h k = ((λ s. k s refl), h.1)
+text_failed steady name Failed (Some w) (Some v) h k = (((λ s. k s refl), h.0), h.1)
 text_failed steady name Memory (Some w) (Some v) h k = h

@@ -1,4 +1,4 @@
--- The body that is built for classes describes them.
+-- The body that is built for classes and a region describes the classes.
 use Rattle.std.specs.Prelude.{◌≡◌, ⊤, ℕ, ◌+◌, Bool, true, false, List, [], ◌∷◌, ◌++◌, length, Option, Some, None, Ok, find, is_some, option_and_then, option_map, codes}
 use Rattle.std.specs.List.{AllByRecursion, cons_option, filter_map, flat_map}
 use Rattle.std.specs.Option.{option_map_or}
@@ -12,7 +12,8 @@ use Rattle.jfr_meta.specs.Trees.{Tree, children_of, list_of-trees_of}
 use Rattle.jfr_meta.specs.Attributes.{attribute, first_value, flag_of, named, not_empty, text_at, values_of}
 use Rattle.jfr_meta.specs.Described.{annotations_of, categories_of, class_elements, class_flaws, class_head, class_of, class_with, classes_of, described_classes, described, field_elements, field_flaws, field_of, first_or, flaw_unless, heads, id_attribute, is_category, shape_of, tree_flaws}
 use Rattle.jfr_meta.proofs.Told.{no_flaws}
-use Rattle.jfr_build.specs.Described.{body_of, class_texts, class_tree, class_trees, field_texts, field_tree, field_trees, fixed_texts, mark_pairs, super_pairs}
+use Rattle.jfr_build.specs.declared.region.Region.{Region}
+use Rattle.jfr_build.specs.Described.{body_of, class_texts, class_tree, class_trees, field_texts, field_tree, field_trees, fixed_texts, mark_pairs, region_texts, super_pairs}
 use Rattle.jfr_build.proofs.DecimalRead.{decimal_id}
 use Rattle.jfr_build.proofs.GoodClasses.{GoodClass, GoodField, IsSuper}
 
@@ -161,14 +162,14 @@ module _ (more : List (List ℕ)) where
       ap (λ z. z ++ flat_map (class_flaws texts) (class_trees (n + length (class_texts c)) cs)) (class_flawless n c g.0 p.0) ∙ classes_flawless (n + length (class_texts c)) cs g.1 p.1
 
 -- The whole tree.
-pub body_described : (k : Classes) → AllByRecursion GoodClass k → class_faults k ≡ [] → described (body_of k) ≡ Ok k
+pub body_described : (k : Classes) (region : Option Region) → AllByRecursion GoodClass k → class_faults k ≡ [] → described (body_of k region) ≡ Ok k
 unfolding described classes_of
-body_described k g s =
-    let more : List (List ℕ) = flat_map class_texts k in
+body_described k region g s =
+    let more : List (List ℕ) = flat_map class_texts k ++ region_texts region in
     let strings : List (List ℕ) = fixed_texts ++ more in
-    let ts : List Tree = class_trees 12 k in
-    let at : At strings 12 more = at_behind strings fixed_texts more refl in
-    let there : class_elements strings (body_of k).root ≡ Some ts = ap (λ z. Some (named strings (codes "class") z)) (list_of-trees_of ts) ∙ ap (λ z. Some z) (classes_named more 12 k) in
-    let same : classes_of strings ts ≡ k = classes_read more (heads strings ts) 12 k g at in
-    let none : tree_flaws strings ts ≡ [] = no_flaws strings ts k (classes_flawless more 12 k g at) (sym same) (record { none = s }) in
+    let ts : List Tree = class_trees 15 k in
+    let at : At strings 15 (flat_map class_texts k) = (at_parts strings 15 (flat_map class_texts k) (region_texts region) (at_behind strings fixed_texts more refl)).0 in
+    let there : class_elements strings (body_of k region).root ≡ Some ts = ap (λ z. Some (named strings (codes "class") z)) (list_of-trees_of ts) ∙ ap (λ z. Some z) (classes_named more 15 k) in
+    let same : classes_of strings ts ≡ k = classes_read more (heads strings ts) 15 k g at in
+    let none : tree_flaws strings ts ≡ [] = no_flaws strings ts k (classes_flawless more 15 k g at) (sym same) (record { none = s }) in
     ap (described_classes strings 0) there ∙ (ap (λ fs. first_or fs (classes_of strings ts)) none ∙ ap (λ z. Ok z) same)

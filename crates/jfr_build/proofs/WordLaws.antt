@@ -6,7 +6,7 @@ use Rattle.std.proofs.lemmas.Bool.Decides.{nat_tests}
 use Rattle.std.proofs.lemmas.List.{append_assoc}
 use Rattle.jfr_base.specs.Decimal.{below, decimal_number}
 use Rattle.jfr_build.specs.declared.quoted.Quoted.{Quoted}
-use Rattle.jfr_build.specs.LeafWords.{go_on, hex_byte, hex_bytes, hex_of, byte_before, id_after, quoted_from, quoted_step, signed_of}
+use Rattle.jfr_build.specs.LeafWords.{digits_of, go_on, hex_byte, hex_bytes, hex_of, byte_before, id_after, quoted_from, quoted_step, signed_of}
 
 test_no : (b mark : ℕ) → (b ≡ mark → ⊥) → (b == mark) ≡ false
 test_no b mark h = let n : b ≢ mark = h in grind (arith, nat_tests)
@@ -24,6 +24,14 @@ nothing_spelled = refl
 pub no_minus : (half : ℕ) (w : List ℕ) → ((rest : List ℕ) → w ≡ 45 ∷ rest → ⊥) → signed_of half w ≡ option_and_then (below half) (decimal_number w)
 no_minus half [] h = sym (ap (option_and_then (below half)) nothing_spelled)
 no_minus half (c ∷ cs) h = rw (test_no c 45 (λ e. h cs (ap (λ z. z ∷ cs) e))) refl
+
+-- The digits of a number, with or without a minus in front.
+pub digits_after : (w rest : List ℕ) → w ≡ 45 ∷ rest → rest ≡ digits_of w
+digits_after w rest e = sym (ap digits_of e)
+
+pub digits_alone : (w : List ℕ) → ((rest : List ℕ) → w ≡ 45 ∷ rest → ⊥) → w ≡ digits_of w
+digits_alone [] h = refl
+digits_alone (c ∷ cs) h = rw (test_no c 45 (λ e. h cs (ap (λ z. z ∷ cs) e))) refl
 
 pub below_yes : (half n : ℕ) → n < half → below half n ≡ Some n
 below_yes half n l = let t : nat_lt n half ≡ true = grind arith in rw t refl

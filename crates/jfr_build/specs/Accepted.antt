@@ -8,7 +8,7 @@ use Rattle.jfr_pool.specs.declared.entry.EntryAt.{EntryAt}
 use Rattle.jfr_pool.specs.Entries.{entry_node, inline}
 use Rattle.jfr_chunk.specs.Parts.{Parts, AreParts, EventAt, events_of}
 use Rattle.jfr_build.specs.declared.line.Line.{Line}
-use Rattle.jfr_build.specs.declared.line.Line.TheVariants.{Class, Field, Constant, Record}
+use Rattle.jfr_build.specs.declared.line.Line.TheVariants.{Class, Field, Constant, Record, Region}
 use Rattle.jfr_build.specs.declared.lines.NumberedLine.{NumberedLine}
 use Rattle.jfr_build.specs.Lines.{read_lines}
 use Rattle.jfr_build.specs.ClassLines.{classes_in}
@@ -26,6 +26,7 @@ is_event_line (Class id name event) = false
 is_event_line (Field name shape) = false
 is_event_line (Constant class key words) = false
 is_event_line (Record class words) = true
+is_event_line (Region region) = false
 
 -- The event of a line: its class, and its fields.
 abbrev pub IsEventOf : Parts → Line → EventAt → Type 0
@@ -33,6 +34,7 @@ IsEventOf p (Class id name event) e = ⊥
 IsEventOf p (Field name shape) e = ⊥
 IsEventOf p (Constant class key words) e = ⊥
 IsEventOf p (Record class words) e = (e.record_of.type_id ≡ class) × HasWords p class words e.node
+IsEventOf p (Region region) e = ⊥
 
 -- The entry of a line that is a constant: its class, its key, and its value.
 abbrev pub IsEntryOf : Parts → Line → EntryAt → Type 0
@@ -40,6 +42,7 @@ IsEntryOf p (Class id name event) e = ⊥
 IsEntryOf p (Field name shape) e = ⊥
 IsEntryOf p (Constant class key words) e = (e.class ≡ class) × (e.key ≡ key) × HasWords p class words (entry_node e)
 IsEntryOf p (Record class words) e = ⊥
+IsEntryOf p (Region region) e = ⊥
 
 -- The lines without their numbers.
 abbrev pub plain_lines : List NumberedLine → List Line

@@ -10,6 +10,7 @@ use Rattle.jfr_build.specs.declared.reason.BuildReason.TheVariants.{TooLarge, Li
 use Rattle.jfr_build.specs.Lines.{read_lines}
 use Rattle.jfr_build.specs.ClassLines.{classes_in, line_at}
 use Rattle.jfr_build.specs.LineValues.{first_bad_value}
+use Rattle.jfr_build.specs.Regions.{region_in}
 use Rattle.jfr_build.specs.Described.{metadata_record}
 use Rattle.jfr_build.specs.Built.{checkpoint_of, chunk_with, events_of}
 
@@ -20,7 +21,7 @@ if_small chunk = if nat_lt (length chunk) (2 ^ 30) then Some chunk else None
 -- The chunk of these classes and lines; none if the metadata's strings and tree take 2 ^ 29 bytes or more, or
 -- the chunk 2 ^ 30 or more.
 unfoldable pub chunk_of : Classes → List NumberedLine → Option (List ℕ)
-chunk_of k lines = option_and_then (λ metadata. if_small (chunk_with metadata (events_of k lines) (checkpoint_of k lines))) (metadata_record k)
+chunk_of k lines = option_and_then (λ metadata. if_small (chunk_with metadata (events_of k lines) (checkpoint_of k lines))) (metadata_record k (region_in lines))
 
 -- The number of lines. The last one may lack its newline.
 abbrev pub line_count : List ℕ → ℕ
@@ -44,7 +45,7 @@ abbrev pub build_chunk : ℕ → Option (List ℕ) → Build
 build_chunk count None = refused count TooLarge
 build_chunk count (Some chunk) = Ok chunk
 
--- Checks the values of constants and events; then, by `build_chunk`, the sizes.
+-- Checks the values of constants and events and the region's offset; then, by `build_chunk`, the sizes.
 abbrev pub build_values : ℕ → Option NumberedLine → Option (List ℕ) → Build
 build_values count (Some line) chunk = refused line.number ValueBad
 build_values count None chunk = build_chunk count chunk

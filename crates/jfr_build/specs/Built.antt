@@ -9,7 +9,7 @@ use Rattle.jfr_frame.specs.Written.{record_in}
 use Rattle.jfr_layout.specs.Classes.{Classes}
 use Rattle.jfr_value.specs.Values.{bytes_of}
 use Rattle.jfr_build.specs.declared.line.Line.{Line}
-use Rattle.jfr_build.specs.declared.line.Line.TheVariants.{Class, Field, Constant, Record}
+use Rattle.jfr_build.specs.declared.line.Line.TheVariants.{Class, Field, Constant, Record, Region}
 use Rattle.jfr_build.specs.declared.lines.NumberedLine.{NumberedLine}
 use Rattle.jfr_build.specs.LineValues.{line_value}
 
@@ -28,6 +28,7 @@ line_event k (Class id name event) = []
 line_event k (Field name shape) = []
 line_event k (Constant class key words) = []
 line_event k (Record class words) = option_map_or (λ v. event_record class (bytes_of v)) (line_value k (Record class words)) []
+line_event k (Region region) = []
 
 -- The records of all events, in line order.
 abbrev pub events_of : Classes → List NumberedLine → List ℕ
@@ -39,6 +40,7 @@ constant_class (Class id name event) = None
 constant_class (Field name shape) = None
 constant_class (Constant class key words) = Some class
 constant_class (Record class words) = None
+constant_class (Region region) = None
 
 -- The line is a constant of this class.
 abbrev pub is_constant_of : ℕ → Line → Bool
@@ -50,6 +52,7 @@ line_entry k (Class id name event) = []
 line_entry k (Field name shape) = []
 line_entry k (Constant class key words) = option_map_or (λ v. spell key ++ bytes_of v) (line_value k (Constant class key words)) []
 line_entry k (Record class words) = []
+line_entry k (Region region) = []
 
 -- The classes with one more, unless it is there.
 abbrev pub with_class : List ℕ → ℕ → List ℕ

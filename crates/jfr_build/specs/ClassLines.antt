@@ -1,5 +1,5 @@
 -- The classes of the lines, and the line of a flaw in them.
-use Rattle.std.specs.Prelude.{◌≡◌, ⊤, ℕ, zero, suc, Bool, List, [], ◌∷◌, Option, Some, None, slice_get, if◌then◌else◌, codes}
+use Rattle.std.specs.Prelude.{◌≡◌, ⊤, ℕ, zero, suc, Bool, not, List, [], ◌∷◌, filter, Option, Some, None, slice_get, if◌then◌else◌, codes}
 use Rattle.std.specs.Option.{option_map_or}
 use Rattle.jfr_layout.specs.Classes.{Classes, Field, ClassFlaw, class_faults}
 use Rattle.jfr_build.specs.declared.line.Line.{Line}
@@ -8,16 +8,18 @@ use Rattle.jfr_build.specs.declared.lines.NumberedLine.{NumberedLine}
 use Rattle.jfr_build.specs.declared.reason.BuildFault.{BuildFault}
 use Rattle.jfr_build.specs.declared.reason.BuildFault.TheVariants.{Refused, Memory}
 use Rattle.jfr_build.specs.declared.reason.BuildReason.TheVariants as reasons
-use Rattle.jfr_build.specs.Lines.{is_class}
+use Rattle.jfr_build.specs.Lines.{is_class, is_region}
 
--- The field of this line, followed by the others; no fields if the line isn't a field.
+-- The field of this line, followed by the others; only these if the line is a region, and no fields if it is
+-- neither.
 abbrev pub field_before : Line → List Field → List Field
 field_before (lines.Class id name event) fs = []
 field_before (lines.Field name shape) fs = record { name = name; shape = shape } ∷ fs
 field_before (lines.Constant class key words) fs = []
 field_before (lines.Record class words) fs = []
+field_before (lines.Region region) fs = fs
 
--- The fields of the lines up to the first that isn't a field.
+-- The fields of the lines up to the first that is neither a field nor a region.
 abbrev pub fields_in : List NumberedLine → List Field
 fields_in [] = []
 fields_in (l ∷ ls) = field_before l.line (fields_in ls)
@@ -33,6 +35,7 @@ class_before (lines.Class id name event) fs k = record { id = id; name = name; s
 class_before (lines.Field name shape) fs k = k
 class_before (lines.Constant class key words) fs k = k
 class_before (lines.Record class words) fs k = k
+class_before (lines.Region region) fs k = k
 
 -- The classes of the lines, each with the fields of the lines that follow it.
 abbrev pub classes_in : List NumberedLine → Classes
@@ -45,10 +48,20 @@ from_class i [] = []
 from_class zero (l ∷ ls) = if is_class l.line then l ∷ ls else from_class zero ls
 from_class (suc i) (l ∷ ls) = if is_class l.line then from_class i ls else from_class (suc i) ls
 
+-- The number of the line with this index, regions aside; 0 if there is no such line.
+abbrev pub number_at : List NumberedLine → ℕ → ℕ
+number_at ls i = option_map_or (λ l. l.number) (slice_get (filter (λ l. not (is_region l.line)) ls) i) 0
+
+-- The number of the first line or, with `field`, of the line with this index after it; 0 if there is no such line.
+abbrev pub number_from : List NumberedLine → Option ℕ → ℕ
+number_from [] field = 0
+number_from (l ∷ ls) None = l.number
+number_from (l ∷ ls) (Some i) = number_at ls i
+
 -- The number of the line of the class with this index, or of its field with this number; 0 if there is no such
 -- line.
 abbrev pub line_at : List NumberedLine → ℕ → Option ℕ → ℕ
-line_at ls class field = option_map_or (λ l. l.number) (slice_get (from_class class ls) (option_map_or (λ n. suc n) field 0)) 0
+line_at ls class field = number_from (from_class class ls) field
 
 -- The fault is the first flaw of the classes, at its line, or memory ran out.
 abbrev pub IsClassFault : List NumberedLine → BuildFault → Type 0

@@ -25,6 +25,15 @@ signed_of half (c ∷ cs) =
     if c == 45 then option_map (negated half) (option_and_then (below (half + 1)) (decimal_number cs))
     else option_and_then (below half) (decimal_number (c ∷ cs))
 
+-- The digits of a number, after its `-`, if it has one.
+abbrev pub digits_of : List ℕ → List ℕ
+digits_of [] = []
+digits_of (c ∷ cs) = if c == 45 then cs else c ∷ cs
+
+-- A number, as it is spelled: one to nineteen digits, optionally after `-`.
+abbrev pub number_of : List ℕ → Option (List ℕ)
+number_of word = option_map (λ n. word) (decimal_number (digits_of word))
+
 -- The value of a hexadecimal digit, in lower case.
 abbrev pub hex_digit : ℕ → Option ℕ
 hex_digit c = if nat_le 48 c && nat_le c 57 then Some (c - 48) else if nat_le 97 c && nat_le c 102 then Some (c - 87) else None

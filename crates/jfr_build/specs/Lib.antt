@@ -3,6 +3,7 @@ pub mod Pieces
 pub mod Lines
 pub mod ClassLines
 pub mod LeafWords
+pub mod Regions
 pub mod Taking
 pub mod Writing
 pub mod LineValues

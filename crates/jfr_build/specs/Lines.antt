@@ -4,11 +4,12 @@ use Rattle.std.specs.List.{list_any}
 use Rattle.std.specs.Str.{bytes_eq, chars, is_utf8}
 use Rattle.jfr_meta.specs.Attributes.{id_of, not_empty}
 use Rattle.jfr_build.specs.declared.line.Line.{Line}
-use Rattle.jfr_build.specs.declared.line.Line.TheVariants.{Class, Field, Constant, Record}
+use Rattle.jfr_build.specs.declared.line.Line.TheVariants.{Class, Field, Constant, Record, Region}
 use Rattle.jfr_build.specs.declared.lines.NumberedLine.{NumberedLine}
 use Rattle.jfr_build.specs.declared.reason.BuildFault.{BuildFault}
 use Rattle.jfr_build.specs.declared.reason.BuildFault.TheVariants.{Refused, Memory}
 use Rattle.jfr_build.specs.declared.reason.BuildReason.TheVariants.{LineBad}
+use Rattle.jfr_build.specs.LeafWords.{number_of}
 use Rattle.jfr_build.specs.Pieces.{lines_of, words_of}
 
 -- Reads the first word, and goes on with its meaning and the words after it.
@@ -50,6 +51,10 @@ constant_line ws = with_word id_of (λ id us. with_word id_of (λ key leaves. So
 abbrev pub record_line : List (List ℕ) → Option Line
 record_line ws = with_word id_of (λ id leaves. Some (Record id leaves)) ws
 
+-- The region: its locale, and its offset from UTC, a number of milliseconds.
+abbrev pub region_line : List (List ℕ) → Option Line
+region_line ws = with_word name_of (λ locale us. with_word number_of (λ offset vs. at_end (Region (record { locale = locale; offset = offset })) vs) us) ws
+
 -- The first word determines what the line is.
 abbrev pub line_by : List ℕ → List (List ℕ) → Option Line
 line_by word ws =
@@ -58,6 +63,7 @@ line_by word ws =
     else if bytes_eq word (codes "field") then field_line ws
     else if bytes_eq word (codes "constant") then constant_line ws
     else if bytes_eq word (codes "record") then record_line ws
+    else if bytes_eq word (codes "region") then region_line ws
     else None
 
 -- The line of these words.
@@ -75,6 +81,7 @@ is_class (Class id name event) = true
 is_class (Field name shape) = false
 is_class (Constant class key words) = false
 is_class (Record class words) = false
+is_class (Region region) = false
 
 -- The line has a value: it is a constant or an event.
 abbrev pub has_value : Line → Bool
@@ -82,6 +89,15 @@ has_value (Class id name event) = false
 has_value (Field name shape) = false
 has_value (Constant class key words) = true
 has_value (Record class words) = true
+has_value (Region region) = false
+
+-- The line is a region.
+abbrev pub is_region : Line → Bool
+is_region (Class id name event) = false
+is_region (Field name shape) = false
+is_region (Constant class key words) = false
+is_region (Record class words) = false
+is_region (Region region) = true
 
 -- Some of these lines is a class.
 abbrev pub any_class : List NumberedLine → Bool
@@ -91,12 +107,17 @@ any_class ls = list_any (λ l. is_class l.line) ls
 abbrev pub any_value : List NumberedLine → Bool
 any_value ls = list_any (λ l. has_value l.line) ls
 
--- Classes and fields come before the first value, and a field comes after a class.
+-- Some of these lines is a region.
+abbrev pub any_region : List NumberedLine → Bool
+any_region ls = list_any (λ l. is_region l.line) ls
+
+-- Classes and fields come before the first value, a field comes after a class, and there is one region at most.
 abbrev pub is_allowed : List NumberedLine → Line → Bool
 is_allowed before (Class id name event) = not (any_value before)
 is_allowed before (Field name shape) = any_class before && not (any_value before)
 is_allowed before (Constant class key words) = true
 is_allowed before (Record class words) = true
+is_allowed before (Region region) = not (any_region before)
 
 -- What a line means, if it has a known form and is allowed after those before it.
 abbrev pub line_after : List NumberedLine → Option Line → Option Line

@@ -1,10 +1,11 @@
 -- What `build_stream` does with a text file and an output file.
-use Rattle.std.specs.Prelude.{◌≡◌, ⊤, ℕ, Bool, IsTrue, List, [], Vec, Option, None, Some, option_map, Result, Ok, Err}
+use Rattle.std.specs.Prelude.{◌≡◌, ⊤, ℕ, ◌^◌, Bool, IsTrue, List, [], Vec, Option, None, Some, option_map, Result, Ok, Err}
 use Rattle.std.specs.declared.alloc.Global.{Global}
 use Rattle.jfr_outside.specs.World.{World, State, file}
 use Rattle.jfr_header.specs.Taking.{IfContentsKnown, IsKept}
 use Rattle.jfr_header.specs.declared.ending.Ending.{Ending}
 use Rattle.jfr_header.specs.declared.ending.Ending.TheVariants as endings
+use Rattle.jfr_file.specs.Files.{Stopped}
 use Rattle.jfr_plan.specs.Ends.{Fine}
 use Rattle.jfr_plan.specs.Effects.{AtEnd, Plan, without_sink, needing, writes}
 use Rattle.jfr_plan.specs.Rules.{File}
@@ -27,11 +28,16 @@ plan_by out (Some (Err refusal)) = record { steps = []; end = None }
 abbrev pub building : List ℕ → Option (List ℕ) → Plan
 building out text = plan_by out (option_map build_of text)
 
+-- The text in a file wasn't read, for which a steady place has a cause. Fewer bytes were taken than make a text
+-- too long.
+abbrev pub IsUnread : Bool → List ℕ → World → World → Type 0
+IsUnread steady text w v = (IsTrue steady → file w text ≡ None) × Stopped (2 ^ 30) (file w text) v.input
+
 -- The text in a file is built, and the chunk is written to the output.
 abbrev pub builds : List ℕ → List ℕ → Task
 builds text out = record {
   plan = λ w. building out (file w text);
-  Halts = λ steady w v s t. (t ≡ s) × (IsTrue steady → file w text ≡ None);
+  Halts = λ steady w v s t. (t ≡ s) × IsUnread steady text w v;
   Readable = CanRead text;
   target = File;
 }
@@ -78,7 +84,7 @@ pub data IsDecided (text : Option (List ℕ)) (ending : BuildEnding) : Type 0 wh
 abbrev pub TextBuilt : Bool → List ℕ → Result (Vec ℕ Global) BuildEnding → World → World → Type 0
 TextBuilt steady text (Ok chunk) w v = (option_map build_of (file w text) ≡ Some (Ok chunk.items)) × IsKept w v
 TextBuilt steady text (Err (Refused line reason)) w v = IsRefusedText (file w text) line reason × IsKept w v
-TextBuilt steady text (Err ReadFault) w v = (IsTrue steady → file w text ≡ None) × IsKept w v
+TextBuilt steady text (Err ReadFault) w v = IsUnread steady text w v × IsKept w v
 TextBuilt steady text (Err Memory) w v = IsKept w v
 TextBuilt steady text (Err Done) w v = ⊥
 TextBuilt steady text (Err WriteFault) w v = ⊥

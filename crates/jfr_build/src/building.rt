@@ -13,6 +13,7 @@ use crate::line_values::check_values;
 use crate::lines::{NumberedLine, read_lines};
 use crate::pools::pools_of;
 use crate::records::{CHUNK_LIMIT, SIZE_LEN, events_of, push_size};
+use crate::region::region_in;
 use crate::{BuildFault, BuildReason};
 use jfr_base::{HEADER_LEN, NoMemory};
 use jfr_frame::CHECKPOINT_TYPE;
@@ -27,13 +28,14 @@ pub(crate) const TEXT_LIMIT: usize = 1 << 30;
 /// delta and type byte, which are 0.
 const CHECKPOINT_HEAD: [u8; 5] = [CHECKPOINT_TYPE as u8, 0, 0, 0, 0];
 
-/// The chunk that a text describes. The text has a line for each class, field, constant and event.
+/// The chunk that a text describes. The text has a line for each class, field, constant and event,
+/// and may have one for the region.
 ///
 /// Refused for the first of these reasons that applies: `TooLarge` if the text has 2^30 bytes or more;
 /// `LineBad` for the first line that isn't UTF-8, has no known form or isn't allowed at its position; a
 /// reason of [`jfr_layout::Classes::make`], for the line of the class or field with the flaw; `ValueBad` for
-/// the first constant of an unknown class, event of a class that isn't an event class, or line whose words
-/// aren't those of the leaves of one value; `TooLarge` if the strings and the tree of the metadata take 2^29
+/// the first constant of an unknown class, event of a class that isn't an event class, line whose words aren't
+/// those of the leaves of one value, or region whose offset doesn't fit in 32 bits; `TooLarge` if the strings and the tree of the metadata take 2^29
 /// bytes or more, or the chunk 2^30 or more.
 ///
 /// What is built is accepted, and has exactly the classes, the events and the constants of the lines.
@@ -91,7 +93,7 @@ fn chunk_of(
     requires good { first_bad_value classes lines.now ≡ None }
     ensures exact { IfOk result (λ found. option_map (λ v. v.items) found ≡ chunk_of classes lines.now) }
 {
-    let (metadata, classes) = metadata_record(alloc, classes)?;
+    let (metadata, classes) = metadata_record(alloc, classes, region_in(lines))?;
     let Some(metadata) = metadata else {
         return Ok(None);
     };

@@ -1,11 +1,10 @@
 //! The classes of the lines.
-ghost use Rattle.std.specs.Prelude.{◌≡◌, ◌<◌, drop, length, slice_get, suc, IfErr, IfOk, OnOk};
-ghost use Rattle.std.specs.Option.{option_map_or};
+ghost use Rattle.std.specs.Prelude.{◌≡◌, ◌<◌, drop, length, IfErr, IfOk, OnOk};
 ghost use Rattle.jfr_layout.specs.Classes.{Sound};
-ghost use Rattle.jfr_build.specs.ClassLines.{IsClassFault, classes_in, fields_in, line_at, super_of};
+ghost use Rattle.jfr_build.specs.ClassLines.{IsClassFault, classes_in, fields_in, line_at, number_at, number_from, super_of};
 
 use crate::line::Line;
-use crate::lines::{NumberedLine, is_class};
+use crate::lines::{NumberedLine, is_class, is_region};
 use crate::{BuildFault, BuildReason};
 use jfr_base::{NoMemory, Text, Words};
 use jfr_layout::{ClassFault, ClassInfo, ClassList, Classes, FieldInfo, Fields};
@@ -65,19 +64,20 @@ fn super_of(alloc: Global, event: bool) -> Result<Option<Text>, NoMemory>
     Ok(Some(Text::make(alloc, EVENT)?))
 }
 
-/// The fields of the lines from this index on, up to the first line that isn't a field.
+/// The fields of the lines from this index on, up to the first line that is neither a field nor the region.
 fn fields_from(alloc: Global, lines: &[NumberedLine<'_>], from: usize) -> Result<Fields, NoMemory>
     ensures ok { IfOk result (λ fields. fields ≡ fields_in (drop from lines.now)) }
 {
     let mut fields = Fields::new(alloc);
     for at in from..lines.len() {
-        let Line::Field { name, shape } = &lines[at].line else {
-            return Ok(fields);
-        };
-        fields.push(FieldInfo {
-            name: name.to_text(alloc)?,
-            shape: *shape,
-        })?;
+        match &lines[at].line {
+            Line::Field { name, shape } => fields.push(FieldInfo {
+                name: name.to_text(alloc)?,
+                shape: *shape,
+            })?,
+            Line::Region(_) => {}
+            _ => return Ok(fields),
+        }
     }
     Ok(fields)
 }
@@ -103,24 +103,30 @@ fn line_at(lines: &[NumberedLine<'_>], class: usize, field: Option<usize>) -> u6
 /// line.
 fn number_after(lines: &[NumberedLine<'_>], at: usize, field: Option<usize>) -> u64
     requires { at < length lines.now }
-    ensures { result ≡ option_map_or (λ l. l.number) (slice_get (drop at lines.now) (option_map_or (λ n. suc n) field 0)) 0 }
+    ensures { result ≡ number_from (drop at lines.now) field }
 {
-    let (_, rest) = lines.split_at(at);
     match field {
-        None => number_in(rest, 0),
+        None => lines[at].number,
         Some(number) => {
-            let (_, fields) = rest.split_at(1);
-            number_in(fields, number)
+            let (_, rest) = lines.split_at(at + 1);
+            number_at(rest, number)
         }
     }
 }
 
-/// The number of the line with this index; 0 if there is no such line.
-fn number_in(lines: &[NumberedLine<'_>], at: usize) -> u64
-    ensures { result ≡ option_map_or (λ l. l.number) (slice_get lines.now at) 0 }
+/// The number of the line with this index, not counting the region; 0 if there is no such line.
+fn number_at(lines: &[NumberedLine<'_>], index: usize) -> u64
+    ensures { result ≡ number_at lines.now index }
 {
-    match lines.get(at) {
-        Some(line) => line.number,
-        None => 0,
+    let mut before = index;
+    for line in lines {
+        if is_region(&line.line) {
+            continue;
+        }
+        if before == 0 {
+            return line.number;
+        }
+        before -= 1;
     }
+    0
 }

@@ -1,12 +1,13 @@
-//! The metadata record of classes.
+//! The metadata record of classes and of a region.
 ghost use Rattle.std.specs.Prelude.{◌≡◌, ◌+◌, ◌++◌, ◌∷◌, ◌<◌, ◌≤◌, ◌^◌, ℕ, [], length, IfOk, OnOk, option_map};
 ghost use Rattle.std.specs.Fmt.{decimal};
 ghost use Rattle.jfr_layout.specs.Classes.{has_id};
 ghost use Rattle.jfr_meta.specs.Held.{body_in};
 ghost use Rattle.jfr_meta.specs.Stays.{is_in};
 ghost use Rattle.jfr_meta.specs.Trees.{tree};
-ghost use Rattle.jfr_build.specs.Described.{body_of, class_texts, class_tree, field_texts, field_tree, fixed_texts, mark_pairs, metadata_record, super_pairs};
+ghost use Rattle.jfr_build.specs.Described.{body_of, class_texts, class_tree, field_texts, field_tree, fixed_texts, mark_pairs, metadata_record, region_texts, region_trees, super_pairs};
 
+use crate::region::Region;
 use jfr_base::{NoMemory, Text, Words};
 use jfr_layout::{ClassInfo, Classes, FieldInfo, Shape};
 use jfr_meta::{Element, Elements, Ids, Metadata, Pairs, slim};
@@ -37,21 +38,28 @@ const DIMENSION: u64 = 10;
 
 const ONE: u64 = 11;
 
+const REGION: u64 = 12;
+
+const LOCALE: u64 = 13;
+
+const GMT_OFFSET: u64 = 14;
+
 /// The most bytes of a metadata record. No record has more, since its strings and tree take fewer than 2^29.
 const RECORD_LIMIT: usize = 1 << 30;
 
-/// Makes the metadata record of the classes, and gives the classes back. `None` if its strings and its tree take
-/// 2^29 bytes or more.
+/// Makes the metadata record of the classes and the region, and gives the classes back. `None` if its strings and
+/// its tree take 2^29 bytes or more.
 pub fn metadata_record(
     alloc: Global,
     classes: Classes,
+    region: Option<&Region<'_>>,
 ) -> Result<(Option<Vec<u8>>, Classes), NoMemory>
-    ensures exact { IfOk result (λ made. option_map (λ v. v.items) made.0 ≡ metadata_record classes) }
+    ensures exact { IfOk result (λ made. option_map (λ v. v.items) made.0 ≡ metadata_record classes (option_map (λ r. r.now) region.entry)) }
     ensures classes { IfOk result (λ made. made.1 ≡ classes) }
 {
     let ids = ids_of(alloc, &classes)?;
     let mut strings = fixed_texts(alloc)?;
-    let root = root_of(alloc, &mut strings, &classes)?;
+    let root = root_of(alloc, &mut strings, &classes, region)?;
     let metadata = Metadata {
         start: 0,
         duration: 0,
@@ -92,14 +100,22 @@ fn fixed_texts(alloc: Global) -> Result<Words, NoMemory>
     texts.push("true")?;
     texts.push("dimension")?;
     texts.push("1")?;
+    texts.push("region")?;
+    texts.push("locale")?;
+    texts.push("gmtOffset")?;
     Ok(texts)
 }
 
-/// The tree of the classes. Its texts are added to the strings.
-fn root_of(alloc: Global, strings: &mut Words, classes: &Classes) -> Result<Element, NoMemory>
+/// The tree of the classes and the region. Its texts are added to the strings.
+fn root_of(
+    alloc: Global,
+    strings: &mut Words,
+    classes: &Classes,
+    region: Option<&Region<'_>>,
+) -> Result<Element, NoMemory>
     requires fixed { strings.old ≡ fixed_texts }
-    ensures tree { IfOk result (λ root. root ≡ (body_of classes.now).root) }
-    ensures strings { OnOk result (strings.new ≡ (body_of classes.now).strings) }
+    ensures tree { IfOk result (λ root. root ≡ (body_of classes.now (option_map (λ r. r.now) region.entry)).root) }
+    ensures strings { OnOk result (strings.new ≡ (body_of classes.now (option_map (λ r. r.now) region.entry)).strings) }
 {
     let mut elements = Elements::new(alloc);
     for at in 0..classes.len() {
@@ -108,7 +124,29 @@ fn root_of(alloc: Global, strings: &mut Words, classes: &Classes) -> Result<Elem
     }
     let mut children = Elements::new(alloc);
     children.push(Element::new(0, METADATA, Pairs::new(alloc), elements))?;
+    push_region(alloc, &mut children, strings, region)?;
     Ok(Element::new(0, ROOT, Pairs::new(alloc), children))
+}
+
+/// Adds the element of the region, if there is one. Its texts are added to the strings.
+fn push_region(
+    alloc: Global,
+    children: &mut Elements,
+    strings: &mut Words,
+    region: Option<&Region<'_>>,
+) -> Result<(), NoMemory>
+    ensures trees { OnOk result (children.new ≡ children.old ++ region_trees (length strings.old) (option_map (λ r. r.now) region.entry)) }
+    ensures strings { OnOk result (strings.new ≡ strings.old ++ region_texts (option_map (λ r. r.now) region.entry)) }
+{
+    let Some(region) = region else {
+        return Ok(());
+    };
+    let mut attributes = Pairs::new(alloc);
+    attributes.push(LOCALE, strings.len() as u64)?;
+    strings.push_text(region.locale.to_text(alloc)?)?;
+    attributes.push(GMT_OFFSET, strings.len() as u64)?;
+    strings.push_text(region.offset.to_text(alloc)?)?;
+    children.push(Element::new(0, REGION, attributes, Elements::new(alloc)))
 }
 
 /// A class element. Its texts are added to the strings.

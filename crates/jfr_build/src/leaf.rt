@@ -1,5 +1,5 @@
 //! The values that single words spell: numbers, truth values and strings.
-ghost use Rattle.std.specs.Prelude.{◌≡◌, ◌<◌, ◌≤◌, ◌*◌, ◌^◌, ◌∷◌, ◌++◌, [], IfSome, OnOk, option_and_then, option_map};
+ghost use Rattle.std.specs.Prelude.{◌≡◌, ◌<◌, ◌≤◌, ◌*◌, ◌^◌, ◌∷◌, ◌++◌, [], IfSome, OnOk, is_some, option_and_then, option_map};
 ghost use Rattle.jfr_base.specs.Decimal.{below, decimal_number};
 ghost use Rattle.jfr_base.specs.Integer.{spell};
 ghost use Rattle.jfr_build.specs.LeafWords.{base_of, content_of, hex_byte, hex_of, id_after, negated, signed_of, spelled_content, string_of, truth_of};
@@ -53,6 +53,13 @@ fn signed_of(word: &str, half: u64) -> Option<u64>
             if number < half { Some(number) } else { None }
         }
     }
+}
+
+/// Whether the word spells a number from `-2^31` to `2^31 - 1`.
+pub fn fits_int(word: &str) -> bool
+    ensures { result ≡ is_some (signed_of (2 ^ 31) word.now) }
+{
+    signed_of(word, INT_HALF).is_some()
 }
 
 /// `-number`, in two's complement.

@@ -3,7 +3,7 @@
 //! `build` makes a chunk from a text, and `build_stream` does so with files. Read `specs/Builds.antt` first: what is
 //! built from a text, and why a text is refused; then `specs/Accepted.antt`: what a reader finds in it, and
 //! `specs/Streams.antt`: what is done with the files. What the lines mean is in `specs/Pieces.antt`,
-//! `specs/Lines.antt` and `specs/ClassLines.antt`; the words of leaves in `specs/LeafWords.antt`; the values of
+//! `specs/Lines.antt`, `specs/ClassLines.antt` and `specs/Regions.antt`; the words of leaves in `specs/LeafWords.antt`; the values of
 //! words and lines in `specs/Taking.antt` and `specs/LineValues.antt`; and the bytes of the chunk in
 //! `specs/Described.antt` and `specs/Built.antt`. The laws are about quoted texts, the values that words spell,
 //! and the chunk.
@@ -24,6 +24,7 @@ mod pools;
 mod quoted;
 mod reason;
 mod records;
+mod region;
 mod stream;
 mod value;
 

@@ -1,15 +1,16 @@
 //! What a line means.
 ghost use Rattle.std.specs.Prelude.{◌≡◌, IfOk};
-ghost use Rattle.jfr_build.specs.Lines.{class_line, constant_line, field_line, line_by, line_of, marks_of, name_of, record_line};
+ghost use Rattle.jfr_build.specs.Lines.{class_line, constant_line, field_line, line_by, line_of, marks_of, name_of, record_line, region_line};
 
 use crate::pieces::RestOfLine;
+use crate::region::{Number, Region};
 use jfr_base::{NoMemory, Text};
 use jfr_layout::Shape;
 use jfr_meta::id_of;
 use std::alloc::Global;
 use std::marker::Model;
 
-/// The name of a class or a field. Contracts see its characters.
+/// The name of a class or a field, or a locale. Contracts see its characters.
 #[derive(Drop)]
 pub struct Name<'a> {
     text: &'a str,
@@ -69,6 +70,8 @@ pub enum Line<'a> {
         class: u64,
         words: RestOfLine<'a>,
     },
+    /// The region of the recording.
+    Region(Region<'a>),
 }
 
 /// What a line means, with the words of its leaves still unread; `None` exactly if it isn't UTF-8 or has no
@@ -104,6 +107,9 @@ fn line_by<'a>(first: &str, words: RestOfLine<'a>) -> Option<Line<'a>>
     }
     if first == "record" {
         return record_line(words);
+    }
+    if first == "region" {
+        return region_line(words);
     }
     None
 }
@@ -168,4 +174,14 @@ fn record_line(mut words: RestOfLine<'_>) -> Option<Line<'_>>
 {
     let class = id_of(words.next()?)?;
     Some(Line::Record { class, words })
+}
+
+/// The region.
+fn region_line(mut words: RestOfLine<'_>) -> Option<Line<'_>>
+    ensures { result ≡ region_line words.entry }
+{
+    let locale = Name::of(words.next()?)?;
+    let offset = Number::of(words.next()?)?;
+    words.end()?;
+    Some(Line::Region(Region { locale, offset }))
 }

@@ -1,4 +1,4 @@
-//! The values of constants and events.
+//! The values of constants and events, and the offset of the region.
 ghost use Rattle.std.specs.Prelude.{◌≡◌, [], IfErr, IfOk, OnOk, None, Some, option_map, if◌then◌else◌};
 ghost use Rattle.jfr_layout.specs.Classes.{IsFieldLayout};
 ghost use Rattle.jfr_value.specs.Values.{bytes_of};
@@ -9,6 +9,7 @@ use crate::line::Line;
 use crate::lines::{NumberedLine, has_value};
 use crate::output::{Output, ValueFault};
 use crate::pieces::RestOfLine;
+use crate::region::is_wide_region;
 use crate::value::push_value;
 use crate::{BuildFault, BuildReason};
 use jfr_base::NoMemory;
@@ -16,9 +17,10 @@ use jfr_layout::{Classes, FieldLayout, Shape};
 use jfr_value::layout_of;
 use std::alloc::Global;
 
-/// Checks the values of all constants and events. Refused for the first line that is a constant of an unknown
-/// class, is a record of a class that isn't an event class, or has words that aren't those of one value. The
-/// bytes of the values aren't kept: they are made again when the chunk is written.
+/// Checks the values of all constants and events, and the offset of the region. Refused for the first line that
+/// is a constant of an unknown class, is a record of a class that isn't an event class, has words that aren't
+/// those of one value, or is a region whose offset doesn't fit in 32 bits. The bytes of the values aren't kept:
+/// they are made again when the chunk is written.
 pub fn check_values(
     alloc: Global,
     classes: &Classes,
@@ -39,12 +41,13 @@ pub fn check_values(
     Ok(())
 }
 
-/// Whether the line is a constant or an event, but its words aren't those of one value of its class.
+/// Whether the line is a constant or an event, but its words aren't those of one value of its class, or a region
+/// whose offset doesn't fit in 32 bits.
 fn is_bad_value(classes: &Classes, line: &Line<'_>, out: &mut Output) -> Result<bool, NoMemory>
     ensures ok { IfOk result (λ bad. bad ≡ is_bad_value classes.now line.now) }
 {
     if !has_value(line) {
-        return Ok(false);
+        return Ok(is_wide_region(line));
     }
     let good = line_value(classes, line, out)?;
     Ok(!good)

@@ -1,7 +1,7 @@
 //! The lines of a text.
 ghost use Rattle.std.specs.Prelude.{◌≡◌, ◌<◌, ◌^◌, List, length, MatchResult, Ok};
 ghost use Rattle.jfr_build.specs.declared.lines.NumberedLine.{NumberedLine};
-ghost use Rattle.jfr_build.specs.Lines.{IsBadLine, any_class, any_value, has_value, is_allowed, is_class, line_after, line_of, read_lines};
+ghost use Rattle.jfr_build.specs.Lines.{IsBadLine, any_class, any_region, any_value, has_value, is_allowed, is_class, is_region, line_after, line_of, read_lines};
 
 use crate::line::{Line, read_line};
 use crate::pieces::RestOfText;
@@ -32,27 +32,37 @@ pub fn has_value(line: &Line<'_>) -> bool
     matches!(line, Line::Constant { .. } | Line::Record { .. })
 }
 
-/// Whether a class was described before, and whether a `constant` or a `record` came before.
+/// Whether the line is the `region`.
+pub fn is_region(line: &Line<'_>) -> bool
+    ensures { result ≡ is_region line.now }
+{
+    matches!(line, Line::Region(_))
+}
+
+/// Whether a class was described before, whether a `constant` or a `record` came before, and whether the
+/// `region` did.
 #[derive(Clone, Copy)]
 struct Before {
     class: bool,
     value: bool,
+    region: bool,
 }
 
 /// Whether the line may come after those before it.
 fn is_allowed(line: &Line<'_>, before: Before) -> bool
-    ensures { (ls : List NumberedLine) → any_class ls ≡ before.class → any_value ls ≡ before.value → is_allowed ls line.now ≡ result }
+    ensures { (ls : List NumberedLine) → any_class ls ≡ before.class → any_value ls ≡ before.value → any_region ls ≡ before.region → is_allowed ls line.now ≡ result }
 {
     match line {
         Line::Class { .. } => !before.value,
         Line::Field { .. } => before.class && !before.value,
+        Line::Region(_) => !before.region,
         _ => true,
     }
 }
 
 /// What a line means, if it may come after those before it.
 fn allowed_line(bytes: &[u8], before: Before) -> Option<Line<'_>>
-    ensures { (ls : List NumberedLine) → any_class ls ≡ before.class → any_value ls ≡ before.value → line_after ls (line_of bytes.now) ≡ result }
+    ensures { (ls : List NumberedLine) → any_class ls ≡ before.class → any_value ls ≡ before.value → any_region ls ≡ before.region → line_after ls (line_of bytes.now) ≡ result }
 {
     let line = read_line(bytes)?;
     if is_allowed(&line, before) {
@@ -72,6 +82,7 @@ pub fn read_lines(alloc: Global, text: &[u8]) -> Result<Vec<NumberedLine<'_>>, B
     let mut before = Before {
         class: false,
         value: false,
+        region: false,
     };
     let mut unread = RestOfText::of(text);
     let mut number: u64 = 0;
@@ -89,6 +100,7 @@ pub fn read_lines(alloc: Global, text: &[u8]) -> Result<Vec<NumberedLine<'_>>, B
         before = Before {
             class: before.class || is_class(&line),
             value: before.value || has_value(&line),
+            region: before.region || is_region(&line),
         };
         lines.push(NumberedLine { number, line })?;
     }

@@ -11,8 +11,8 @@ pub enum BuildReason {
     TooLarge,
     /// A line isn't UTF-8, has no known form, or isn't allowed at its position.
     LineBad,
-    /// The class of a constant is unknown, that of a record isn't an event class, or the words aren't those of one
-    /// value of the class.
+    /// The class of a constant is unknown, that of a record isn't an event class, the words aren't those of one
+    /// value of the class, or the offset of the region doesn't fit in 32 bits.
     ValueBad,
     /// The classes aren't sound.
     Class(Reason),

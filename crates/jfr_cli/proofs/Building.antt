@@ -11,7 +11,7 @@ use Rattle.jfr_plan.specs.Outcomes.{Outcome}
 use Rattle.jfr_plan.specs.Clauses.{CanCreate, Ran}
 use Rattle.jfr_build.specs.declared.reason.BuildReason.{BuildReason}
 use Rattle.jfr_build.specs.Streams as streams
-use Rattle.jfr_build.specs.Streams.{IsRefusedText, Refuses, building, builds}
+use Rattle.jfr_build.specs.Streams.{IsRefusedText, IsUnread, Refuses, building, builds}
 use Rattle.jfr_words.specs.declared.order.Order.TheVariants as orders
 use Rattle.jfr_words.specs.Words.{file_name}
 use Rattle.jfr_cli.specs.Works.{Builds, WorkOutcome}
@@ -20,7 +20,7 @@ use Rattle.jfr_cli.proofs.Checking.{stand_kept}
 use Rattle.jfr_cli.proofs.Counting.{lifted}
 use Rattle.jfr_cli.proofs.Leaving.{known_by}
 
-left_build : (text output : List ℕ) (steady : Bool) (ended : CommandEnd) (w v : World) (s t : Snapshot) → Outcome steady (building output (file w text)) (λ s t. (t ≡ s) × (IsTrue steady → file w text ≡ None)) ended s t → WorkOutcome steady (Builds text output) ended w v s t
+left_build : (text output : List ℕ) (steady : Bool) (ended : CommandEnd) (w v : World) (s t : Snapshot) → Outcome steady (building output (file w text)) (λ s t. (t ≡ s) × IsUnread steady text w v) ended s t → WorkOutcome steady (Builds text output) ended w v s t
 left_build text output steady (Ends e) w v s t h = h
 left_build text output steady NotRead w v s t h = h
 left_build text output steady NotWritten w v s t h = h
@@ -37,7 +37,7 @@ module _ (text output t o : List ℕ) (a b : State) (s : SinkState) (is_text : t
       let ran = renamed (λ x y. Ran (builds x y) e (without_sink a) (without_sink b)) known in
       record {
         leaves =
-            known_by a.contents b.contents (λ w v. Outcome a.steady (building (file_name output) (file w (file_name text))) (λ s t. (t ≡ s) × (IsTrue a.steady → file w (file_name text) ≡ None)) (command_end e) (snapshot w None) (snapshot v None))
+            known_by a.contents b.contents (λ w v. Outcome a.steady (building (file_name output) (file w (file_name text))) (λ s t. (t ≡ s) × IsUnread a.steady (file_name text) w v) (command_end e) (snapshot w None) (snapshot v None))
             (λ w v. WorkOutcome a.steady (Builds (file_name text) (file_name output)) (command_end e) w v (snapshot w None) (snapshot v None)) ran.contents
             (λ w v. left_build (file_name text) (file_name output) a.steady (command_end e) w v (snapshot w None) (snapshot v None));
         counts = lifted (command_end e) a b s ran.counts;

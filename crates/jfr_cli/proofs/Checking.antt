@@ -14,7 +14,7 @@ use Rattle.jfr_verify.specs.declared.doubt.Doubt.{Doubt}
 use Rattle.jfr_verify.specs.declared.verdict.Verdict.{Verdict}
 use Rattle.jfr_verify.specs.declared.verdict.Verdict.TheVariants as verdicts
 use Rattle.jfr_verify.specs.Faults.{Counts}
-use Rattle.jfr_verify.specs.Verdicts.{AllVerified, LacksOne, Three, VerdictOf, no_input, no_output, no_receipt, three}
+use Rattle.jfr_verify.specs.Verdicts.{AllVerified, HasNoVerdict, LacksOne, Three, VerdictOf, no_input, no_output, no_receipt, three}
 use Rattle.jfr_words.specs.declared.order.Order.{Order}
 use Rattle.jfr_words.specs.declared.order.Order.TheVariants as orders
 use Rattle.jfr_words.specs.Words.{file_name}
@@ -118,10 +118,11 @@ module _ (g : Given) (input output receipt : List ℕ) (a b : State) (s : SinkSt
     can_create = λ can. absurd can;
   }
 
-  pub check_halted : (IsTrue a.steady → verdicts.ReadFault ≡ verdicts.ReadFault → IfSome a.contents (λ w. LacksOne (files_of w))) → Counts verdicts.ReadFault a b → Carries order ReadFault (outside a s) (outside b s)
-  check_halted lacks counts = record {
+  pub check_halted : (IsTrue a.steady → verdicts.ReadFault ≡ verdicts.ReadFault → IfSome a.contents (λ w. HasNoVerdict g (files_of w))) → (IsTrue a.steady → verdicts.ReadFault ≡ verdicts.ReadFault → IfSome a.contents (λ w. LacksOne (files_of w)))
+      → Counts verdicts.ReadFault a b → Carries order ReadFault (outside a s) (outside b s)
+  check_halted none lacks counts = record {
     leaves =
-        leaves_by g input output receipt a b s s kept (λ w. IsTrue a.steady → LacksOne (files_of w)) (λ w v. WorkOutcome a.steady (Checks g (file_name input) (file_name output) (file_name receipt)) NotRead w v) (by_told a.contents (λ h. lacks h refl))
+        leaves_by g input output receipt a b s s kept (λ w. IsTrue a.steady → HasNoVerdict g (files_of w)) (λ w v. WorkOutcome a.steady (Checks g (file_name input) (file_name output) (file_name receipt)) NotRead w v) (by_told a.contents (λ h. none h refl))
         (λ x y k h. (stand_kept x y s.written s.written k refl, h));
     counts = (counts.reads, counts.writes, refl, counts.same);
     sink = tt;
@@ -131,7 +132,7 @@ module _ (g : Given) (input output receipt : List ℕ) (a b : State) (s : SinkSt
     can_create = λ can. absurd can;
   }
     where
-      by_told : (t : Option World) → (IsTrue a.steady → IfSome t (λ w. LacksOne (files_of w))) → IfSome t (λ w. IsTrue a.steady → LacksOne (files_of w))
+      by_told : (t : Option World) → (IsTrue a.steady → IfSome t (λ w. HasNoVerdict g (files_of w))) → IfSome t (λ w. IsTrue a.steady → HasNoVerdict g (files_of w))
       by_told None h = tt
       by_told (Some w) h = h
 
@@ -154,6 +155,7 @@ module _ (g : Given) (input output receipt : List ℕ) (a b : State) (s : SinkSt
     verdict =
         leaves_by g input output receipt a b s s kept (λ w. VerdictOf g (files_of w) (verdicts.Doubted chunk doubt)) (λ w v t u. VerdictOf g (files_of w) (verdicts.Doubted chunk doubt) × (u ≡ t)) is
         (λ x y k h. (h, stand_kept x y s.written s.written k refl));
+    sink = refl;
     counts = (counts.reads, counts.writes, refl, counts.same);
   }
 

@@ -39,8 +39,8 @@ abbrev pub Wrote : Order → Ending → State → State → Type 0
 Wrote (orders.Scrub g false input output) e a b = IsByPlan e → IfKnown a.contents b.contents (Scrubs g (file_name input) (file_name output))
 Wrote (orders.Scrub g true input output) e a b = IsByPlan e → IfKnown a.contents b.contents (Renumbers g (file_name input) (file_name output))
 Wrote (orders.Print g depth json file) e a b = ⊤
-Wrote (orders.Summary file) e a b = ⊤
-Wrote (orders.Metadata file) e a b = ⊤
+Wrote (orders.Summary json file) e a b = ⊤
+Wrote (orders.Metadata json file) e a b = ⊤
 Wrote (orders.Disassemble file rule) e a b = ⊤
 Wrote (orders.Assemble folder output) e a b = ⊤
 Wrote (orders.Sample seed events) e a b = ⊤
@@ -59,11 +59,12 @@ abbrev pub IsCheck : Work → Type 0
 IsCheck (Checks g input output receipt) = ⊤
 IsCheck _ = ⊥
 
--- A check has a doubt about a chunk. The files, the open output and the text written are as before, and no
--- fault was counted.
+-- A check has a doubt about a chunk. The files, the open output and the output sink are as before, and no fault
+-- was counted.
 pub record Doubts (k : Work) (chunk : ℕ) (doubt : Doubt) (a b : Outside) : Type 0 where
   pub check : IsCheck k
   pub verdict : IfFilesKnown k a b (λ w v s t. IsInDoubt k chunk doubt w × (t ≡ s))
+  pub sink : b.sink ≡ a.sink
   pub counts : Counted Unchanged Unchanged Unchanged a b
 
 -- The work is the building of a text that is refused for this line and reason.

@@ -17,9 +17,9 @@ use Rattle.jfr_show.specs.Texts.{newline}
 use Rattle.jfr_verify.specs.declared.verdict.Verdict.{Verdict}
 use Rattle.jfr_verify.specs.declared.verdict.Verdict.TheVariants.{Verified}
 use Rattle.jfr_verify.specs.declared.verdict.Verdict.TheVariants as verdicts
-use Rattle.jfr_verify.specs.Verdicts.{LacksOne, VerdictOf, three}
+use Rattle.jfr_verify.specs.Verdicts.{HasNoVerdict, VerdictOf, three}
 use Rattle.jfr_receipt.specs.Receipting.{receipting}
-use Rattle.jfr_build.specs.Streams.{building}
+use Rattle.jfr_build.specs.Streams.{IsUnread, building}
 use Rattle.jfr_report.specs.Reports.{printing, summing, describing, folding}
 use Rattle.jfr_report.specs.Demo.{sampled}
 use Rattle.jfr_words.specs.declared.order.Order.{Order}
@@ -59,8 +59,8 @@ verdict_plan _ = record { steps = []; end = None }
 -- The work of an order.
 abbrev pub work_of : Order → Work
 work_of (orders.Print g depth json file) = Over (printing g depth json) (file_name file)
-work_of (orders.Summary file) = Over summing (file_name file)
-work_of (orders.Metadata file) = Over describing (file_name file)
+work_of (orders.Summary json file) = Over (summing json) (file_name file)
+work_of (orders.Metadata json file) = Over (describing json) (file_name file)
 work_of (orders.Scrub g renumber input output) = Over (scrub_rule g renumber (file_name output)) (file_name input)
 work_of (orders.Disassemble file rule) = Over (splitting rule (file_name file)) (file_name file)
 work_of (orders.Assemble folder output) = Joins (file_name folder) (file_name output)
@@ -88,13 +88,13 @@ target_of (Checks g input output receipt) = Text
 target_of (Builds text output) = File
 
 -- The state after a read fault. It can't happen if no file is read, and nothing was done yet in a check or a
--- build.
+-- build. Over a steady place a check has one only if no verdict is right.
 abbrev pub HaltsAs : Bool → Work → World → World → Snapshot → Snapshot → Type 0
 HaltsAs steady (Over r input) w v s t = HaltedIn steady r [] (file w input) v.input s t
 HaltsAs steady (Joins folder output) w v s t = Unfinished steady (effects (assembling folder output w.files).steps) s t
 HaltsAs steady (Planned p) w v s t = ⊥
-HaltsAs steady (Checks g input output receipt) w v s t = (t ≡ s) × (IsTrue steady → LacksOne (three input output receipt w))
-HaltsAs steady (Builds text output) w v s t = (t ≡ s) × (IsTrue steady → file w text ≡ None)
+HaltsAs steady (Checks g input output receipt) w v s t = (t ≡ s) × (IsTrue steady → HasNoVerdict g (three input output receipt w))
+HaltsAs steady (Builds text output) w v s t = (t ≡ s) × IsUnread steady text w v
 
 -- The state after memory ran out: the first effects are done. A check has only one, which is its last step.
 abbrev pub StopsAs : Work → World → Snapshot → Snapshot → Type 0
@@ -162,8 +162,8 @@ CanCreateFor (orders.Scrub g renumber input output) a = CanCreate (file_name out
 CanCreateFor (orders.Disassemble file rule) a = CanCreateAll (splitting rule (file_name file)) (file_name file) a
 CanCreateFor (orders.Assemble folder output) a = CanCreate (file_name output) a
 CanCreateFor (orders.Print g depth json file) a = ⊥
-CanCreateFor (orders.Summary file) a = ⊥
-CanCreateFor (orders.Metadata file) a = ⊥
+CanCreateFor (orders.Summary json file) a = ⊥
+CanCreateFor (orders.Metadata json file) a = ⊥
 CanCreateFor (orders.Sample seed events) a = ⊥
 CanCreateFor (orders.Receipt g input receipt) a = CanCreate (file_name receipt) a
 CanCreateFor (orders.Verify g input output receipt) a = ⊥

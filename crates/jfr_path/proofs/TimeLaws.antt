@@ -1,5 +1,5 @@
 -- The times of an event are the numbers in its fields with these names.
-use Rattle.std.specs.Prelude.{◌≡◌, ◌≢◌, ℕ, ℤ, pos, ◌^◌, ◌%◌, ◌<◌, ◌≤◌, Bool, true, false, not, ◌||◌, List, Option, Some, None, option_and_then, option_map, slice_range, codes, IsSome, if◌then◌else◌}
+use Rattle.std.specs.Prelude.{◌≡◌, ◌≢◌, ℕ, ℤ, pos, ◌^◌, ◌%◌, ◌<◌, Bool, true, false, not, ◌||◌, List, Option, Some, None, option_and_then, option_map, codes, if◌then◌else◌}
 use Rattle.std.specs.Int.{cast_signed, w64}
 use Rattle.std.specs.Option.{option_map_or}
 use Rattle.std.proofs.Common.{ap, arith, refl, sym, ◌∙◌, subst}
@@ -19,7 +19,6 @@ use Rattle.jfr_value.specs.Nodes.{NodeAt, IsNode, IsValue, child, node_bytes, no
 use Rattle.jfr_value.proofs.NodeForms.{base_form}
 use Rattle.jfr_chunk.specs.Parts.{Parts, EventAt}
 use Rattle.jfr_chunk.specs.Windows.{allows_time, clock_of, duration_of, is_in, long_by, long_of, number_of, or_zero, signed, start_of}
-use Rattle.jfr_path.specs.declared.times.Times.{Times}
 use Rattle.jfr_path.specs.Times.{is_timely, is_untimed, number_at, times_of}
 use Rattle.jfr_path.specs.Verdicts.{IsOfClass}
 use Rattle.jfr_path.proofs.EventLaws.{event_shape}
@@ -59,9 +58,6 @@ module _ (p : Parts) (n : Node) (value : IsValue p.classes n) (bytes : n.bytes.n
 
   abbrev there : (number : ℕ) × (int_at n.bytes.now n.at n.end ≡ Some (record { value = number; end = n.end })) × (number ≡ worth_within 8 (node_bytes n.bytes.now (node_of n)))
   there = spelled p.classes n.bytes.now (node_of n) value.0 found.0 value.1 array constant found.1 found.2
-
-  pub long_read : int_at n.bytes.now n.at n.end ≡ None → ⊥
-  long_read e = let x : IsSome {T = Var} None = subst (λ z. IsSome z) (sym there.1 ∙ e) refl in cc
 
   pub long_is : (number : Var) → number.value < 2 ^ 64 → int_at n.bytes.now n.at n.end ≡ Some number → Some (cast_signed w64 number.value) ≡ long_of p (node_of n)
   long_is number small e =

@@ -4,7 +4,7 @@ use Rattle.std.specs.Option.{option_map_or, option_and_then}
 use Rattle.std.proofs.Common.{ap, refl, sym, ◌∙◌}
 use Rattle.jfr_filter.specs.Filters.{Given, keeps, allows, allows_class, allows_thread, thread_matches}
 use Rattle.jfr_filter.proofs.KeepLaws.{keeps_by_parts}
-use Rattle.jfr_layout.specs.Classes.{Class, find_class, field_number}
+use Rattle.jfr_layout.specs.Classes.{Class, field_number}
 use Rattle.jfr_layout.specs.declared.shape.Shape.{Shape}
 use Rattle.jfr_value.specs.declared.node.Step.TheVariants as steps
 use Rattle.jfr_value.specs.Nodes.{NodeAt, child}

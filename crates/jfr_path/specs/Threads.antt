@@ -28,7 +28,7 @@ allows_if_named g text = option_map (λ t. allows_thread g (Some t)) text
 abbrev pub allows_thread_at : Given → Parts → NodeAt → Bool
 allows_thread_at g p n = allows_thread g (thread_text_at p n)
 
--- The filter allows the thread to which the field with this number leads.
+-- There is a field with this number, and the filter allows the thread that it leads to.
 abbrev pub is_thread_allowed : Given → Parts → NodeAt → ℕ → Bool
 is_thread_allowed g p n i = option_map_or (allows_thread_at g p) (child p.classes p.bytes n (steps.Field i)) false
 

@@ -11,24 +11,25 @@ use Rattle.jfr_path.specs.declared.times.Times.{Times}
 use Rattle.jfr_path.specs.declared.window.Window.{Window}
 use Rattle.jfr_path.specs.declared.window.Window.TheVariants.{Empty, Between}
 
--- The window says nothing of the events of a class: none is given, or they are always kept.
+-- The window doesn't limit the events of a class: none is given, or they are always kept.
 abbrev pub is_untimed : Given → Class → Bool
 is_untimed g c = not (has_window g) || is_always g c.name
 
--- The numbers of the fields of a class that have the times of its events, if it has one for their start.
+-- The fields with the times of a class's events, if it has one for their start.
 abbrev pub times_of : Class → Option Times
 times_of c = option_map (λ start. record { start = start; duration = field_number c.fields (codes "duration") }) (field_number c.fields (codes "startTime"))
 
--- The number in the field with this number, if that is an inline `long`.
+-- The value of the field with this number, if that is an inline `long`.
 abbrev pub number_at : Parts → NodeAt → ℕ → Option ℤ
 number_at p n i = option_and_then (long_of p) (child p.classes p.bytes n (steps.Field i))
 
--- An event with these fields for its times is in the window.
+-- By the times in these fields, an event is in the window.
 abbrev pub is_timely : Given → Parts → NodeAt → Times → Bool
 is_timely g p n t =
     option_map_or (λ start. is_in g (clock_of p.bytes) start (option_map_or or_zero (option_and_then (number_at p n) t.duration) (pos 0))) (number_at p n t.start) false
 
--- The window has an event that starts at a tick and lasts a number of ticks.
+-- An event is in the window that starts at a tick and lasts a number of ticks; both bounds are in billionths of
+-- ticks after the chunk's start.
 abbrev pub has : Window → ℤ → ℤ → Bool
 has Empty t d = false
 has (Between start from to) t d =

@@ -19,11 +19,11 @@ pub record IsOfClass (p : Parts) (c : Class) (e : EventAt) : Type 0 where
   pub listed : Contains (events_of p) e
   pub class : find_class p.classes e.record_of.type_id ≡ Some c
 
--- By its times and its thread, as far as these are asked for, an event with these fields is kept.
+-- An event is in the window and its thread is allowed, as far as these are asked.
 abbrev pub keeps_by : Given → Parts → NodeAt → Option Times → Option ℕ → Bool
 keeps_by g p n times thread = option_map_or (is_timely g p n) times true && option_map_or (is_thread_allowed g p n) thread true
 
--- The verdict is right for the event: it is kept, or dropped, or kept exactly if its times and its thread say so.
+-- The verdict is right for the event: it is kept, or dropped, or kept exactly if what is asked says so.
 abbrev pub IsRightFor : Given → Parts → EventAt → ClassVerdict → Type 0
 IsRightFor g p e Kept = is_chosen g p e ≡ true
 IsRightFor g p e Dropped = is_chosen g p e ≡ false
@@ -38,10 +38,11 @@ is_kept _ = false
 pub record IsVerdict (g : Given) (c : Class) (verdict : ClassVerdict) : Type 0 where
   pub each : (p : Parts) (e : EventAt) → IsOfClass p c e → IsRightFor g p e verdict
 
--- The window allows the events of the class, in every chunk: none of them, or all, or by these fields.
+-- The window allows, in every chunk, no event of the class, or all of them, or those in it by these fields.
 pub record AllowsTimes (g : Given) (c : Class) (times : Option (Option Times)) : Type 0 where
   pub each : (p : Parts) (e : EventAt) → IsOfClass p c e → allows_time g p e ≡ option_map_or (λ asked. option_map_or (is_timely g p e.node) asked true) times false
 
--- The options on threads allow the events of the class, in every chunk: none of them, or all, or by this field.
+-- The options on threads allow, in every chunk, no event of the class, or all of them, or those whose thread they
+-- allow by this field.
 pub record AllowsThreads (g : Given) (c : Class) (thread : Option (Option ℕ)) : Type 0 where
   pub each : (p : Parts) (e : EventAt) → IsOfClass p c e → allows_thread g (thread_text p e) ≡ option_map_or (λ asked. option_map_or (is_thread_allowed g p e.node) asked true) thread false

@@ -23,7 +23,7 @@ use std::alloc::Global;
 
 /// Which events of the chunk the filter keeps. Each string that names a class is matched once. If an option
 /// on threads is given, the thread is looked up once for each class and key by which events refer to it, and
-/// each text is matched once; if a time window is given, only for the events in it.
+/// each text is matched once. No thread is looked up for an event outside the time window.
 pub fn choose(alloc: Global, chunk: &Chunk<'_>, filter: &Filter) -> Result<Kept, NoMemory>
     ensures ok { IfOk result (λ kept. kept ≡ chosen filter.now chunk.now) }
 {
@@ -78,7 +78,7 @@ fn is_chosen<'a>(
     }
 }
 
-/// Whether the filter allows the thread of an event, to which its field with this number leads.
+/// Whether an event has this field, and the filter allows the thread that the field leads to.
 fn is_thread_allowed<'a>(
     chunk: &Chunk<'a>,
     fields: &Node<'a>,

@@ -32,8 +32,8 @@ impl Times {
     }
 }
 
-/// Whether an event is in the window, by the times in its fields. Without a start it isn't; without a duration,
-/// or with a negative one, it lasts no time.
+/// Whether an event is in the window, by the times in its fields. An event without a start isn't; one without a
+/// duration, or with a negative one, ends when it starts.
 pub(crate) fn is_timely(
     chunk: &Chunk<'_>,
     window: &Window,
@@ -65,7 +65,7 @@ fn duration_at(chunk: &Chunk<'_>, fields: &Node<'_>, number: Option<usize>) -> i
     }
 }
 
-/// The number in the field with this number, if that is an inline `long`.
+/// The value of the field with this number, if that is an inline `long`.
 fn number_at(chunk: &Chunk<'_>, fields: &Node<'_>, number: usize) -> Option<i64>
     requires value { IsValue chunk.now.classes fields.now }
     requires of_chunk { fields.now.bytes.now ≡ chunk.now.bytes }
@@ -75,7 +75,7 @@ fn number_at(chunk: &Chunk<'_>, fields: &Node<'_>, number: usize) -> Option<i64>
     long_of(chunk, &field)
 }
 
-/// The number of a value, if it is an inline `long`.
+/// The number that a value is, if it is an inline `long`.
 fn long_of(chunk: &Chunk<'_>, node: &Node<'_>) -> Option<i64>
     requires value { IsValue chunk.now.classes node.now }
     requires of_chunk { node.now.bytes.now ≡ chunk.now.bytes }

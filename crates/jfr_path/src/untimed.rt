@@ -1,4 +1,4 @@
-//! The classes whose events are kept whatever the time window.
+//! The classes whose events the time window doesn't limit.
 ghost use Rattle.std.specs.Prelude.{◌≡◌, IfOk, is_some, map, replicate};
 ghost use Rattle.jfr_filter.specs.Filters.{is_always};
 ghost use Rattle.jfr_path.specs.Times.{is_untimed};
@@ -9,8 +9,8 @@ use jfr_chunk::Chunk;
 use jfr_filter::{Filter, Side};
 use std::alloc::Global;
 
-/// Whether the window says nothing of the events of each class, in the order of the classes: no window is
-/// given, or a pattern of the option `Always` matches the name of the class.
+/// For each class, in order, whether the time window doesn't limit its events: no window is given, or a pattern
+/// of the option `Always` matches the name of the class.
 #[tactic(auto, using(crate::proofs::UntimedLaws::all_untimed, crate::proofs::UntimedLaws::none_untimed, crate::proofs::UntimedLaws::untimed_always))]
 pub(crate) fn untimed_classes(
     alloc: Global,

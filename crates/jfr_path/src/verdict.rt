@@ -23,10 +23,11 @@ pub(crate) enum ClassVerdict {
     Kept,
     /// None of them is kept.
     Dropped,
-    /// Those are kept that are in the time window, if there are fields for its times, and whose thread the
-    /// filter allows, if there is the number of a field that leads to it.
+    /// Those are kept that are in the time window and whose thread the filter allows, as far as these are asked.
     Asked {
+        /// The fields with the times of an event, if the window is asked.
         times: Option<Times>,
+        /// The number of the field that leads to the thread, if the thread is asked.
         thread: Option<usize>,
     },
 }
@@ -60,7 +61,7 @@ pub(crate) fn are_all_kept(verdicts: &[ClassVerdict]) -> bool
 }
 
 /// The verdict on a class. `allowed` is whether the options on events and on categories allow it, and `untimed`
-/// whether the time window says nothing of its events.
+/// whether the time window doesn't limit its events.
 #[tactic(auto, using(crate::proofs::VerdictLaws::dropped, crate::proofs::VerdictLaws::dropped_by_time, crate::proofs::VerdictLaws::dropped_by_thread, crate::proofs::VerdictLaws::asked, crate::proofs::VerdictLaws::kept))]
 fn verdict_on(class: &ClassInfo, allowed: bool, untimed: bool, filter: &Filter) -> ClassVerdict
     requires allowed { allowed ≡ is_allowed filter.now class.now }
@@ -82,8 +83,8 @@ fn verdict_on(class: &ClassInfo, allowed: bool, untimed: bool, filter: &Filter) 
     }
 }
 
-/// The fields with the times by which the window allows events of the class; `Some(None)` if it allows all of
-/// them, and `None` if it allows none.
+/// The fields of the class by which the window allows its events; `Some(None)` if it allows all of them, and
+/// `None` if it allows none.
 #[tactic(auto, using(crate::proofs::VerdictLaws::untimed, crate::proofs::VerdictLaws::timed_none, crate::proofs::VerdictLaws::timed_by))]
 fn times_to_ask(class: &ClassInfo, untimed: bool) -> Option<Option<Times>>
     ensures { (g : Given) → untimed ≡ is_untimed g class.now → AllowsTimes g class.now result }
@@ -95,8 +96,8 @@ fn times_to_ask(class: &ClassInfo, untimed: bool) -> Option<Option<Times>>
     Some(Some(times))
 }
 
-/// The number of the field that leads to the thread by which the filter allows events of the class;
-/// `Some(None)` if it allows all of them, and `None` if it allows none.
+/// The number of the field that leads to the thread by which the filter allows events of the class; `Some(None)`
+/// if the options on threads allow all of them, and `None` if they allow none.
 #[tactic(auto, using(crate::proofs::VerdictLaws::unasked_threads, crate::proofs::VerdictLaws::threadless, crate::proofs::VerdictLaws::threadless_none, crate::proofs::VerdictLaws::asked_thread))]
 fn thread_to_ask(class: &ClassInfo, filter: &Filter) -> Option<Option<usize>>
     ensures { AllowsThreads filter.now class.now result }

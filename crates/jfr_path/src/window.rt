@@ -7,8 +7,8 @@ use jfr_base::signed;
 use jfr_chunk::Chunk;
 use jfr_filter::Filter;
 
-/// The billionths in a tick. Times are compared in billionths of ticks, since those between two moments in
-/// nanoseconds are a whole number: the ticks per second, for each nanosecond. So nothing is rounded.
+/// The billionths in a tick. Moments are compared in billionths of ticks: in a nanosecond as many of them go by as
+/// ticks in a second. So they are whole numbers, and nothing is rounded.
 const BILLIONTHS: i128 = 1_000_000_000;
 
 /// A filter's time window, by the clock of a chunk.
@@ -16,8 +16,8 @@ const BILLIONTHS: i128 = 1_000_000_000;
 pub(crate) enum Window {
     /// No event is in it, since the chunk's ticks per second aren't positive.
     Empty,
-    /// The events are in it that end at `from` or later, and start before `to`. Both are in billionths of
-    /// ticks after the start of the chunk, which is at the tick `start`.
+    /// An event is in it that ends at `from` or later and starts before `to`, as far as these are given. Both
+    /// are in billionths of ticks after the start of the chunk, which is at the tick `start`.
     Between {
         start: i64,
         from: Option<i128>,
@@ -65,7 +65,7 @@ impl Window {
     }
 }
 
-/// Whether what ends at `until` ends at `from` or later, if that is given.
+/// Whether an event that ends at `until` ends at `from` or later; true if `from` isn't given.
 fn ends_from(from: Option<i128>, until: i128) -> bool
     ensures { result ≡ option_map_or (λ first. int_le first until) from true }
 {
@@ -75,7 +75,7 @@ fn ends_from(from: Option<i128>, until: i128) -> bool
     }
 }
 
-/// Whether what starts at `since` starts before `to`, if that is given.
+/// Whether an event that starts at `since` starts before `to`; true if `to` isn't given.
 fn starts_before(to: Option<i128>, since: i128) -> bool
     ensures { result ≡ option_map_or (λ end. int_lt since end) to true }
 {
@@ -85,8 +85,8 @@ fn starts_before(to: Option<i128>, since: i128) -> bool
     }
 }
 
-/// The billionths of ticks from the start of a chunk, at `nanos`, until a moment, if one is given; both are in
-/// nanoseconds since 1970. There are `rate` ticks in a second.
+/// The billionths of ticks from the start of a chunk to a moment, if one is given. The chunk starts at `nanos`,
+/// and both are in nanoseconds since 1970; `rate` is the number of ticks in a second.
 fn billionths_until(moment: Option<i64>, nanos: i64, rate: i64) -> Option<i128>
     ensures { result ≡ option_map (λ m. (m -ℤ nanos) *ℤ rate) moment }
 {

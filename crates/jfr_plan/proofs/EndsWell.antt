@@ -1,9 +1,11 @@
 -- A plan ends well exactly if each chunk goes on and no flaw follows them.
-use Rattle.std.proofs.Common.{◌≡◌, ℕ, ◌+◌, refl, sym, ◌∙◌, ap, List, [], ◌∷◌, ◌++◌, length, Option, None, Some}
+use Rattle.std.proofs.Common.{◌≡◌, ℕ, ◌+◌, refl, sym, ◌∙◌, ap, true, List, [], ◌∷◌, ◌++◌, map, length, Option, None, Some}
 use Rattle.std.specs.Prelude.{◌↔◌}
 use Rattle.std.specs.List.{AllByRecursion}
 use Rattle.jfr_base.specs.declared.flaw.Flaw.{Flaw}
+use Rattle.jfr_header.specs.Cuts.{cut}
 use Rattle.jfr_plan.specs.Ends.{End, Fine}
+use Rattle.jfr_plan.specs.Effects.{Effect, Create, Append, Finish, effects}
 use Rattle.jfr_plan.specs.Rules.{Rule, Asked, Stops, Goes, walk, walk_on, walk_end, asked, IsGoing, AllGo, cut_after, plan_after}
 use Rattle.jfr_plan.specs.Makes.{making, asks_made}
 use Rattle.jfr_plan.specs.Accepted.{AllGood, AllAccepted}
@@ -73,3 +75,18 @@ making_ends_well output refusal becomes x =
     goes : (o : Option Flaw) (n : ℕ) (m : List ℕ) → IsGoing (asks_made o n m) ↔ (o ≡ None)
     goes None n m = (λ g. refl, λ g. refl)
     goes (Some f) n m = (λ g. cc, λ g. cc)
+
+-- The effects of this work over chunks of which none is refused.
+made : (output : List ℕ) (refusal : List ℕ → Option Flaw) (becomes : List ℕ → List ℕ) (before cs : List (List ℕ)) (flaw : Option Flaw) → flaw ≡ None → AllByRecursion (λ c. refusal c ≡ None) cs
+    → effects (walk (making output refusal becomes) before cs flaw).steps ≡ map (λ c. Append (becomes c)) cs ++ Finish ∷ []
+made output refusal becomes before [] flaw f h = ap (λ (o : Option Flaw). effects (walk_end (making output refusal becomes) before o).steps) f
+made output refusal becomes before (c ∷ cs) flaw f h =
+    ap (λ (o : Option Flaw). effects (walk_on (asks_made o (length before + 1) (becomes c)) (length before + 1) (walk (making output refusal becomes) (before ++ c ∷ []) cs flaw)).steps) h.0
+    ∙ ap (λ (es : List Effect). Append (becomes c) ∷ es) (made output refusal becomes (before ++ c ∷ []) cs flaw f h.1)
+
+-- Where it ends well, each chunk's output is appended.
+pub all_made : (output : List ℕ) (refusal : List ℕ → Option Flaw) (becomes : List ℕ → List ℕ) (x : List ℕ) → (plan_after (making output refusal becomes) [] (Some x)).end ≡ Some Fine
+    → effects (plan_after (making output refusal becomes) [] (Some x)).steps ≡ Create output ∷ map (λ c. Append (becomes c)) (cut x 0 true).chunks ++ Finish ∷ []
+all_made output refusal becomes x e =
+    let g = (making_ends_well output refusal becomes x).0 e in
+    ap (λ (es : List Effect). Create output ∷ es) (made output refusal becomes [] (cut x 0 true).chunks (cut x 0 true).flaw g.flawless g.each)

@@ -10,9 +10,9 @@ ghost use Rattle.jfr_sample.specs.Sample.{sample_of};
 
 /// A command that writes text ends well exactly if the recording is cut into chunks without a flaw and
 /// none of them is refused.
-pub fn reports_end_well(recording: &[u8])
-    ensures { (texts : ℕ → Parts → List (List ℕ)) (last : List (List ℕ) → List (List ℕ))
-        → ((plan_after (texting texts last) [] (Some recording.now)).end ≡ Some Fine) ↔ AllAccepted refusal_of recording.now }
+pub fn reports_end_well()
+    ensures { (texts : ℕ → Parts → List (List ℕ)) (last : List (List ℕ) → List (List ℕ)) (x : List ℕ)
+        → ((plan_after (texting texts last) [] (Some x)).end ≡ Some Fine) ↔ AllAccepted refusal_of x }
 {}
 
 /// The sample of every seed with 1 to 1,000,000 events is a chunk that is accepted.

@@ -25,10 +25,10 @@ pub fn scrubbed_again_stays_the_same()
 
 /// Scrubbing ends well exactly if the recording is cut into chunks without a flaw and none of them is
 /// refused. Then no chunk is left out: those before the first refused one are all chunks.
-pub fn scrubbing_ends_well(output: &[u8], recording: &[u8])
-    ensures exactly { (g : Given) → ((plan_after (scrubbing g output.now) [] (Some recording.now)).end ≡ Some Fine) ↔ AllAccepted refusal_of recording.now }
-    ensures all { (g : Given) → (plan_after (scrubbing g output.now) [] (Some recording.now)).end ≡ Some Fine
-        → before_refused refusal_of (cut recording.now 0 true).chunks ≡ (cut recording.now 0 true).chunks }
+pub fn scrubbing_ends_well()
+    ensures exactly { (g : Given) (output x : List ℕ) → ((plan_after (scrubbing g output) [] (Some x)).end ≡ Some Fine) ↔ AllAccepted refusal_of x }
+    ensures all { (g : Given) (output x : List ℕ) → (plan_after (scrubbing g output) [] (Some x)).end ≡ Some Fine
+        → before_refused refusal_of (cut x 0 true).chunks ≡ (cut x 0 true).chunks }
 {}
 
 /// The outputs of a recording's parts, one after another, are the output of the whole, byte for byte. So the

@@ -1,5 +1,5 @@
 //! What holds of cutting and joining.
-ghost use Rattle.std.specs.Prelude.{◌≡◌, ◌↔◌, Some};
+ghost use Rattle.std.specs.Prelude.{◌≡◌, ◌↔◌, ℕ, List, Some};
 ghost use Rattle.std.specs.FinMap.{empty, values};
 ghost use Rattle.jfr_outside.specs.World.{Files};
 ghost use Rattle.jfr_plan.specs.Ends.{Fine};
@@ -11,28 +11,28 @@ ghost use Rattle.jfr_split.specs.Groups.{AreWritten};
 
 /// The parts of a recording that is split to its end are its chunks in groups. A chunk starts a new part
 /// exactly if the part before was full for it.
-pub fn parts_are_written(file: &[u8], recording: &[u8])
-    ensures { (rule : SplitRule) → (split_plan rule file.now recording.now).end ≡ Some Fine
-        → AreWritten rule file.now recording.now }
+pub fn parts_are_written()
+    ensures { (rule : SplitRule) (file recording : List ℕ) → (split_plan rule file recording).end ≡ Some Fine
+        → AreWritten rule file recording }
 {}
 
 /// Joining gives the recording back: if it was split to its end, in a folder that had no files to join
 /// before, joining the folder's files gives an output with the recording's bytes.
-pub fn recording_returns(folder: &[u8], file: &[u8], output: &[u8], recording: &[u8])
-    ensures { (rule : SplitRule) (before : Snapshot) → IsUsable rule → folder_of rule ≡ Some folder.now
-        → files_in folder.now before.files ≡ empty
-        → (split_plan rule file.now recording.now).end ≡ Some Fine
-        → Returns folder.now output.now recording.now (split rule file.now recording.now before) }
+pub fn recording_returns()
+    ensures { (rule : SplitRule) (folder file output recording : List ℕ) (before : Snapshot) → IsUsable rule → folder_of rule ≡ Some folder
+        → files_in folder before.files ≡ empty
+        → (split_plan rule file recording).end ≡ Some Fine
+        → Returns folder output recording (split rule file recording before) }
 {}
 
 /// Cutting ends well exactly if the recording is cut into chunks without a flaw, and they need no more
 /// parts than there may be.
-pub fn cutting_ends_well(file: &[u8], recording: &[u8])
-    ensures { (rule : SplitRule) → ((split_plan rule file.now recording.now).end ≡ Some Fine) ↔ FitsParts rule recording.now }
+pub fn cutting_ends_well()
+    ensures { (rule : SplitRule) (file recording : List ℕ) → ((split_plan rule file recording).end ≡ Some Fine) ↔ FitsParts rule recording }
 {}
 
 /// Joining ends well exactly if the folder has a file to be joined, and each of them is cut into chunks
 /// without a flaw.
-pub fn joining_ends_well(folder: &[u8], output: &[u8])
-    ensures { (files : Files) → ((assembling folder.now output.now files).end ≡ Some Fine) ↔ AreJoinable (values (files_in folder.now files)) }
+pub fn joining_ends_well()
+    ensures { (folder output : List ℕ) (files : Files) → ((assembling folder output files).end ≡ Some Fine) ↔ AreJoinable (values (files_in folder files)) }
 {}

@@ -1,6 +1,6 @@
 //! Real files. The contracts of `Place` are about the contents of all files, of which a proof can know nothing
 //! here. So additional clauses say what a call does to the open file.
-ghost use Rattle.std.specs.Prelude.{◌≡◌, ◌≤◌, length, IfOk, IsSome, None, OnOk};
+ghost use Rattle.std.specs.Prelude.{◌≡◌, ◌≤◌, length, IfOk, IsSome, None, OnErr, OnOk};
 ghost use Rattle.std.specs.Io.KnownBytes.{Appends};
 ghost use Rattle.jfr_outside.specs.Counts.{Counts};
 ghost use Rattle.jfr_outside.specs.World.{bytes_in};
@@ -117,6 +117,7 @@ impl<'a, R: Files + Alloc + Clone + Drop> Place for FilePlace<'a, R> {
 
     fn open_input(&mut self, name: &str) -> Result<(), Fault>
         ensures open { OnOk result (IsSome self.new.input) }
+        ensures shut { OnErr result (self.new.input ≡ None) }
         ensures reads { Counts result self.old.read_faults self.new.read_faults }
         ensures writes { self.new.write_faults ≡ self.old.write_faults }
     {
@@ -156,6 +157,7 @@ impl<'a, R: Files + Alloc + Clone + Drop> Place for FilePlace<'a, R> {
 
     fn create_output(&mut self, name: &str) -> Result<(), Fault>
         ensures open { OnOk result ((self.old.output ≡ None) × IsSome self.new.output) }
+        ensures shut { OnErr result (self.new.output ≡ None) }
         ensures reads { self.new.read_faults ≡ self.old.read_faults }
         ensures writes { Counts result self.old.write_faults self.new.write_faults }
     {
@@ -194,6 +196,7 @@ impl<'a, R: Files + Alloc + Clone + Drop> Place for FilePlace<'a, R> {
     /// If the call fails or runs out of memory, the file is closed.
     fn append_pieces(&mut self, pieces: &[&[u8]]) -> Result<(), Fault>
         ensures grew { OnOk result (Grew R.File.contents self.old.output self.new.output (bytes_in pieces.now)) }
+        ensures shut { OnErr result (self.new.output ≡ None) }
         ensures reads { self.new.read_faults ≡ self.old.read_faults }
         ensures writes { Counts result self.old.write_faults self.new.write_faults }
     {

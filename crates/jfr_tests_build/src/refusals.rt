@@ -2,7 +2,7 @@
 use jfr_base::Reason;
 use jfr_build::{BuildFault, BuildReason, build};
 
-const ROWS: [(&[u8], u64, BuildReason); 22] = [
+const ROWS: [(&[u8], u64, BuildReason); 32] = [
     (
         b"class 5 long\nevent 8 t.A\nfield n 5 -\nrecord 8 x",
         4,
@@ -68,6 +68,32 @@ const ROWS: [(&[u8], u64, BuildReason); 22] = [
         b"class 6 java.lang.String\nconstant 6 1 \"\\u0041\"",
         2,
         BuildReason::ValueBad,
+    ),
+    (b"region en 0\nregion en 0", 2, BuildReason::LineBad),
+    (b"region en", 1, BuildReason::LineBad),
+    (b"region  0", 1, BuildReason::LineBad),
+    (b"region en +1", 1, BuildReason::LineBad),
+    (b"region en 0 0", 1, BuildReason::LineBad),
+    (b"region en -2147483649", 1, BuildReason::ValueBad),
+    (
+        b"region en 2147483648\nevent 8 e\nrecord 8 x",
+        1,
+        BuildReason::ValueBad,
+    ),
+    (
+        b"event 8 e\nrecord 8 x\nregion en 9999999999999999999",
+        2,
+        BuildReason::ValueBad,
+    ),
+    (
+        b"class 5 long\nevent 8 t\nregion en 0\nfield n 5 -\nfield m 6 -",
+        5,
+        BuildReason::Class(Reason::UnknownType),
+    ),
+    (
+        b"class 5 long\nregion en 2147483648\nevent 8 t\nfield m 6 -",
+        4,
+        BuildReason::Class(Reason::UnknownType),
     ),
 ];
 

@@ -5,6 +5,6 @@ use Rattle.jfr_build.proofs.described.root_of.Given as goal
 
 abbrev pub invariant-loop-at : goal.invariant-loop-at
 invariant-loop-at l = record {
-  trees : class_trees 12 l.classes ≡ l.elements ++ class_trees (length l.strings) (drop l.at l.classes);
+  trees : class_trees 15 l.classes ≡ l.elements ++ class_trees (length l.strings) (drop l.at l.classes);
   texts : fixed_texts ++ flat_map class_texts l.classes ≡ l.strings ++ flat_map class_texts (drop l.at l.classes);
 }

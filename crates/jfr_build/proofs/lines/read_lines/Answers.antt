@@ -1,5 +1,5 @@
 use Rattle.std.proofs.Common.{◌≡◌, ◌+◌, ◌≤◌, ap, arith, length, ◌∙◌}
-use Rattle.jfr_build.specs.Lines.{any_class, any_value, read_from, read_lines}
+use Rattle.jfr_build.specs.Lines.{any_class, any_region, any_value, read_from, read_lines}
 use Rattle.jfr_build.specs.Pieces.{pieces}
 use Rattle.jfr_build.proofs.PieceLaws.{few_pieces}
 use Rattle.jfr_build.proofs.lines.read_lines.Goals as goal
@@ -13,5 +13,6 @@ lines-init c =
       same = ap (λ z. read_from 1 z c.of-unread.result) c.in_ok-lines.ensures.items ∙ ap (read_from 1 _) c.of-unread.ensures;
       class = ap any_class c.in_ok-lines.ensures.items;
       value = ap any_value c.in_ok-lines.ensures.items;
+      region = ap any_region c.in_ok-lines.ensures.items;
       few = omega (arith, few, all, c.requires);
     }

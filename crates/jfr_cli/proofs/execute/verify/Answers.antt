@@ -1,6 +1,6 @@
 use Rattle.std.specs.Prelude.{◌≡◌, IfSome, IsTrue}
 use Rattle.jfr_verify.specs.declared.verdict.Verdict.TheVariants as verdicts
-use Rattle.jfr_verify.specs.Verdicts.{AllVerified, LacksOne, VerdictOf, three}
+use Rattle.jfr_verify.specs.Verdicts.{AllVerified, HasNoVerdict, LacksOne, VerdictOf, three}
 use Rattle.jfr_words.specs.Words.{file_name}
 use Rattle.jfr_cli.proofs.Orders.{named}
 use Rattle.jfr_cli.proofs.Checking.{check_verified, check_refused, check_halted, check_short, check_doubted, renamed}
@@ -74,6 +74,7 @@ returns-in-ReadFault g c =
     let b = named o n.output.now c.as_str-output.utf8 c.as_str-output.ensures in
     let d = named r n.receipt.now c.as_str.utf8 c.as_str.ensures in
     check_halted f n.input.now n.output.now n.receipt.now p q s c.verify_stream.ensures.unchanged
+    (renamed i (file_name n.input.now) o (file_name n.output.now) r (file_name n.receipt.now) (λ i o r. IsTrue p.steady → verdicts.ReadFault ≡ verdicts.ReadFault → IfSome p.contents (λ w. HasNoVerdict f (three i o r w))) a b d c.in-ReadFault.ensures.undecided)
     (renamed i (file_name n.input.now) o (file_name n.output.now) r (file_name n.receipt.now) (λ i o r. IsTrue p.steady → verdicts.ReadFault ≡ verdicts.ReadFault → IfSome p.contents (λ w. LacksOne (three i o r w))) a b d c.in-ReadFault.ensures.steady)
     c.in-ReadFault.ensures.counts
 

@@ -1,4 +1,4 @@
-use Rattle.std.proofs.Common.{◌∙◌, ap, subst, sym, true, Some}
+use Rattle.std.proofs.Common.{◌∙◌, subst, sym, Some}
 use Rattle.jfr_path.specs.Verdicts.{AllowsThreads, AllowsTimes}
 use Rattle.jfr_path.proofs.VerdictLaws.{kept}
 use Rattle.jfr_path.proofs.verdict.verdict_on.Goals as goal

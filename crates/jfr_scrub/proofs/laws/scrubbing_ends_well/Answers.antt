@@ -2,7 +2,7 @@ use Rattle.jfr_scrub.proofs.EndsWell.{scrub_ends_well, all_before}
 use Rattle.jfr_scrub.proofs.laws.scrubbing_ends_well.Goals as goal
 
 pub returns-clause-exactly : goal.returns-clause-exactly
-returns-clause-exactly c = λ f. scrub_ends_well f c.args.output.now c.args.recording.now
+returns-clause-exactly c = λ g output x. scrub_ends_well g output x
 
 pub returns-clause-all : goal.returns-clause-all
-returns-clause-all c = λ f e. all_before f c.args.output.now c.args.recording.now e
+returns-clause-all c = λ g output x e. all_before g output x e

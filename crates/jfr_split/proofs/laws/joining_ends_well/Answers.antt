@@ -2,4 +2,4 @@ use Rattle.jfr_split.proofs.EndsWell.{assembling_well}
 use Rattle.jfr_split.proofs.laws.joining_ends_well.Goals as goal
 
 pub returns : goal.returns
-returns c = assembling_well c.args.folder.now c.args.output.now
+returns c = assembling_well

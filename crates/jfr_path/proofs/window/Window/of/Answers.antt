@@ -1,5 +1,4 @@
-use Rattle.std.proofs.Common.{rules, ap, sym, ◌∙◌, ◌<◌, ◌^◌, ◌≡◌, ◌-ℤ◌, ◌*ℤ◌, FitsSigned, of_z, to_z, w64}
-use Rattle.std.specs.Prelude.{option_map}
+use Rattle.std.proofs.Common.{rules, ap, ◌∙◌, ◌<◌, ◌^◌, ◌≡◌, FitsSigned, of_z, to_z, w64}
 use Rattle.std.proofs.lemmas.Int.{to_z-of_z}
 use Rattle.jfr_header.specs.declared.header.Header.{Header}
 use Rattle.jfr_chunk.specs.Windows.{clock_of, signed}
