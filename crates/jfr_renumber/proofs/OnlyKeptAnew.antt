@@ -1,8 +1,8 @@
 -- The output with new keys is made of what it tells, and chunks that agree on all that stays have equal ones.
-use Rattle.std.specs.Prelude.{◌≡◌, ℕ, not, ◌&&◌, ◌||◌, ◌==◌, Bool, true, false, List, [], ◌∷◌, ◌++◌, find, map, filter, slice_range, length, Option, Some, None, Contains}
+use Rattle.std.specs.Prelude.{◌≡◌, ℕ, not, ◌&&◌, ◌||◌, ◌==◌, Bool, List, [], ◌∷◌, ◌++◌, find, map, slice_range, length, Option, Some, None, Contains}
 use Rattle.std.specs.Option.{option_map_or}
 use Rattle.std.specs.Str.{bytes_eq}
-use Rattle.std.proofs.Common.{ap, arith, refl, sym, ◌∙◌, subst, inl, inr}
+use Rattle.std.proofs.Common.{ap, refl, sym, ◌∙◌}
 use Rattle.jfr_base.specs.Integer.{spell}
 use Rattle.jfr_base.proofs.AlikeLaws.{Each}
 use Rattle.jfr_base.proofs.UnitLaws.{one_run}
@@ -30,7 +30,7 @@ use Rattle.jfr_laws.proofs.OnlyKept.{Events, Entries, events, entries, told_same
 use Rattle.jfr_laws.proofs.Outlines.{Spelled}
 use Rattle.jfr_laws.proofs.PoolsAlike.{AnswersAlike, Related, pools_filter, related_filter}
 use Rattle.jfr_laws.proofs.Premises.{recorded}
-use Rattle.jfr_laws.proofs.ToldLaws.{AreWritten, all_apart, rendered_same}
+use Rattle.jfr_laws.proofs.ToldLaws.{all_apart, rendered_same}
 use Rattle.jfr_renumber.specs.Rekeyed.{rekeyed, rekeyed_bytes}
 use Rattle.jfr_renumber.specs.Renumber.{used_keys, pair_of, equal_values, together, new_key, firsts, firsts_with, entry_bytes, event_bytes, new_bytes, whole_bytes, written_by, renumber_with}
 use Rattle.jfr_renumber.specs.Keys.{group_number}

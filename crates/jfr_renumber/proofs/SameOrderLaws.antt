@@ -1,6 +1,6 @@
 -- New keys depend only on the order of the old ones, and on which are together.
 use Rattle.std.specs.Prelude.{◌≡◌, ◌⊎◌, ℕ, zero, suc, ◌<◌, ◌≤◌, Bool, true, List, Contains}
-use Rattle.std.proofs.Common.{ap, arith, refl, sym, ◌∙◌, subst, inl, inr}
+use Rattle.std.proofs.Common.{ap, arith, sym, ◌∙◌, subst, inl, inr}
 use Rattle.jfr_worklist.specs.Members.{In}
 use Rattle.jfr_worklist.proofs.Members.{contains_in, in_contains}
 use Rattle.jfr_renumber.specs.Keys.{Together, count_below, smallest, begins, group_number}
