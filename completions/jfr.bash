@@ -4,8 +4,9 @@
 
 _jfr() {
     local current=${COMP_WORDS[COMP_CWORD]} options='' names=() word
+    local window='--from --to --always'
     local filter='--include-events --exclude-events --include-categories --exclude-categories'
-    filter+=' --include-threads --exclude-threads'
+    filter+=" --include-threads --exclude-threads --describe $window"
     COMPREPLY=()
 
     if ((COMP_CWORD == 1)); then
@@ -17,14 +18,17 @@ _jfr() {
     # The options, and what each name is: a file, a folder, or nothing that can be offered.
     case ${COMP_WORDS[1]} in
         print)
-            options='--events --categories --depth --json'
+            options="--events --categories $window --depth --json"
             names=(file)
             ;;
         stacks)
-            options='--events --categories'
+            options="--events --categories $window"
             names=(file)
             ;;
-        summary | metadata) names=(file) ;;
+        summary | metadata)
+            options='--json'
+            names=(file)
+            ;;
         scrub)
             options="$filter --renumber"
             names=(file file)

@@ -1,12 +1,12 @@
 -- Events with equal record bytes, under classes that agree, mean the same if all that their paths lead to is
 -- the same.
-use Rattle.std.specs.Prelude.{◌≡◌, ℕ, ◌≤◌, List, [], ◌∷◌, ◌++◌, length, slice_range, Contains}
+use Rattle.std.specs.Prelude.{◌≡◌, ℕ, ◌-◌, ◌≤◌, List, [], ◌∷◌, ◌++◌, length, slice_range, Contains}
 use Rattle.std.proofs.Common.{ap, arith, refl, sym, ◌∙◌, subst, inl, inr}
 use Rattle.std.proofs.lemmas.List.Elements.{All-contains}
 use Rattle.jfr_base.specs.Formats.{Exactly}
 use Rattle.jfr_base.proofs.IntegerLaws.{one_front}
 use Rattle.jfr_base.proofs.UnitLaws.{one_run}
-use Rattle.jfr_base.proofs.Ranges.{range_split}
+use Rattle.jfr_base.proofs.Ranges.{range_split, range_length}
 use Rattle.jfr_base.proofs.FreeLaws.{reads_exact}
 use Rattle.jfr_base.proofs.OnceLaws.{exact_same}
 use Rattle.jfr_layout.specs.Classes.{Agree}
@@ -36,14 +36,24 @@ record_split c r i =
     let d : r.body ≤ record_end r = i.covers in
     range_split c r.at r.type_at (record_end r) a (omega arith) ∙ ap (λ z. slice_range c r.at r.type_at ++ z) (range_split c r.type_at r.body (record_end r) b d)
 
--- Equal records have equal bodies.
-body_same : (c d : List ℕ) (r s : Framed) → IsRecord c r → IsRecord d s → record_bytes c r ≡ record_bytes d s → body_bytes c r ≡ body_bytes d s
-body_same c d r s i j e =
+-- Two records have sizes of the same length, and the same bytes of type and body.
+pub record SameFields (c d : List ℕ) (r s : Framed) : Type 0 where
+  pub width : r.type_at - r.at ≡ s.type_at - s.at
+  pub type : slice_range c r.type_at r.body ≡ slice_range d s.type_at s.body
+  pub body : body_bytes c r ≡ body_bytes d s
+
+-- Equal records have equal parts.
+pub same_fields : (c d : List ℕ) (r s : Framed) → IsRecord c r → IsRecord d s → record_bytes c r ≡ record_bytes d s → SameFields c d r s
+same_fields c d r s i j e =
     let q = sym (record_split c r i) ∙ (e ∙ record_split d s j) in
     let size = one_front 8 (slice_range c r.at r.type_at) (slice_range d s.at s.type_at) (slice_range c r.type_at r.body ++ body_bytes c r) (slice_range d s.type_at s.body ++ body_bytes d s) i.size_spelled.spelled.form j.size_spelled.spelled.form q in
     let rest = (one_run (slice_range c r.at r.type_at) (slice_range d s.at s.type_at) (slice_range c r.type_at r.body ++ body_bytes c r) (slice_range d s.type_at s.body ++ body_bytes d s) q (ap length size)).1 in
     let type = one_front 8 (slice_range c r.type_at r.body) (slice_range d s.type_at s.body) (body_bytes c r) (body_bytes d s) i.type_spelled.spelled.form j.type_spelled.spelled.form rest in
-    (one_run (slice_range c r.type_at r.body) (slice_range d s.type_at s.body) (body_bytes c r) (body_bytes d s) rest (ap length type)).1
+    record {
+      width = sym (range_length c r.at r.type_at i.size_spelled.within) ∙ (ap length size ∙ range_length d s.at s.type_at j.size_spelled.within);
+      type = type;
+      body = (one_run (slice_range c r.type_at r.body) (slice_range d s.type_at s.body) (body_bytes c r) (body_bytes d s) rest (ap length type)).1;
+    }
 
 module _ (p q : Parts) where
   event_bytes : (e f : EventAt) → IsEvent p e → IsEvent q f → IsRecord p.bytes e.record_of → IsRecord q.bytes f.record_of → SameRecord p q e f → node_bytes p.bytes e.node ≡ node_bytes q.bytes f.node
@@ -57,11 +67,11 @@ module _ (p q : Parts) where
       let y = range_split q.bytes f.record_of.body f.node.end (record_end f.record_of) b.order b.within in
       let same = exact_same (value_format p.classes shape) (slice_range p.bytes e.record_of.body e.node.end) (slice_range q.bytes f.record_of.body f.node.end) (slice_range p.bytes e.node.end (record_end e.record_of)) (slice_range q.bytes f.node.end (record_end f.record_of)) i.value j.value
       a.exact (subst (λ z. Exactly z (slice_range q.bytes f.record_of.body f.node.end) j.value) g b.exact)
-      (sym x ∙ (body_same p.bytes q.bytes e.record_of f.record_of r s h.bytes ∙ y)) in
+      (sym x ∙ ((same_fields p.bytes q.bytes e.record_of f.record_of r s h.bytes).body ∙ y)) in
       ap (λ z. slice_range p.bytes z e.node.end) i.at ∙ (same ∙ ap (λ z. slice_range q.bytes z f.node.end) (sym j.at))
 
   module _ (a : AreParts p) (b : AreParts q) where
-    event_pair : (e f : EventAt) → IsEvent p e → IsEvent q f → SameRecord p q e f → Pair p q (has_nodes p a) (has_nodes q b) e.node f.node
+    pub event_pair : (e f : EventAt) → IsEvent p e → IsEvent q f → SameRecord p q e f → Pair p q (has_nodes p a) (has_nodes q b) e.node f.node
     event_pair e f i j h =
         let r = all_in (IsRecord p.bytes) p.records e.record_of (tiles_each p.bytes 68 (length p.bytes) p.records a.records) i.listed in
         let s = all_in (IsRecord q.bytes) q.records f.record_of (tiles_each q.bytes 68 (length q.bytes) q.records b.records) j.listed in

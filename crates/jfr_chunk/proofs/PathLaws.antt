@@ -100,7 +100,11 @@ module _ (p q : Parts) (s : HasNodes p) (r : HasNodes q) where
             agree = subst (Agree p.classes q.classes) i h;
           }
 
-  follow_pair : (n o : NodeAt) → Pair n o → ((t : ℕ × ℕ) → target p.classes p.bytes n ≡ Some t → SameEntry p q t) → Both Pair (follow p n) (follow q o)
+  -- Both nodes refer to the same.
+  pub pair_target : (n o : NodeAt) → Pair n o → target p.classes p.bytes n ≡ target q.classes q.bytes o
+  pair_target n o x = target_is p.classes p.bytes n x.value s.sound x.left ∙ sym (target_is q.classes q.bytes o x.value r.sound x.right)
+
+  pub follow_pair : (n o : NodeAt) → Pair n o → ((t : ℕ × ℕ) → target p.classes p.bytes n ≡ Some t → SameEntry p q t) → Both Pair (follow p n) (follow q o)
   follow_pair n o x h =
       subst (λ z. Both Pair (option_and_then (λ t. option_map entry_node (in_force p.entries t)) z) (follow q o)) (sym a)
       (subst (λ z. Both Pair (option_and_then (λ t. option_map entry_node (in_force p.entries t)) (own_target x.value)) (option_and_then (λ t. option_map entry_node (in_force q.entries t)) z)) (sym b)
@@ -125,16 +129,23 @@ module _ (p q : Parts) (s : HasNodes p) (r : HasNodes q) where
   step_pair n o (steps.Item i) x h = child_pair n o (steps.Item i) x
   step_pair n o steps.Follow x h = follow_pair n o x (λ t e. h [] n t refl e)
 
-  pub paths_same : (path : List Step) (n o : NodeAt) → Pair n o → MeetsSame n → Both (SameNode p.bytes q.bytes) (leads p n path) (leads q o path)
-  paths_same [] n o x h = same_node n o x
-  paths_same (st ∷ path) n o x h = by_step (step p n st) (step q o st) refl (step_pair n o st x h) (λ m k. paths_same path m k)
+  -- A path leads from both nodes to nodes with the same value, or from both nowhere.
+  pub paths_pair : (path : List Step) (n o : NodeAt) → Pair n o → MeetsSame n → Both Pair (leads p n path) (leads q o path)
+  paths_pair [] n o x h = x
+  paths_pair (st ∷ path) n o x h = by_step (step p n st) (step q o st) refl (step_pair n o st x h) (λ m k. paths_pair path m k)
     where
-      by_step : (a b : Option NodeAt) → step p n st ≡ a → Both Pair a b → ((m k : NodeAt) → Pair m k → MeetsSame m → Both (SameNode p.bytes q.bytes) (leads p m path) (leads q k path))
-          → Both (SameNode p.bytes q.bytes) (option_and_then (λ m. leads p m path) a) (option_and_then (λ m. leads q m path) b)
+      by_step : (a b : Option NodeAt) → step p n st ≡ a → Both Pair a b → ((m k : NodeAt) → Pair m k → MeetsSame m → Both Pair (leads p m path) (leads q k path))
+          → Both Pair (option_and_then (λ m. leads p m path) a) (option_and_then (λ m. leads q m path) b)
       by_step None None e y f = tt
       by_step None (Some k) e y f = absurd y
       by_step (Some m) None e y f = absurd y
       by_step (Some m) (Some k) e y f = f m k y (λ pre u t l z. h (st ∷ pre) u t (ap (option_and_then (λ m. leads p m pre)) e ∙ l) z)
 
   pub law_of_paths : (n o : NodeAt) → Pair n o → MeetsSame n → SamePaths p q n o
-  law_of_paths n o x h path = paths_same path n o x h
+  law_of_paths n o x h path = by_pair (leads p n path) (leads q o path) (paths_pair path n o x h)
+    where
+      by_pair : (a b : Option NodeAt) → Both Pair a b → Both (SameNode p.bytes q.bytes) a b
+      by_pair None None y = tt
+      by_pair None (Some k) y = absurd y
+      by_pair (Some m) None y = absurd y
+      by_pair (Some m) (Some k) y = same_node m k y

@@ -32,7 +32,7 @@ flaw_is e o why p q =
     ap (λ z. flaw z why) (sym p) ∙ ap (λ z. flaw e.offset z) (sym q)
 
 -- What a test finds passes it.
-found_in : {X : Type 0} (t : X → Bool) (xs : List X) (x : X) → find t xs ≡ Some x → In xs x × (t x ≡ true)
+pub found_in : {X : Type 0} (t : X → Bool) (xs : List X) (x : X) → find t xs ≡ Some x → In xs x × (t x ≡ true)
 found_in t [] x e = cc
 found_in {X = X} t (y ∷ ys) x e = by_test (t y) refl e (found_in t ys x)
   where

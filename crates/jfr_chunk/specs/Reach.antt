@@ -1,5 +1,5 @@
 -- The entries that the kept events reach: by paths of any length, and the same by a computation.
-use Rattle.std.specs.Prelude.{◌≡◌, ℕ, zero, suc, Bool, true, false, List, [], ◌∷◌, ◌++◌, length, replicate, slice_get, slice_set, slice_index_or, Option, Some, None, Contains}
+use Rattle.std.specs.Prelude.{◌≡◌, ℕ, Bool, true, false, List, [], ◌∷◌, ◌++◌, length, replicate, slice_get, Some, Contains}
 use Rattle.std.specs.Option.{option_map_or}
 use Rattle.jfr_worklist.specs.Marks.{those, marked_at, swept}
 use Rattle.jfr_layout.specs.Classes.{Classes}
@@ -9,6 +9,15 @@ use Rattle.jfr_pool.specs.declared.entry.EntryAt.{EntryAt}
 use Rattle.jfr_pool.specs.Entries.{number_in_force, entry_node}
 use Rattle.jfr_chunk.specs.Parts.{Parts, EventAt, events_of}
 use Rattle.jfr_chunk.specs.Paths.{leads}
+
+-- A path of a kept event leads to a node that refers to this class and key.
+pub record Used (p : Parts) (kept : List EventAt) (t : ℕ × ℕ) : Type 0 where
+  pub event : EventAt
+  pub is_kept : Contains kept event
+  pub path : List Step
+  pub node : NodeAt
+  pub leads_there : leads p event.node path ≡ Some node
+  pub refers : target p.classes p.bytes node ≡ Some t
 
 -- A path from a kept event leads to a node that refers to a class and a key, and the entry in force for them
 -- has this number.

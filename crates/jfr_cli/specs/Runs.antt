@@ -39,8 +39,8 @@ abbrev pub Wrote : Order → Ending → State → State → Type 0
 Wrote (orders.Scrub g false input output) e a b = IsByPlan e → IfKnown a.contents b.contents (Scrubs g (file_name input) (file_name output))
 Wrote (orders.Scrub g true input output) e a b = IsByPlan e → IfKnown a.contents b.contents (Renumbers g (file_name input) (file_name output))
 Wrote (orders.Print g depth json file) e a b = ⊤
-Wrote (orders.Summary file) e a b = ⊤
-Wrote (orders.Metadata file) e a b = ⊤
+Wrote (orders.Summary json file) e a b = ⊤
+Wrote (orders.Metadata json file) e a b = ⊤
 Wrote (orders.Disassemble file rule) e a b = ⊤
 Wrote (orders.Assemble folder output) e a b = ⊤
 Wrote (orders.Sample seed events) e a b = ⊤

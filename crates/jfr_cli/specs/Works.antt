@@ -59,8 +59,8 @@ verdict_plan _ = record { steps = []; end = None }
 -- The work of an order.
 abbrev pub work_of : Order → Work
 work_of (orders.Print g depth json file) = Over (printing g depth json) (file_name file)
-work_of (orders.Summary file) = Over summing (file_name file)
-work_of (orders.Metadata file) = Over describing (file_name file)
+work_of (orders.Summary json file) = Over (summing json) (file_name file)
+work_of (orders.Metadata json file) = Over (describing json) (file_name file)
 work_of (orders.Scrub g renumber input output) = Over (scrub_rule g renumber (file_name output)) (file_name input)
 work_of (orders.Disassemble file rule) = Over (splitting rule (file_name file)) (file_name file)
 work_of (orders.Assemble folder output) = Joins (file_name folder) (file_name output)
@@ -162,8 +162,8 @@ CanCreateFor (orders.Scrub g renumber input output) a = CanCreate (file_name out
 CanCreateFor (orders.Disassemble file rule) a = CanCreateAll (splitting rule (file_name file)) (file_name file) a
 CanCreateFor (orders.Assemble folder output) a = CanCreate (file_name output) a
 CanCreateFor (orders.Print g depth json file) a = ⊥
-CanCreateFor (orders.Summary file) a = ⊥
-CanCreateFor (orders.Metadata file) a = ⊥
+CanCreateFor (orders.Summary json file) a = ⊥
+CanCreateFor (orders.Metadata json file) a = ⊥
 CanCreateFor (orders.Sample seed events) a = ⊥
 CanCreateFor (orders.Receipt g input receipt) a = CanCreate (file_name receipt) a
 CanCreateFor (orders.Verify g input output receipt) a = ⊥

@@ -48,8 +48,8 @@ pub(crate) fn execute<P: Place, O: Sink>(
             };
             Answer::Ended(print(alloc, place, out, &events))
         }
-        Order::Summary { file } => Answer::Ended(summary(alloc, place, out, file)),
-        Order::Metadata { file } => Answer::Ended(metadata(alloc, place, out, file)),
+        Order::Summary { json, file } => Answer::Ended(summary(alloc, place, out, *json, file)),
+        Order::Metadata { json, file } => Answer::Ended(metadata(alloc, place, out, *json, file)),
         Order::Scrub {
             filter,
             renumber: new_keys,
@@ -126,16 +126,28 @@ fn print<P: Place, O: Sink>(
     print_stream(alloc, place, out, file.as_str(), filter, depth, json)
 }
 
-fn summary<P: Place, O: Sink>(alloc: Global, place: &mut P, out: &mut O, file: &Text) -> Ending
-    ensures { Carries (orders.Summary file.now) result (outside (P.state place.old) (O.state out.old)) (outside (P.state place.new) (O.state out.new)) }
+fn summary<P: Place, O: Sink>(
+    alloc: Global,
+    place: &mut P,
+    out: &mut O,
+    json: bool,
+    file: &Text,
+) -> Ending
+    ensures { Carries (orders.Summary json file.now) result (outside (P.state place.old) (O.state out.old)) (outside (P.state place.new) (O.state out.new)) }
 {
-    summary_stream(alloc, place, out, file.as_str())
+    summary_stream(alloc, place, out, file.as_str(), json)
 }
 
-fn metadata<P: Place, O: Sink>(alloc: Global, place: &mut P, out: &mut O, file: &Text) -> Ending
-    ensures { Carries (orders.Metadata file.now) result (outside (P.state place.old) (O.state out.old)) (outside (P.state place.new) (O.state out.new)) }
+fn metadata<P: Place, O: Sink>(
+    alloc: Global,
+    place: &mut P,
+    out: &mut O,
+    json: bool,
+    file: &Text,
+) -> Ending
+    ensures { Carries (orders.Metadata json file.now) result (outside (P.state place.old) (O.state out.old)) (outside (P.state place.new) (O.state out.new)) }
 {
-    metadata_stream(alloc, place, out, file.as_str())
+    metadata_stream(alloc, place, out, file.as_str(), json)
 }
 
 fn stacks<P: Place, O: Sink>(

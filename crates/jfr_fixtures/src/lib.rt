@@ -4,6 +4,7 @@
 mod chunks;
 mod jdk_like;
 mod jdk_slim;
+mod moments;
 mod null_name;
 mod records;
 mod slim;
@@ -17,6 +18,7 @@ pub use jdk_slim::{
     ENTER_AND_LOAD_CLASSES, ENTER_CLASSES, LOAD_CLASSES, NO_JDK_EVENT_CLASSES,
     PARK_AND_ENTER_CLASSES, PARK_CLASSES,
 };
+pub use moments::{Clock, timed};
 pub use null_name::jdk_unnamed;
 pub use records::{
     BYTES_LEFT, CLASSES, KEYS, NO_CLASSES, NO_NODES, NO_POOLS, RINGS, STRINGS, STRINGS_SCRUBBED,

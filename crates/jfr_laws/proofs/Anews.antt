@@ -1,6 +1,6 @@
 -- The classes of what is written suit what is kept, and its metadata record describes them.
-use Rattle.std.specs.Prelude.{◌≡◌, ℕ, zero, suc, ◌+◌, ◌≤◌, Bool, true, false, not, ◌&&◌, ◌||◌, ◌==◌, List, [], ◌∷◌, length, find, Option, Some, None, Ok, Contains, if◌then◌else◌, ◌⊎◌}
-use Rattle.std.specs.List.{AllByRecursion, list_any}
+use Rattle.std.specs.Prelude.{◌≡◌, ℕ, ◌+◌, ◌≤◌, Bool, true, false, ◌&&◌, ◌||◌, ◌==◌, List, [], ◌∷◌, length, find, Option, Some, None, Ok, Contains, if◌then◌else◌, ◌⊎◌}
+use Rattle.std.specs.List.{AllByRecursion}
 use Rattle.std.specs.Option.{option_map_or}
 use Rattle.std.proofs.Common.{ap, arith, refl, sym, ◌∙◌, subst, inl, inr}
 use Rattle.std.proofs.lemmas.Bool.{eq-eqb}
@@ -8,25 +8,22 @@ use Rattle.std.proofs.lemmas.Bool.Decides.{nat_tests}
 use Rattle.std.proofs.lemmas.List.Elements.{All-contains}
 use Rattle.jfr_base.specs.Formats.{Reads}
 use Rattle.jfr_base.proofs.HoldLaws.{Holds}
-use Rattle.jfr_layout.specs.Classes.{Class, Classes, Sound, Agree, find_class, has_id, is_event_class}
+use Rattle.jfr_layout.specs.Classes.{Classes, find_class, is_event_class}
 use Rattle.jfr_frame.specs.declared.framed.Framed.{Framed}
-use Rattle.jfr_frame.specs.Records.{IsRecord, record_end, record_bytes}
+use Rattle.jfr_frame.specs.Records.{IsRecord}
 use Rattle.jfr_frame.proofs.RecordLaws.{record_one}
-use Rattle.jfr_meta.specs.Trees.{Tree}
 use Rattle.jfr_meta.specs.Body.{Body, meta_format}
 use Rattle.jfr_meta.specs.Described.{described, IsMetadata}
-use Rattle.jfr_meta.specs.Written.{IsText}
 use Rattle.jfr_meta.proofs.Bare.{described_bare}
-use Rattle.jfr_chunk.specs.Parts.{Parts, EventAt, AreParts, events_of, event_records, metadata_at}
-use Rattle.jfr_chunk.specs.Laws.{AreEvents, SameRecords}
-use Rattle.jfr_chunk.proofs.AllLaws.{all_in}
+use Rattle.jfr_chunk.specs.Parts.{Parts, EventAt, AreParts, events_of, metadata_at}
+use Rattle.jfr_chunk.specs.Laws.{AreEvents}
 use Rattle.jfr_worklist.specs.Members.{In}
 use Rattle.jfr_worklist.proofs.Members.{contains_in, in_contains}
 use Rattle.jfr_chunk.proofs.HasNodesLaws.{has_nodes}
 use Rattle.jfr_chunk.proofs.TestLaws.{is_eq}
 use Rattle.jfr_layout.specs.Staying.{staying}
 use Rattle.jfr_meta.specs.Slimmed.{slim_body}
-use Rattle.jfr_chunk.specs.Metas.{Names, used_by, is_described, stays_in, slim_of, metadata_size, new_metadata, remaining_classes}
+use Rattle.jfr_chunk.specs.Metas.{Names, is_described, stays_in, slim_of, metadata_size, new_metadata, remaining_classes}
 use Rattle.jfr_chunk.specs.Scrub.{written_anew}
 use Rattle.jfr_laws.proofs.Agrees.{agree_on_event}
 use Rattle.jfr_laws.proofs.Anew.{own_bytes}
@@ -40,8 +37,7 @@ use Rattle.jfr_laws.proofs.OutputRecords.{own_frame}
 use Rattle.jfr_laws.proofs.Premises.{GoodAnew, metadata_stands, recorded}
 use Rattle.jfr_laws.proofs.ReadBack.{moved_frame}
 use Rattle.jfr_laws.proofs.Same.{event_records_of}
-use Rattle.jfr_layout.proofs.StayingLaws.{found_staying, found_as_before, events_staying, stay_well}
-use Rattle.jfr_meta.proofs.Lists.{nothing_each}
+use Rattle.jfr_layout.proofs.StayingLaws.{found_as_before, events_staying}
 use Rattle.jfr_laws.proofs.Suits.{Suits}
 use Rattle.jfr_laws.proofs.Whole.{metadata_new, new_is, MetadataReads}
 
@@ -85,22 +81,22 @@ good_anew names p a kept r x i e = by_test (r.at == metadata_at p.bytes) refl e
         ((stands_anew names p a kept (metadata_size p) x n).is_record, omega (arith, n.fits, size_is p a, ap (λ (z : Framed). z.size) g))
     by_test false q e = cc
 
-module _ (names : Names) (p : Parts) (a : AreParts p) (kept : List EventAt) (are : AreEvents p kept) where
-  -- A kept event is of an event class.
-  is_event : (e : EventAt) → In kept e → is_event_class p.classes e.record_of.type_id ≡ true
-  is_event e i =
-      let j : In (events_of p) e = contains_in (events_of p) e (All-contains (Contains (events_of p)) kept e are (in_contains kept e i)) in
-      in_passes (λ (r : Framed). is_event_class p.classes r.type_id) p.records e.record_of (subst (λ z. In z e.record_of) (event_records_of p a) (in_map (λ (e : EventAt). e.record_of) (events_of p) e j))
+-- A kept event is of an event class.
+pub is_event : (p : Parts) (a : AreParts p) (kept : List EventAt) → AreEvents p kept → (e : EventAt) → In kept e → is_event_class p.classes e.record_of.type_id ≡ true
+is_event p a kept are e i =
+    let j : In (events_of p) e = contains_in (events_of p) e (All-contains (Contains (events_of p)) kept e are (in_contains kept e i)) in
+    in_passes (λ (r : Framed). is_event_class p.classes r.type_id) p.records e.record_of (subst (λ z. In z e.record_of) (event_records_of p a) (in_map (λ (e : EventAt). e.record_of) (events_of p) e j))
 
+module _ (names : Names) (p : Parts) (a : AreParts p) (kept : List EventAt) (are : AreEvents p kept) where
   suits_all : Suits p kept p.classes
-  suits_all = record { sound = (has_nodes p a).sound; agree = λ id e. agree_on_event p.classes id (has_nodes p a).sound e; before = λ id e. e; event = is_event }
+  suits_all = record { sound = (has_nodes p a).sound; agree = λ id e. agree_on_event p.classes id (has_nodes p a).sound e; before = λ id e. e; event = is_event p a kept are }
 
   abbrev stays : ℕ → Bool
   stays = stays_in names p kept
 
   used_stays : (e : EventAt) → In kept e → stays e.record_of.type_id ≡ true
   used_stays e i =
-      let c = some_class p.classes e.record_of.type_id (is_event e i) in
+      let c = some_class p.classes e.record_of.type_id (is_event p a kept are e i) in
       (stay names p a kept).has.uses e.record_of.type_id (any_of p.classes e.record_of.type_id c.0 c.1)
       (ap (λ t. t || is_described names p.classes e.record_of.type_id) (in_any (λ (f : EventAt). f.record_of.type_id == e.record_of.type_id) kept e i (eq-eqb e.record_of.type_id e.record_of.type_id refl)))
 
@@ -115,7 +111,7 @@ module _ (names : Names) (p : Parts) (a : AreParts p) (kept : List EventAt) (are
         let c = some_class p.classes id h.1 in
         laws.agree_left names p a kept id c.0 c.1 h.0);
     before = λ id e. (and_parts (stays id) (is_event_class p.classes id) (sym (events_staying p.classes stays id) ∙ e)).1;
-    event = λ e i. events_staying p.classes stays e.record_of.type_id ∙ both (stays e.record_of.type_id) (is_event_class p.classes e.record_of.type_id) (used_stays e i) (is_event e i);
+    event = λ e i. events_staying p.classes stays e.record_of.type_id ∙ both (stays e.record_of.type_id) (is_event_class p.classes e.record_of.type_id) (used_stays e i) (is_event p a kept are e i);
   }
 
   -- The class of a kept event is as it was.

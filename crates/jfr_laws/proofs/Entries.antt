@@ -134,7 +134,7 @@ marked_none n m (b ∷ ms) (x ∷ xs) target e = by_rest (last_from (n + 1) xs t
     by_rest None q false r e false f = f m q
     by_rest None q false r e true f = ap (λ z. or_later m z (last_from (m + 1) (marked ms xs) target)) r ∙ ap (or_later m false) (f (m + 1) q)
 
-none_force : (marks : List Bool) (es : List EntryAt) (target : ℕ × ℕ) → number_in_force es target ≡ None → number_in_force (marked marks es) target ≡ None
+pub none_force : (marks : List Bool) (es : List EntryAt) (target : ℕ × ℕ) → number_in_force es target ≡ None → number_in_force (marked marks es) target ≡ None
 unfolding number_in_force
 none_force marks es target e = marked_none 0 0 marks es target e
 

@@ -46,3 +46,9 @@ pub mod Clocks
 pub mod Scrubbed
 pub mod SameTexts
 pub mod Settled
+pub mod ToldLaws
+pub mod Outlines
+pub mod PoolsAlike
+pub mod KeptPairs
+pub mod OnlyKept
+pub mod Itself

@@ -17,7 +17,6 @@ use Rattle.jfr_chunk.specs.Laws.{AreEvents, SameRecords, SameOnPaths, AreReached
 use Rattle.jfr_worklist.specs.Members.{In}
 use Rattle.jfr_worklist.proofs.Members.{contains_in, in_contains}
 use Rattle.jfr_chunk.proofs.AllLaws.{filter_all}
-use Rattle.jfr_chunk.proofs.PathLaws.{HasNodes}
 use Rattle.jfr_chunk.proofs.HasNodesLaws.{IsEvent, has_nodes, event_is, tiles_each}
 use Rattle.jfr_chunk.proofs.MeaningLaws.{same_meaning}
 use Rattle.jfr_chunk.proofs.ReachedLaws.{reached_marked}
@@ -46,7 +45,7 @@ pub event_of_chunk : (p : Parts) (a : AreParts p) (kept : List EventAt) → AreE
 event_of_chunk p a kept k e i = event_is p a e (contains_in (events_of p) e (All-contains (Contains (events_of p)) kept e k (in_contains kept e i)))
 
 -- The entries that paths from events reach are exactly the marked ones.
-are_reached : (p : Parts) (kept : List EventAt) → AreParts p → AreEvents p kept → AreReached p kept
+pub are_reached : (p : Parts) (kept : List EventAt) → AreParts p → AreEvents p kept → AreReached p kept
 are_reached p kept a k number = reached_marked p (has_nodes p a) kept (λ e i. (let v = event_of_chunk p a kept k e i in (v.value, v.node))) number
 
 -- All entries remain if each is reached.

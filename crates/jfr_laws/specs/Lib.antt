@@ -1,2 +1,4 @@
 pub mod InChunk
 pub mod Laws
+pub mod Told
+pub mod SameKept

@@ -1,3 +1,4 @@
+pub mod AgreementLaws
 pub mod CheckpointEntries
 pub mod CursorLaws
 pub mod MadeFile

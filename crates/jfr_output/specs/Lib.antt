@@ -1,3 +1,4 @@
+pub mod Agreements
 pub mod Metadata
 pub mod OutputRecords
 pub mod Pools

@@ -15,7 +15,7 @@ use Rattle.jfr_chunk.specs.Indexed.{event_at}
 use Rattle.jfr_worklist.specs.Members.{In}
 use Rattle.jfr_worklist.proofs.Members.{get_in, in_contains}
 use Rattle.jfr_path.specs.declared.verdict.ClassVerdict.{ClassVerdict}
-use Rattle.jfr_path.specs.declared.verdict.ClassVerdict.TheVariants.{ByThread, Dropped, Kept}
+use Rattle.jfr_path.specs.declared.verdict.ClassVerdict.TheVariants.{Asked, Dropped, Kept}
 use Rattle.jfr_path.specs.Verdicts.{IsVerdict, IsRightFor, is_kept}
 use Rattle.jfr_path.proofs.EventLaws.{event_known, event_shape}
 use Rattle.jfr_path.proofs.ListLaws.{zip_at}
@@ -48,7 +48,7 @@ module _ (g : Given) (p : Parts) (parts : AreParts p) where
       the_kept : (v : ClassVerdict) → is_kept v ≡ true → v ≡ Kept
       the_kept Kept q = refl
       the_kept Dropped q = cc
-      the_kept (ByThread number) q = cc
+      the_kept (Asked times thread) q = cc
 
       by_test : (b : Bool) → test d ≡ b → cond b (Some d) (find test k) ≡ Some c → (find test k ≡ Some c → IsVerdict g c Kept) → IsVerdict g c Kept
       by_test true q e rest = let h : d ≡ c = cc in subst (λ w. IsVerdict g c w) (the_kept v (and_parts (is_kept v) (list_all is_kept verdicts) a).0) (subst (λ (w : Class). IsVerdict g w v) h z.0)

@@ -8,4 +8,7 @@ pub mod StringLaws
 pub mod TextLaws
 pub mod TextVerdictLaws
 pub mod ThreadLaws
+pub mod TimeLaws
+pub mod UntimedLaws
 pub mod VerdictLaws
+pub mod WindowLaws

@@ -10,7 +10,8 @@ drop_at : {A : Type 0} (xs : List A) (i : ℕ) (x : A) → Some x ≡ slice_get 
 drop_at xs i x e =
     drop-cons xs i x (slice_get_within xs i x (sym e)) ∙ (ap (λ z. z ∷ drop (suc i) xs) (get_or_from_slice_get xs i x x (sym e)) ∙ ap (λ z. x ∷ drop z xs) (sym (add-one i)))
 
-then_then : {A B C : Type 0} (f : B → Option C) (g : A → Option B) (o : Option A) → option_and_then f (option_and_then g o) ≡ option_and_then (λ x. option_and_then f (g x)) o
+-- A function that may give nothing, after another one.
+pub then_then : {A B C : Type 0} (f : B → Option C) (g : A → Option B) (o : Option A) → option_and_then f (option_and_then g o) ≡ option_and_then (λ x. option_and_then f (g x)) o
 then_then f g None = refl
 then_then f g (Some x) = refl
 

@@ -1,5 +1,6 @@
 -- A filter's verdicts on the threads of a chunk.
-use Rattle.std.specs.Prelude.{◌≡◌, ℕ, Bool, true, List, [], ◌∷◌, Option, Some, IfSome, codes, option_map}
+use Rattle.std.specs.Prelude.{◌≡◌, ℕ, Bool, true, false, List, [], ◌∷◌, Option, Some, IfSome, codes, option_map}
+use Rattle.std.specs.Option.{option_map_or}
 use Rattle.std.specs.BTreeMap as tree
 use Rattle.std.specs.BTreeMap.{BTreeMap}
 use Rattle.std.specs.Ordering.{nat_cmp, ordering_then}
@@ -8,7 +9,8 @@ use Rattle.jfr_filter.specs.Filters.{Given, allows_thread}
 use Rattle.jfr_text.specs.Strings.{Content}
 use Rattle.jfr_text.specs.Strings as strings
 use Rattle.jfr_value.specs.Values.{Value}
-use Rattle.jfr_value.specs.Nodes.{NodeAt, IsNode, target}
+use Rattle.jfr_value.specs.declared.node.Step.TheVariants as steps
+use Rattle.jfr_value.specs.Nodes.{NodeAt, IsNode, child, target}
 use Rattle.jfr_chunk.specs.Parts.{Parts}
 use Rattle.jfr_chunk.specs.Paths.{is_reference, named_text, string_of}
 use Rattle.jfr_chunk.specs.Chosen.{or_else}
@@ -25,6 +27,10 @@ allows_if_named g text = option_map (λ t. allows_thread g (Some t)) text
 -- Whether the filter allows the thread that a value leads to.
 abbrev pub allows_thread_at : Given → Parts → NodeAt → Bool
 allows_thread_at g p n = allows_thread g (thread_text_at p n)
+
+-- There is a field with this number, and the filter allows the thread that it leads to.
+abbrev pub is_thread_allowed : Given → Parts → NodeAt → ℕ → Bool
+is_thread_allowed g p n i = option_map_or (allows_thread_at g p) (child p.classes p.bytes n (steps.Field i)) false
 
 -- A value of the chunk that is a reference to this class and key.
 pub record IsReferenceTo (p : Parts) (t : ℕ × ℕ) (n : NodeAt) : Type 0 where

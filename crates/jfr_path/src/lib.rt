@@ -2,8 +2,9 @@
 //! events that a filter keeps.
 //!
 //! `leads` follows the steps of a `Path`, and `named` follows the names of fields to a text; `node_at` and
-//! `text_at` are its two parts. `choose` finds the events that a filter keeps, by the names of their classes and
-//! the texts of their threads. Read `specs/Paths.antt` and `specs/Chosen.antt` of `jfr_chunk` first.
+//! `text_at` are its two parts. `choose` finds the events that a filter keeps, by the names of their classes, the
+//! texts of their threads and their times. Read `specs/Paths.antt`, `specs/Chosen.antt` and `specs/Windows.antt`
+//! of `jfr_chunk` first.
 #![tactic(auto)]
 
 mod allowed;
@@ -15,7 +16,10 @@ mod steps;
 mod strings;
 mod texts;
 mod threads;
+mod times;
+mod untimed;
 mod verdict;
+mod window;
 
 pub use chosen::choose;
 pub use following::{MOST_FOLLOWED, follow_references, is_reference, named_field};

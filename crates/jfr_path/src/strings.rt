@@ -1,6 +1,6 @@
 //! Matching the strings that name classes, each only once.
 ghost use Rattle.std.specs.Prelude.{◌≡◌, IfOk, map};
-ghost use Rattle.jfr_filter.specs.Filters.{allows_texts};
+ghost use Rattle.jfr_filter.specs.Filters.{allows_texts, some_matches};
 ghost use Rattle.jfr_meta.specs.Attributes.{text_at};
 ghost use Rattle.jfr_path.specs.Strings.{matches_of};
 
@@ -69,6 +69,15 @@ impl<'c> StringVerdicts<'c> {
         );
         self.matches.insert(index, found)?;
         Ok(found)
+    }
+
+    /// Whether a pattern of the include option matches the string with this index.
+    pub(crate) fn includes(&mut self, index: u64) -> Result<bool, NoMemory>
+        ensures ok { IfOk result (λ included. included ≡ some_matches self.old.filter self.old.include (text_at self.old.strings index)) }
+        ensures same { self.new ≡ self.old }
+    {
+        let (included, _) = self.matches(index)?;
+        Ok(included)
     }
 
     /// Whether the options allow the strings with these indices.

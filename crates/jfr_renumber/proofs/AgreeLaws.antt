@@ -24,13 +24,13 @@ use Rattle.jfr_worklist.specs.Members.{In}
 use Rattle.jfr_worklist.proofs.Members.{in_left, in_right}
 use Rattle.jfr_pool.specs.declared.entry.EntryAt.{EntryAt}
 use Rattle.jfr_chunk.specs.Parts.{Parts, EventAt, AreParts}
-use Rattle.jfr_chunk.specs.Reach.{kept_by, marked, reached_marks, remain}
+use Rattle.jfr_chunk.specs.Reach.{Used, kept_by, marked, reached_marks, remain}
 use Rattle.jfr_chunk.proofs.HasNodesLaws.{has_nodes}
 use Rattle.jfr_laws.proofs.Same.{chosen_events}
 use Rattle.jfr_renumber.specs.Firsts.{firsts_by, same_new}
 use Rattle.jfr_renumber.specs.Numbers.{NumberedPairs, number_of, number_or_zero}
 use Rattle.jfr_renumber.specs.Meaning.{AreNewKeys}
-use Rattle.jfr_renumber.specs.Renumber.{Used, assembled_by, entry_bytes, event_bytes, firsts, group_bytes, new_bytes, new_key, new_key_of, pair_of, renumber_with, together, used_keys, whole_bytes}
+use Rattle.jfr_renumber.specs.Renumber.{assembled_by, entry_bytes, event_bytes, firsts, group_bytes, new_bytes, new_key, new_key_of, pair_of, renumber_with, together, used_keys, whole_bytes}
 use Rattle.jfr_renumber.proofs.FirstsLaws.{firsts_same}
 use Rattle.jfr_renumber.proofs.LawLaws.{kept_nodes, new_keys_are}
 use Rattle.jfr_renumber.proofs.NumberLaws.{any_of}

@@ -15,12 +15,13 @@ use Rattle.jfr_value.proofs.InsideLaws.{fits_agree}
 use Rattle.jfr_value.proofs.NodeLaws.{value_is}
 use Rattle.jfr_pool.specs.Entries.{in_force, inline}
 use Rattle.jfr_chunk.specs.Parts.{Parts, EventAt, AreParts, events_of}
+use Rattle.jfr_chunk.specs.Reach.{Used}
 use Rattle.jfr_chunk.specs.Laws.{AreEvents}
 use Rattle.jfr_worklist.specs.Members.{In}
 use Rattle.jfr_worklist.proofs.Members.{contains_in, in_contains}
 use Rattle.jfr_chunk.proofs.HasNodesLaws.{IsEvent, has_nodes, event_is}
 use Rattle.jfr_renumber.specs.Rekeyed.{rekeyed, rekeyed_all, rekeyed_pair}
-use Rattle.jfr_renumber.specs.Renumber.{Used, used_keys, new_key, firsts}
+use Rattle.jfr_renumber.specs.Renumber.{used_keys, new_key, firsts}
 use Rattle.jfr_renumber.specs.Meaning.{AreNewKeys, AreRekeyedEntries, IsInOrder, RekeyedMeaning}
 use Rattle.jfr_renumber.specs.Laws.{KeepsMeaning, RekeyedRecord, RekeyedRecords, AgreeOnUsed}
 use Rattle.jfr_renumber.proofs.RekeyedLaws.{rekeyed_fits, rekeyed_shape, rekeyed_leaves, rekeyed_short}

@@ -16,13 +16,13 @@ use Rattle.jfr_pool.specs.Laws.{IsLast}
 use Rattle.jfr_pool.proofs.OneLaws.{last_is}
 use Rattle.jfr_chunk.specs.Parts.{Parts, EventAt}
 use Rattle.jfr_chunk.specs.Paths.{leads}
-use Rattle.jfr_chunk.specs.Reach.{remain}
+use Rattle.jfr_chunk.specs.Reach.{Used, remain}
 use Rattle.jfr_worklist.specs.Members.{In}
 use Rattle.jfr_worklist.proofs.Members.{in_contains, get_in}
 use Rattle.jfr_pool.proofs.ForceLaws.{forced, numbered}
 use Rattle.jfr_chunk.proofs.PathLaws.{HasNodes}
 use Rattle.jfr_renumber.specs.Rekeyed.{SameButKeys, rekeyed, rekeyed_bytes, rekeyed_pair}
-use Rattle.jfr_renumber.specs.Renumber.{Used, together, firsts, pair_of}
+use Rattle.jfr_renumber.specs.Renumber.{together, firsts, pair_of}
 use Rattle.jfr_renumber.specs.Meaning.{RekeyedPaths, RekeyedMeaning, AreNewKeys, IsRekeyedEntry, AreRekeyedEntries}
 use Rattle.jfr_renumber.proofs.RekeyedLaws.{node_rekeyed, rekeyed_fits, rekeyed_shape}
 use Rattle.jfr_renumber.proofs.ValueLaws.{IsRekeyed, rekeyed_pairs, fits_once}

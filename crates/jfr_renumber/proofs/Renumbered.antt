@@ -13,7 +13,7 @@ use Rattle.jfr_worklist.specs.Members.{In}
 use Rattle.jfr_worklist.proofs.Members.{contains_in}
 use Rattle.jfr_chunk.specs.Parts.{Parts, EventAt, AreParts, events_of}
 use Rattle.jfr_chunk.specs.Laws.{AreEvents}
-use Rattle.jfr_chunk.specs.Reach.{marked, reached_marks, kept_by, remain}
+use Rattle.jfr_chunk.specs.Reach.{Used, marked, reached_marks, kept_by, remain}
 use Rattle.jfr_chunk.specs.Metas.{Names, new_metadata}
 use Rattle.jfr_chunk.specs.Scrub.{output_records, scrub_of, scrub_with}
 use Rattle.jfr_chunk.proofs.HasNodesLaws.{has_nodes}
@@ -22,7 +22,7 @@ use Rattle.jfr_laws.proofs.Header.{whole_small}
 use Rattle.jfr_laws.proofs.Passing.{clash}
 use Rattle.jfr_laws.proofs.Same.{chosen_events, event_of_chunk, marks_reached}
 use Rattle.jfr_laws.proofs.Suits.{event_agreed, left_agree, path_agreed}
-use Rattle.jfr_renumber.specs.Renumber.{Used, new_key, together, pair_of, firsts, firsts_of, new_bytes, assembled_by, renumber_of, renumber_with}
+use Rattle.jfr_renumber.specs.Renumber.{new_key, together, pair_of, firsts, firsts_of, new_bytes, assembled_by, renumber_of, renumber_with}
 use Rattle.jfr_renumber.specs.Meaning.{AreNewKeys, AreRekeyedEntries, IsRenumbered}
 use Rattle.jfr_renumber.proofs.Fewer.{Under}
 use Rattle.jfr_renumber.proofs.NoLonger.{no_longer}

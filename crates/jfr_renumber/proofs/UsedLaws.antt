@@ -10,14 +10,14 @@ use Rattle.jfr_pool.specs.Laws.{IsLast}
 use Rattle.jfr_pool.proofs.OneLaws.{last_is}
 use Rattle.jfr_chunk.specs.Parts.{Parts, EventAt}
 use Rattle.jfr_worklist.specs.Marks.{IsMarked}
-use Rattle.jfr_chunk.specs.Reach.{Reached, all_targets, nodes_of, reached_marks, marked, remain}
+use Rattle.jfr_chunk.specs.Reach.{Reached, Used, all_targets, nodes_of, reached_marks, marked, remain}
 use Rattle.jfr_worklist.specs.Members.{In}
 use Rattle.jfr_worklist.proofs.Members.{contains_in, in_contains, in_left, in_right, in_cases}
 use Rattle.jfr_pool.proofs.ForceLaws.{Forced, forced, numbered}
 use Rattle.jfr_chunk.proofs.PathLaws.{HasNodes}
 use Rattle.jfr_chunk.proofs.ReachLaws.{leads_on, target_path, reach_least}
 use Rattle.jfr_chunk.proofs.ReachedLaws.{reached_marked}
-use Rattle.jfr_renumber.specs.Renumber.{Used, used_keys, together, new_key, pair_of}
+use Rattle.jfr_renumber.specs.Renumber.{used_keys, together, new_key, pair_of}
 use Rattle.jfr_renumber.specs.Meaning.{AreNewKeys, IsInOrder}
 use Rattle.jfr_renumber.proofs.KeyLaws.{number_most, number_same, number_apart, number_dense, number_order}
 use Rattle.jfr_renumber.proofs.TogetherLaws.{together_is}

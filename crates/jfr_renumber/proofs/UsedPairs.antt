@@ -11,7 +11,7 @@ use Rattle.jfr_pool.specs.Entries.{number_in_force, in_force, entry_node}
 use Rattle.jfr_pool.proofs.OneLaws.{last_is}
 use Rattle.jfr_chunk.specs.Parts.{Parts, EventAt, AreParts}
 use Rattle.jfr_worklist.specs.Marks.{is_marked}
-use Rattle.jfr_chunk.specs.Reach.{kept_by, marked, reached_marks, remain}
+use Rattle.jfr_chunk.specs.Reach.{Used, kept_by, marked, reached_marks, remain}
 use Rattle.jfr_chunk.proofs.HasNodesLaws.{has_nodes}
 use Rattle.jfr_laws.proofs.Same.{chosen_events}
 use Rattle.jfr_chunk.proofs.AllLaws.{all_in, in_filter}
@@ -24,7 +24,7 @@ use Rattle.jfr_renumber.specs.Missing.{IsRising, flagged, is_missing}
 use Rattle.jfr_renumber.specs.Numbering.{ArePairsOf, HasValue, SameValue, pair_at, pair_numbers}
 use Rattle.jfr_renumber.specs.Keys.{Together}
 use Rattle.jfr_renumber.specs.Numbers.{number_at, number_of}
-use Rattle.jfr_renumber.specs.Renumber.{Used, new_key, new_key_of, pair_of, together, used_keys}
+use Rattle.jfr_renumber.specs.Renumber.{new_key, new_key_of, pair_of, together, used_keys}
 use Rattle.jfr_renumber.proofs.NumberLaws.{any_same, number_given}
 use Rattle.jfr_renumber.proofs.OrderLaws.{pair_same}
 use Rattle.jfr_renumber.proofs.LawLaws.{kept_nodes}

@@ -8,11 +8,12 @@ use Rattle.jfr_value.specs.Nodes.{NodeAt, Both, node_bytes}
 use Rattle.jfr_pool.specs.declared.entry.EntryAt.{EntryAt}
 use Rattle.jfr_pool.specs.Entries.{in_force, entry_node}
 use Rattle.jfr_chunk.specs.Parts.{Parts, EventAt, AreParts, events_of}
+use Rattle.jfr_chunk.specs.Reach.{Used}
 use Rattle.jfr_chunk.specs.Scrub.{scrub_of}
 use Rattle.jfr_chunk.specs.Metas.{remaining_classes, Names}
 use Rattle.jfr_chunk.specs.Paths.{leads}
 use Rattle.jfr_renumber.specs.Rekeyed.{SameButKeys, rekeyed_bytes, rekeyed_pair}
-use Rattle.jfr_renumber.specs.Renumber.{Used, together, new_key, firsts, pair_of, renumber_of}
+use Rattle.jfr_renumber.specs.Renumber.{together, new_key, firsts, pair_of, renumber_of}
 
 -- Each path leads from both to nodes of the same shape and leaves, except for the keys, or from both nowhere.
 abbrev pub RekeyedPaths : (ℕ × ℕ → ℕ) → Parts → Parts → NodeAt → NodeAt → Type 0

@@ -1,32 +1,21 @@
 -- Which keys are used, their new keys, and the output of a chunk with them.
-use Rattle.std.specs.Prelude.{ℕ, ◌+◌, ◌-◌, Bool, false, not, ◌&&◌, ◌||◌, ◌==◌, ◌≡◌, List, [], ◌∷◌, ◌++◌, length, map, filter, find, Option, Some, None, Contains, slice_range, if◌then◌else◌}
+use Rattle.std.specs.Prelude.{ℕ, ◌+◌, ◌-◌, Bool, false, not, ◌&&◌, ◌||◌, ◌==◌, List, [], ◌∷◌, ◌++◌, length, map, filter, find, Option, Some, None, slice_range, if◌then◌else◌}
 use Rattle.std.specs.List.{list_any, flat_map}
 use Rattle.std.specs.Str.{bytes_eq}
 use Rattle.jfr_base.specs.Integer.{spell}
 use Rattle.jfr_frame.specs.declared.framed.Framed.{Framed}
 use Rattle.jfr_frame.specs.Records.{record_bytes, record_end}
-use Rattle.jfr_value.specs.declared.node.Step.{Step}
-use Rattle.jfr_value.specs.Nodes.{NodeAt, node_bytes, target}
+use Rattle.jfr_value.specs.Nodes.{node_bytes}
 use Rattle.jfr_pool.specs.declared.link.Link.{Link}
 use Rattle.jfr_pool.specs.declared.entry.EntryAt.{EntryAt}
 use Rattle.jfr_pool.specs.Entries.{in_force, entry_node}
 use Rattle.jfr_chunk.specs.Parts.{Parts, EventAt, metadata_at}
-use Rattle.jfr_chunk.specs.Paths.{leads}
 use Rattle.jfr_chunk.specs.Reach.{all_targets, nodes_of, remain}
 use Rattle.jfr_chunk.specs.Written.{Group, distance, sized}
 use Rattle.jfr_chunk.specs.Metas.{Names, new_metadata}
 use Rattle.jfr_chunk.specs.Scrub.{OutputRecord, Whole, Chained, Rebuilt, Written, groups_of, header_with, last_at, moved, older_after, output_records}
 use Rattle.jfr_renumber.specs.Keys.{group_number}
 use Rattle.jfr_renumber.specs.Rekeyed.{rekeyed_bytes}
-
--- A path of a kept event leads to a node that refers to this class and key.
-pub record Used (p : Parts) (kept : List EventAt) (t : ℕ × ℕ) : Type 0 where
-  pub event : EventAt
-  pub is_kept : Contains kept event
-  pub path : List Step
-  pub node : NodeAt
-  pub leads_there : leads p event.node path ≡ Some node
-  pub refers : target p.classes p.bytes node ≡ Some t
 
 -- The used keys, computed: those that kept events and remaining entries refer to.
 unfoldable pub used_keys : Parts → List EventAt → List (ℕ × ℕ)

@@ -6,15 +6,24 @@ ghost use Rattle.jfr_layout.specs.Classes.{Classes, Sound};
 ghost use Rattle.jfr_value.specs.Values.{Value, Fits};
 ghost use Rattle.jfr_pool.specs.Entries.{in_force};
 ghost use Rattle.jfr_header.specs.Fronts.{Whole};
+ghost use Rattle.jfr_filter.specs.Filters.{Given};
 ghost use Rattle.jfr_chunk.specs.Laws.{AreEvents};
-ghost use Rattle.jfr_chunk.specs.Reach.{kept_by};
+ghost use Rattle.jfr_chunk.specs.Reach.{Used, kept_by};
 ghost use Rattle.jfr_chunk.specs.Metas.{Names};
 ghost use Rattle.jfr_chunk.specs.Scrub.{output_records};
+ghost use Rattle.jfr_laws.specs.SameKept.{SameKept};
+ghost use Rattle.jfr_chunk.specs.Refusal.{refusal_of};
+ghost use Rattle.jfr_laws.specs.Told.{rendered};
+ghost use Rattle.jfr_output.specs.Agreements.{RecordingsAgree};
+ghost use Rattle.jfr_output.specs.Recordings.{recording_output};
 ghost use Rattle.jfr_chunk.specs.Parts.{AreParts, EventAt, Parts};
 ghost use Rattle.jfr_renumber.specs.Laws.{AgreeOnUsed, KeepsMeaning, RekeyedRecords};
 ghost use Rattle.jfr_renumber.specs.Meaning.{AreNewKeys, AreRekeyedEntries, IsInOrder, IsRenumbered, RekeyedMeaning};
 ghost use Rattle.jfr_renumber.specs.Rekeyed.{rekeyed_pair};
-ghost use Rattle.jfr_renumber.specs.Renumber.{Used, assembled_by, firsts, firsts_with, new_bytes, new_key, renumber_with, used_keys};
+ghost use Rattle.jfr_renumber.specs.Renumber.{assembled_by, firsts, firsts_with, new_bytes, new_key, renumber_with, together, used_keys};
+ghost use Rattle.jfr_renumber.specs.Renumbers.{renumbered};
+ghost use Rattle.jfr_renumber.specs.SameOrder.{SameOrder};
+ghost use Rattle.jfr_renumber.specs.ToldAnew.{told_anew};
 
 /// A value with new keys is read by its format. It has the same shape and the same leaves, except for the
 /// keys.
@@ -67,4 +76,26 @@ pub fn firsts_one_by_one()
 #[tactic(auto, using(crate::proofs::AgreeLaws::output_same))]
 pub fn only_used_keys_matter()
     ensures { (slim : Option (List ℕ)) (p : Parts) (flags : List Bool) (new : ℕ × ℕ → ℕ) → AreParts p → ((t : ℕ × ℕ) → Used p (kept_by p flags) t → new t ≡ new_key p (kept_by p flags) t) → assembled_by p (new_bytes new p (kept_by p flags) (firsts p (kept_by p flags))) (output_records slim p (kept_by p flags)) ≡ renumber_with slim p (kept_by p flags) }
+{}
+
+/// New keys depend only on the order of the old ones, and on which of them are together. If the used keys of two
+/// chunks correspond in this way, they have equal new keys.
+#[tactic(auto, using(crate::proofs::SameOrderLaws::same_new_keys))]
+pub fn new_keys_depend_on_order()
+    ensures { (p q : Parts) (kept others : List EventAt) (to : ℕ × ℕ → ℕ × ℕ) → SameOrder (together p) (together q) (used_keys p kept) (used_keys q others) to → (t : ℕ × ℕ) → Contains (used_keys p kept) t → new_key p kept t ≡ new_key q others (to t) }
+{}
+
+/// The output of an accepted chunk with new keys is made of what `told_anew` lists, and of nothing else, whatever
+/// events are kept and whatever metadata record is written.
+#[tactic(auto, using(crate::proofs::OnlyKeptAnew::anew_tells))]
+pub fn output_is_what_it_tells()
+    ensures { (slim : Option (List ℕ)) (p : Parts) (kept : List EventAt) → AreParts p → renumber_with slim p kept ≡ rendered (told_anew slim p kept) }
+{}
+
+/// If two accepted chunks agree on all that stays, their outputs with new keys are equal, byte for byte; and so are
+/// those of recordings that agree chunk by chunk. So nothing else can be found out from these outputs.
+#[tactic(auto, using(crate::proofs::OnlyKeptAnew::same_renumber, crate::proofs::AgreementLaws::recordings_same))]
+pub fn only_what_stays_matters()
+    ensures chunks { (slim other : Option (List ℕ)) (p q : Parts) (kept others : List EventAt) → AreParts p → AreParts q → AreEvents p kept → AreEvents q others → SameKept slim other p q kept others → renumber_with slim p kept ≡ renumber_with other q others }
+    ensures recordings { (g : Given) (x y : List ℕ) → RecordingsAgree g x y → recording_output refusal_of (renumbered g) x ≡ recording_output refusal_of (renumbered g) y }
 {}

@@ -11,8 +11,8 @@ use Rattle.jfr_chunk.specs.Chosen.{kept_of}
 use Rattle.jfr_chunk.specs.Refusal.{read_parts}
 use Rattle.jfr_show.specs.Shown.{event_shown}
 use Rattle.jfr_show.specs.Json.{event_json}
-use Rattle.jfr_show.specs.Totals.{totals_of, summary_shown}
-use Rattle.jfr_show.specs.Metadata.{metadata_shown}
+use Rattle.jfr_show.specs.Totals.{Totals, totals_of, summary_json, summary_shown}
+use Rattle.jfr_show.specs.Metadata.{metadata_json, metadata_shown}
 use Rattle.jfr_stacks.specs.Folded.{lines_of, stacks_of}
 use Rattle.jfr_report.specs.declared.print.Writer.{Writer}
 use Rattle.jfr_report.specs.declared.print.Writer.TheVariants as writers
@@ -64,9 +64,14 @@ text_by (writers.Json p) depth n = event_json p depth n
 abbrev pub printing : Given → ℕ → Bool → Rule
 printing g depth json = texting (λ n p. events_bytes json depth p (kept_of g p)) (λ before. [])
 
+-- The classes of the chunk with this number, as lines of JSON or as text, in UTF-8.
+abbrev pub classes_bytes : Bool → ℕ → Parts → List ℕ
+classes_bytes true n p = encode_utf8_all (metadata_json p n)
+classes_bytes false n p = encode_utf8_all (metadata_shown p n)
+
 -- The rule of `metadata`: the classes of each chunk are shown.
-abbrev pub describing : Rule
-describing = texting (λ n p. encode_utf8_all (metadata_shown p n) ∷ []) (λ before. [])
+abbrev pub describing : Bool → Rule
+describing json = texting (λ n p. classes_bytes json n p ∷ []) (λ before. [])
 
 -- The list with the parts of a chunk in front, if the chunk is accepted.
 abbrev pub parts_with : Result Parts Flaw → List Parts → List Parts
@@ -78,9 +83,14 @@ abbrev pub all_parts : List (List ℕ) → List Parts
 all_parts [] = []
 all_parts (c ∷ cs) = parts_with (read_parts c) (all_parts cs)
 
+-- Totals as a line of JSON or as text, in UTF-8.
+abbrev pub totals_bytes : Bool → Totals → List ℕ
+totals_bytes true t = encode_utf8_all (summary_json t)
+totals_bytes false t = encode_utf8_all (summary_shown t)
+
 -- The rule of `summary`: the totals of the recording are shown at its end.
-abbrev pub summing : Rule
-summing = texting (λ n p. []) (λ before. encode_utf8_all (summary_shown (totals_of (all_parts before))) ∷ [])
+abbrev pub summing : Bool → Rule
+summing json = texting (λ n p. []) (λ before. totals_bytes json (totals_of (all_parts before)) ∷ [])
 
 -- The rule of `stacks`: the folded stacks of the events that the filter keeps are shown at the end of the
 -- recording.

@@ -12,3 +12,4 @@ pub mod AgainLaws
 pub mod HeadlineLaws
 mod EndsWell
 mod PartLaws
+pub mod AgreementLaws

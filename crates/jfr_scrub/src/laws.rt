@@ -6,6 +6,7 @@ ghost use Rattle.jfr_plan.specs.Ends.{Fine};
 ghost use Rattle.jfr_plan.specs.Rules.{plan_after};
 ghost use Rattle.jfr_plan.specs.Accepted.{AllAccepted};
 ghost use Rattle.jfr_chunk.specs.Refusal.{refusal_of};
+ghost use Rattle.jfr_output.specs.Agreements.{RecordingsAgree};
 ghost use Rattle.jfr_output.specs.Recordings.{before_refused};
 ghost use Rattle.jfr_scrub.specs.Headline.{AllButLast, IsScrubOf, recording_scrubbed};
 ghost use Rattle.jfr_scrub.specs.Scrubs.{scrubbing};
@@ -40,4 +41,11 @@ pub fn parts_are_scrubbed_one_by_one()
         → recording_scrubbed g (x ++ y) ≡ recording_scrubbed g x ++ recording_scrubbed g y }
     ensures all { (g : Given) (parts : List (List ℕ)) → AllButLast (AllAccepted refusal_of) parts → length (joined parts) ≤ 2 ^ 40
         → recording_scrubbed g (joined parts) ≡ joined (map (recording_scrubbed g) parts) }
+{}
+
+/// Recordings that agree, chunk by chunk, on all that stays have the same output, byte for byte. So nothing else
+/// of a recording can be found out from its output.
+#[tactic(auto, using(crate::proofs::AgreementLaws::recordings_same))]
+pub fn only_what_stays_matters()
+    ensures { (g : Given) (x y : List ℕ) → RecordingsAgree g x y → recording_scrubbed g x ≡ recording_scrubbed g y }
 {}

@@ -19,8 +19,8 @@ mod scrub;
 mod scrubber;
 
 pub use laws::{
-    output_is_a_recording, parts_are_scrubbed_one_by_one, scrubbed_again_stays_the_same,
-    scrubbing_ends_well,
+    only_what_stays_matters, output_is_a_recording, parts_are_scrubbed_one_by_one,
+    scrubbed_again_stays_the_same, scrubbing_ends_well,
 };
 pub use piece::{MadePart, Piece};
 pub use scrub::scrub_stream;

@@ -1,5 +1,7 @@
 mod FormLaws
 mod JsonLaws
+mod ArrayLaws
+mod ObjectLaws
 mod OrderLaws
 mod EscapeLaws
 mod PlacedLaws

@@ -2,7 +2,7 @@
 use Rattle.std.specs.Prelude.{◌≡◌, ℕ, zero, suc, ◌+◌, ◌≤◌, List, [], ◌∷◌, ◌++◌, take, drop, length, Some, slice_get, codes, decimal}
 use Rattle.std.specs.List.{flat_map}
 use Rattle.std.proofs.Common.{ap, arith, refl, sym, ◌∙◌, append_assoc}
-use Rattle.std.proofs.lemmas.List.{flat_map_more, take_all, take_more}
+use Rattle.std.proofs.lemmas.List.{append-nil, flat_map_more, take_all, take_more}
 use Rattle.jfr_layout.specs.Classes.{Classes}
 use Rattle.jfr_chunk.specs.Parts.{Parts}
 use Rattle.jfr_show.specs.Metadata.{categories_line, class_lines, metadata_shown}
@@ -51,3 +51,14 @@ metadata_is p k number n was a b d now same all e f g h =
 -- One line with a number more.
 pub line_more : (was now new lines word : List ℕ) (n m : ℕ) → now ≡ was ++ lines → new ≡ now ++ number_line word n → n ≡ m → new ≡ was ++ (lines ++ number_line word m)
 line_more was now new lines word n m so next e = next ∙ (ap (λ k. now ++ number_line word k) e ∙ (ap (λ z. z ++ number_line word m) so ∙ append_assoc was lines (number_line word m)))
+
+-- Pieces that are added one after another, each with the text after it.
+abbrev pub AreAdded : List ℕ → List (List ℕ × List ℕ) → List ℕ → Type 0
+AreAdded now [] end = end ≡ now
+AreAdded now ((piece, next) ∷ more) end = (next ≡ now ++ piece) × AreAdded next more end
+
+pub all_added : (now : List ℕ) (steps : List (List ℕ × List ℕ)) (end : List ℕ) → AreAdded now steps end → end ≡ now ++ flat_map (λ s. s.0) steps
+all_added now [] end e = e ∙ sym (append-nil now)
+all_added now ((piece, next) ∷ more) end (e, r) =
+    let rest = flat_map (λ s. s.0) more in
+    all_added next more end r ∙ (ap (λ z. z ++ rest) e ∙ append_assoc now piece rest)

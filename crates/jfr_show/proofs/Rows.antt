@@ -1,8 +1,10 @@
 -- Values whose text is computed.
-use Rattle.std.specs.Prelude.{◌≡◌, ℕ, [], ◌∷◌, ◌++◌, codes, Some, None, false, true, refl}
+use Rattle.std.specs.Prelude.{◌≡◌, ℕ, List, [], ◌∷◌, ◌++◌, codes, map, Some, None, false, true, refl}
+use Rattle.std.specs.FinMap as fin
+use Rattle.std.proofs.Common.{ap}
 use Rattle.std.specs.Fmt.{digits}
 use Rattle.jfr_base.specs.Formats.{int_at, run}
-use Rattle.jfr_layout.specs.Classes.{Classes, kind_of}
+use Rattle.jfr_layout.specs.Classes.{Class, Classes, kind_of}
 use Rattle.jfr_layout.specs.declared.kind.Kind.TheVariants as kinds
 use Rattle.jfr_layout.specs.declared.shape.Shape.{Shape}
 use Rattle.jfr_value.specs.declared.leaf.LeafKind.TheVariants as leaf_kinds
@@ -11,17 +13,20 @@ use Rattle.jfr_value.specs.Nodes.{NodeAt, value_of}
 use Rattle.jfr_value.specs.Reading.{class_format, value_format}
 use Rattle.jfr_pool.specs.Entries.{number_in_force}
 use Rattle.jfr_pool.specs.declared.entry.EntryAt.{EntryAt}
+use Rattle.serde_json.specs.Data as written
+use Rattle.serde_json.specs.View.{items_of}
 use Rattle.serde_json.specs.Written.{compact_text}
 use Rattle.serde_json.proofs.OnLiterals.{serde_json_on_literals}
 use Rattle.jfr_meta.specs.Trees as trees
 use Rattle.jfr_chunk.specs.Parts.{Parts}
 use Rattle.jfr_show.specs.Json.{base_json, json_of, missing_json, reference_json}
 use Rattle.jfr_show.specs.Leaves.{base_shown}
-use Rattle.jfr_show.specs.Metadata.{metadata_shown}
+use Rattle.jfr_show.specs.Metadata.{class_json, metadata_json, metadata_shown}
 use Rattle.jfr_show.specs.Shown.{event_shown, referred, shown, missing_shown, reference_shown}
 use Rattle.jfr_show.specs.Texts.{quoted}
 use Rattle.jfr_show.specs.declared.beginning.Beginning.{Beginning}
-use Rattle.jfr_show.specs.Totals.{Totals, number_lines, summary_shown, tallies_of}
+use Rattle.jfr_show.specs.declared.tally.Tally.{Tally}
+use Rattle.jfr_show.specs.Totals.{Tallies, Totals, number_lines, summary_json, summary_shown, tallies_of, tally_json, totals_json}
 
 abbrev plain : ℕ → Shape
 plain id = record { class = id; constant = false; array = false }
@@ -213,3 +218,60 @@ totals_row = refl
 no_chunks_row : summary_shown (record totals { first = None }) ≡ []
 unfolding summary_shown
 no_chunks_row = refl
+
+-- The totals of the chunk of rings as JSON, given the names in order, and those without names.
+abbrev ring_totals : Tallies → Totals
+ring_totals m = record {
+  first = Some beginning;
+  chunks = 1;
+  bytes = 362;
+  duration = 5;
+  events = 2;
+  checkpoints = 1;
+  constants = 4;
+  inert = 0;
+  tallies = m;
+}
+
+abbrev ring_object : List (List ℕ × Tally) → List ℕ
+ring_object es = codes "{\"version\":\"2.1\",\"chunks\":1,\"bytes\":362,\"start\":1000,\"duration\":5,\"events\":2,\"checkpoints\":1,\"constants\":4,\"inert\":0,\"types\":" ++ compact_text (written.array (items_of (map tally_json es))) ++ codes "}"
+
+totals_json_row : (m : Tallies) → fin.entries m ≡ (codes "t.A", record { events = 1; bytes = 5 }) ∷ (codes "t.B", record { events = 1; bytes = 3 }) ∷ [] → compact_text (totals_json (ring_totals m) beginning)
+    ≡ codes "{\"version\":\"2.1\",\"chunks\":1,\"bytes\":362,\"start\":1000,\"duration\":5,\"events\":2,\"checkpoints\":1,\"constants\":4,\"inert\":0,"
+    ++ codes "\"types\":[{\"name\":\"t.A\",\"events\":1,\"bytes\":5},{\"name\":\"t.B\",\"events\":1,\"bytes\":3}]}"
+unfolding serde_json_on_literals digits
+totals_json_row m e = ap ring_object e
+
+no_names_row : (m : Tallies) → fin.entries m ≡ [] → compact_text (totals_json (ring_totals m) beginning)
+    ≡ codes "{\"version\":\"2.1\",\"chunks\":1,\"bytes\":362,\"start\":1000,\"duration\":5,\"events\":2,\"checkpoints\":1,\"constants\":4,\"inert\":0,\"types\":[]}"
+unfolding serde_json_on_literals digits
+no_names_row m e = ap ring_object e
+
+no_chunks_json_row : summary_json (record totals { first = None }) ≡ []
+unfolding summary_json
+no_chunks_json_row = refl
+
+-- A class of the chunk of rings as JSON, and one with a super type, categories and both marks.
+abbrev node_class : Class
+node_class = record { id = 7; name = codes "t.Node"; super_name = None; fields = record { name = codes "next"; shape = reference 7 } ∷ record { name = codes "text"; shape = plain 6 } ∷ []; categories = [] }
+
+abbrev ring_classes : Classes
+ring_classes = record { id = 6; name = codes "java.lang.String"; super_name = None; fields = []; categories = [] } ∷ node_class ∷ []
+
+class_json_row : compact_text (class_json 1 ring_classes node_class)
+    ≡ codes "{\"chunk\":1,\"name\":\"t.Node\",\"id\":7,\"super\":null,\"categories\":[],\"fields\":[{\"name\":\"next\",\"class\":\"t.Node\",\"class_id\":7,\"constant\":true,\"array\":false},"
+    ++ codes "{\"name\":\"text\",\"class\":\"java.lang.String\",\"class_id\":6,\"constant\":false,\"array\":false}]}"
+unfolding serde_json_on_literals digits
+class_json_row = refl
+
+abbrev marked_class : Class
+marked_class = record { id = 104; name = codes "t.A"; super_name = Some (codes "jdk.jfr.Event"); fields = record { name = codes "as"; shape = record { class = 104; constant = true; array = true } } ∷ []; categories = codes "the \"A\"" ∷ codes "b" ∷ [] }
+
+marked_json_row : compact_text (class_json 3 (marked_class ∷ []) marked_class)
+    ≡ codes "{\"chunk\":3,\"name\":\"t.A\",\"id\":104,\"super\":\"jdk.jfr.Event\",\"categories\":[\"the \\\"A\\\"\",\"b\"],\"fields\":[{\"name\":\"as\",\"class\":\"t.A\",\"class_id\":104,\"constant\":true,\"array\":true}]}"
+unfolding serde_json_on_literals digits
+marked_json_row = refl
+
+no_classes_row : metadata_json (record described { classes = [] }) 1 ≡ []
+unfolding metadata_json
+no_classes_row = refl

@@ -1,11 +1,13 @@
--- The totals of chunks, and their text.
-use Rattle.std.specs.Prelude.{ℕ, ◌==◌, Bool, false, List, [], ◌++◌, length, map, filter, count_by, sum_by, take, slice_get, codes, decimal, Option, option_map}
+-- The totals of chunks, their text and their JSON.
+use Rattle.std.specs.Prelude.{ℕ, ◌==◌, Bool, false, List, [], ◌∷◌, ◌++◌, length, map, filter, count_by, sum_by, take, slice_get, codes, decimal, Option, option_map}
 use Rattle.std.specs.List.{enumerate_from, flat_map}
 use Rattle.std.specs.Option.{option_map_or}
 use Rattle.std.specs.Ordering.{nat_cmp}
 use Rattle.std.specs.Cmp.Lexicographic.{slice_cmp}
 use Rattle.std.specs.Str.{bytes_eq, chars, encode_utf8_all}
 use Rattle.std.specs.FinMap as fin
+use Rattle.serde_json.specs.Data.{Data, array, object, string}
+use Rattle.serde_json.specs.View.{items_of}
 use Rattle.jfr_header.specs.declared.header.Header.{Header}
 use Rattle.jfr_header.specs.Headers.{header_of}
 use Rattle.jfr_layout.specs.Classes.{Classes}
@@ -15,6 +17,7 @@ use Rattle.jfr_pool.specs.Entries.{number_in_force}
 use Rattle.jfr_chunk.specs.Parts.{Parts, events_of, is_inert}
 use Rattle.jfr_show.specs.declared.beginning.Beginning.{Beginning}
 use Rattle.jfr_show.specs.declared.tally.Tally.{Tally}
+use Rattle.jfr_show.specs.Json.{json_line, listed, number_json, text_json}
 use Rattle.jfr_show.specs.Names.{class_name}
 use Rattle.jfr_show.specs.Texts.{newline}
 
@@ -93,9 +96,13 @@ totals_of ps = record {
 abbrev pub number_line : List ℕ → ℕ → List ℕ
 number_line word n = word ++ codes " " ++ decimal n ++ newline
 
+-- The version, as in 2.1.
+abbrev pub version_shown : Beginning → List ℕ
+version_shown b = decimal b.major ++ codes "." ++ decimal b.minor
+
 -- The line with the version.
 abbrev pub version_line : Beginning → List ℕ
-version_line b = codes "version " ++ decimal b.major ++ codes "." ++ decimal b.minor ++ newline
+version_line b = codes "version " ++ version_shown b ++ newline
 
 -- The line of a name: the number of its events, and their bytes.
 abbrev pub tally_line : List ℕ × Tally → List ℕ
@@ -121,3 +128,35 @@ tally_lines m = flat_map tally_line (fin.entries m)
 -- The text of the totals: the numbers, then the names. Without a chunk it is empty.
 unfoldable pub summary_shown : Totals → List ℕ
 summary_shown t = option_map_or (λ b. number_lines t b ++ tally_lines t.tallies) t.first []
+
+-- A name as an object: the name, the number of its events, and their bytes.
+abbrev pub tally_json : List ℕ × Tally → Data
+tally_json (name, t) = object (listed (
+    (codes "name", string name)
+    ∷ (codes "events", number_json t.events)
+    ∷ (codes "bytes", number_json t.bytes)
+    ∷ []))
+
+-- The names as an array, in the order of their bytes.
+abbrev pub tallies_json : Tallies → Data
+tallies_json m = array (items_of (map tally_json (fin.entries m)))
+
+-- The totals as an object, for a recording with this beginning: a member for each of the first nine lines, in
+-- their order, and the names.
+abbrev pub totals_json : Totals → Beginning → Data
+totals_json t b = object (listed (
+    (codes "version", text_json (version_shown b))
+    ∷ (codes "chunks", number_json t.chunks)
+    ∷ (codes "bytes", number_json t.bytes)
+    ∷ (codes "start", number_json b.start_nanos)
+    ∷ (codes "duration", number_json t.duration)
+    ∷ (codes "events", number_json t.events)
+    ∷ (codes "checkpoints", number_json t.checkpoints)
+    ∷ (codes "constants", number_json t.constants)
+    ∷ (codes "inert", number_json t.inert)
+    ∷ (codes "types", tallies_json t.tallies)
+    ∷ []))
+
+-- The line of JSON of the totals. Without a chunk it is empty.
+unfoldable pub summary_json : Totals → List ℕ
+summary_json t = option_map_or (λ b. json_line (totals_json t b)) t.first []

@@ -3,7 +3,7 @@ ghost use Rattle.std.specs.Prelude.{◌≡◌, ◌<◌, [], ◌∷◌, ◌++◌,
 ghost use Rattle.std.specs.Char.{digit_char};
 ghost use Rattle.std.specs.Fmt.{signed_decimal};
 ghost use Rattle.std.specs.Str.{chars, encode_utf8_all};
-ghost use Rattle.jfr_show.specs.Texts.{hex_byte, indent, is_ascii};
+ghost use Rattle.jfr_show.specs.Texts.{hex_byte, indent, is_ascii, newline};
 
 use itoa::Buffer;
 use jfr_base::{NoMemory, Text};
@@ -89,6 +89,14 @@ impl TextBuilder {
     {
         self.text.push_str(text)?;
         Ok(())
+    }
+
+    /// Adds a text and the end of a line.
+    pub(crate) fn push_line(&mut self, text: &str) -> Result<(), NoMemory>
+        ensures ok { OnOk result (self.new ≡ self.old ++ (chars text.now ++ newline)) }
+    {
+        self.push_str(text)?;
+        self.push_ascii("\n")
     }
 
     /// Adds a character.

@@ -34,11 +34,13 @@ use cache::JsonCache;
 use jfr_base::{NoMemory, Text};
 use jfr_chunk::{Chunk, Event};
 use jfr_path::fields_of;
+pub(crate) use leaf::{push_flag, push_null, push_number};
 use order::{MemberOrder, orders_of};
 use source::Source;
 use std::alloc::Global;
 use std::marker::Model;
-use string::push_string;
+pub(crate) use string::push_string;
+pub(crate) use value::push_comma;
 use value::push_node;
 
 /// The initial capacity for a line.
@@ -102,8 +104,7 @@ impl<'c, 'a> JsonWriter<'c, 'a> {
         };
         let mut line = String::with_capacity(self.alloc, LINE)?;
         push_event(&source, &mut self.cache, event, &mut line)?;
-        out.push_str(line.as_str())?;
-        out.push_ascii("\n")
+        out.push_line(line.as_str())
     }
 }
 

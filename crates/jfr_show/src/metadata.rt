@@ -4,11 +4,14 @@ ghost use Rattle.jfr_show.specs.Metadata.{categories_line, class_line, class_lin
 ghost use Rattle.jfr_show.specs.Names.{class_name};
 ghost use Rattle.jfr_show.specs.Texts.{is_ascii};
 
+mod json;
+
 use crate::TextBuilder;
 use crate::quoted::push_quoted;
 use jfr_base::{NoMemory, Text, Words};
 use jfr_chunk::Chunk;
 use jfr_layout::{ClassInfo, Classes, FieldInfo};
+pub use json::{metadata_json, show_metadata_json};
 use std::alloc::Global;
 
 /// The text of a chunk's classes: a line with the chunk's number, then a line for each class, for its

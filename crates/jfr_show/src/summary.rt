@@ -1,8 +1,10 @@
-//! The totals of a recording.
+//! The totals of a recording, and their text.
 ghost use Rattle.std.specs.Prelude.{◌≡◌, ◌+◌, ◌^◌, ◌<◌, List, [], ◌∷◌, ◌++◌, IfOk, IsTrue, OnOk, decimal};
 ghost use Rattle.jfr_chunk.specs.Parts.{Parts};
 ghost use Rattle.jfr_show.specs.Texts.{is_ascii};
-ghost use Rattle.jfr_show.specs.Totals.{number_line, number_lines, summary_shown, totals_of, version_line};
+ghost use Rattle.jfr_show.specs.Totals.{number_line, number_lines, summary_shown, totals_of, version_line, version_shown};
+
+mod json;
 
 use crate::TextBuilder;
 use crate::beginning::Beginning;
@@ -11,6 +13,7 @@ use crate::tally::{TallyMap, show_tallies};
 use itoa::Buffer;
 use jfr_base::{NoMemory, Text};
 use jfr_chunk::Chunk;
+pub use json::summary_json;
 use std::alloc::Global;
 use std::collections::BTreeMap;
 use std::marker::Model;
@@ -117,7 +120,7 @@ fn show_summary(summary: &Summary, out: &mut TextBuilder) -> Result<(), NoMemory
 fn show_numbers(summary: &Summary, first: Beginning, out: &mut TextBuilder) -> Result<(), NoMemory>
     ensures ok { OnOk result (out.new ≡ out.old ++ number_lines summary.now first) }
 {
-    show_version(first, out)?;
+    show_version_line(first, out)?;
     push_line("chunks", u128::from(summary.chunks), out)?;
     push_line("bytes", u128::from(summary.bytes), out)?;
     push_line("start", u128::from(first.start_nanos), out)?;
@@ -128,14 +131,21 @@ fn show_numbers(summary: &Summary, first: Beginning, out: &mut TextBuilder) -> R
     push_line("inert", u128::from(summary.inert), out)
 }
 
-fn show_version(first: Beginning, out: &mut TextBuilder) -> Result<(), NoMemory>
+fn show_version_line(first: Beginning, out: &mut TextBuilder) -> Result<(), NoMemory>
     ensures ok { OnOk result (out.new ≡ out.old ++ version_line first) }
 {
     out.push_ascii("version ")?;
+    show_version(first, out)?;
+    out.push_ascii("\n")
+}
+
+// Adds the version.
+fn show_version(first: Beginning, out: &mut TextBuilder) -> Result<(), NoMemory>
+    ensures ok { OnOk result (out.new ≡ out.old ++ version_shown first) }
+{
     out.push_number(u64::from(first.major))?;
     out.push_ascii(".")?;
-    out.push_number(u64::from(first.minor))?;
-    out.push_ascii("\n")
+    out.push_number(u64::from(first.minor))
 }
 
 fn push_line(word: &str, number: u128, out: &mut TextBuilder) -> Result<(), NoMemory>

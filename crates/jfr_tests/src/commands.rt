@@ -83,6 +83,10 @@ t.A 1 5
 t.B 1 3
 ";
 
+const TOTALS_JSON: &str =
+    r#"{"version":"2.1","chunks":1,"bytes":362,"start":1000,"duration":5,"events":2,"checkpoints":1,"constants":4,"inert":0,"types":[{"name":"t.A","events":1,"bytes":5},{"name":"t.B","events":1,"bytes":3}]}
+"#;
+
 const TOTALS_OF_INERT: &str = "version 2.1
 chunks 1
 bytes 141
@@ -107,6 +111,14 @@ t.B id 9 super jdk.jfr.Event
   node: t.Node constant
 ";
 
+const CLASSES_JSON: &str =
+    r#"{"chunk":1,"name":"long","id":5,"super":null,"categories":[],"fields":[]}
+{"chunk":1,"name":"java.lang.String","id":6,"super":null,"categories":[],"fields":[]}
+{"chunk":1,"name":"t.Node","id":7,"super":null,"categories":[],"fields":[{"name":"next","class":"t.Node","class_id":7,"constant":true,"array":false},{"name":"text","class":"java.lang.String","class_id":6,"constant":false,"array":false}]}
+{"chunk":1,"name":"t.A","id":8,"super":"jdk.jfr.Event","categories":[],"fields":[{"name":"n","class":"long","class_id":5,"constant":false,"array":false},{"name":"node","class":"t.Node","class_id":7,"constant":true,"array":false}]}
+{"chunk":1,"name":"t.B","id":9,"super":"jdk.jfr.Event","categories":[],"fields":[{"name":"node","class":"t.Node","class_id":7,"constant":true,"array":false}]}
+"#;
+
 // What the commands that write text write of small chunks.
 #[rattlefmt::skip]
 static TEXTS: Play = Play {
@@ -121,7 +133,10 @@ static TEXTS: Play = Play {
         (&["print", "--categories", "none", "rings.jfr"], 0, "", ""),
         (&["summary", "rings.jfr"], 0, TOTALS, ""),
         (&["summary", "inert.jfr"], 0, TOTALS_OF_INERT, ""),
+        (&["summary", "--json", "rings.jfr"], 0, TOTALS_JSON, ""),
         (&["metadata", "rings.jfr"], 0, CLASSES_OF_RINGS, ""),
+        (&["metadata", "--json", "rings.jfr"], 0, CLASSES_JSON, ""),
+        (&["metadata", "--json", "inert.jfr"], 0, "", ""),
     ],
     left: &[],
 };

@@ -1,4 +1,4 @@
-//! Tests of the calls on whole chunks, as tables: reading, paths, choice, reach and scrubbing, and of the
+//! Tests of the calls on whole chunks, as tables: reading, paths, choice, windows, reach and scrubbing, and of the
 //! libraries above them, the example and the sample.
 #![tactic(auto)]
 
@@ -20,3 +20,5 @@ mod reading;
 mod samples;
 #[cfg(test)]
 mod slim_metadata;
+#[cfg(test)]
+mod windows;

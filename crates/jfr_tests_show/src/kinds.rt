@@ -1,5 +1,5 @@
-//! Chunks with values of each kind, and with long names.
-use jfr_fixtures::chunk_of;
+//! Chunks with values of each kind, with long names, and with a name of odd characters.
+use jfr_fixtures::{CLASSES, RINGS, chunk_of};
 use std::alloc::{AllocError, Global};
 
 // A metadata record of the nine base names (10 to 18), the class `t.Place` (19) with the field `x`, and
@@ -99,4 +99,14 @@ pub(crate) fn kinds(alloc: Global) -> Result<Vec<u8>, AllocError> {
 /// The chunk with an event whose fields have long names.
 pub(crate) fn long_names(alloc: Global) -> Result<Vec<u8>, AllocError> {
     chunk_of(alloc, &[LONG_NAMES], 411, 68)
+}
+
+// Where the name of the class `t.A` lies in the metadata record of the rings.
+const NAME: usize = 112;
+
+/// The chunk of rings, in which the class `t.A` has the name of a quote, U+0001 and the end of a line.
+pub(crate) fn oddly_named(alloc: Global) -> Result<Vec<u8>, AllocError> {
+    let (before, name) = CLASSES.split_at(NAME);
+    let (_, after) = name.split_at(3);
+    chunk_of(alloc, &[before, b"\"\x01\n", after, RINGS], 333, 68)
 }

@@ -10,14 +10,16 @@ use std::alloc::Global;
 use std::process::Abort;
 use std::test::Fail;
 
-// The options of a filter.
-static SIDES: [Side; 6] = [
+// The options of a filter that have patterns.
+static SIDES: [Side; 8] = [
     Side::IncludeEvents,
     Side::ExcludeEvents,
     Side::IncludeCategories,
     Side::ExcludeCategories,
     Side::IncludeThreads,
     Side::ExcludeThreads,
+    Side::Always,
+    Side::Describe,
 ];
 
 // Those of a filter that are given.
@@ -27,10 +29,10 @@ type Options = &'static [Side];
 enum Asked {
     // The options, the depth, whether the output is JSON, and the file.
     Print(Options, u8, bool, &'static str),
-    // The file.
-    Summary(&'static str),
-    // The file.
-    Metadata(&'static str),
+    // Whether the output is JSON, and the file.
+    Summary(bool, &'static str),
+    // Whether the output is JSON, and the file.
+    Metadata(bool, &'static str),
     // The options, whether keys are numbered anew, the input and the output.
     Scrub(Options, bool, &'static str, &'static str),
     // The file, the most chunks, bytes and parts, and the folder.
@@ -54,18 +56,20 @@ type Line = (&'static [&'static str], Asked);
 
 // Orders about scrubs.
 #[rattlefmt::skip]
-static SCRUBS: [Line; 6] = [
+static SCRUBS: [Line; 8] = [
     (&["scrub", "a", "b"], Scrub(&[], false, "a", "b")),
     (&["scrub", "--exclude-threads", "--x", "--include-events", "A,B", "a", "b"], Scrub(&[Side::IncludeEvents, Side::ExcludeThreads], false, "a", "b")),
     (&["scrub", "--include-events", "A", "--renumber", "yes", "a", "b"], Scrub(&[Side::IncludeEvents], true, "a", "b")),
     (&["scrub", "--renumber", "no", "a", "b"], Scrub(&[], false, "a", "b")),
+    (&["scrub", "--describe", "--from", "--renumber", "yes", "--always", "A,*B", "a", "b"], Scrub(&[Side::Always, Side::Describe], true, "a", "b")),
+    (&["receipt", "--describe", "A", "a", "r"], Receipt(&[Side::Describe], "a", "r")),
     (&["receipt", "--exclude-categories", "--", "--include-events", "A", "a", "r"], Receipt(&[Side::IncludeEvents, Side::ExcludeCategories], "a", "r")),
     (&["verify", "--include-threads", "main", "a", "b", "r"], Verify(&[Side::IncludeThreads], "a", "b", "r")),
 ];
 
 // Lines that begin as these do, and are no orders.
 #[rattlefmt::skip]
-static NO_SCRUBS: [&[&str]; 21] = [
+static NO_SCRUBS: [&[&str]; 26] = [
     &["scrub", "a"],
     &["scrub", "a", "b", "c"],
     &["scrub", "a", "-b"],
@@ -79,6 +83,11 @@ static NO_SCRUBS: [&[&str]; 21] = [
     &["scrub", "--renumber", "a", "b"],
     &["scrub", "--renumber", "true", "a", "b"],
     &["scrub", "--renumber", "yes", "--renumber", "yes", "a", "b"],
+    &["scrub", "--describe", "a", "b"],
+    &["scrub", "--describe", "A,", "a", "b"],
+    &["scrub", "--describe", "A", "--describe", "A", "a", "b"],
+    &["scrub", "--always", "A", "--always", "B", "a", "b"],
+    &["scrub", "--json", "a", "b"],
     &["receipt", "a"],
     &["receipt", "a", "b", "c"],
     &["receipt", "--renumber", "no", "a", "b"],
@@ -91,19 +100,22 @@ static NO_SCRUBS: [&[&str]; 21] = [
 
 // Orders that print what is in a recording.
 #[rattlefmt::skip]
-static PRINTS: [Line; 7] = [
+static PRINTS: [Line; 10] = [
     (&["print", "a"], Print(&[], 2, false, "a")),
     (&["print", "--depth", "08", "a"], Print(&[], 8, false, "a")),
     (&["print", "--json", "--depth", "0", "--categories", "--json", "--events", "A", "a"], Print(&[Side::IncludeEvents, Side::IncludeCategories], 0, true, "a")),
-    (&["summary", "a"], Summary("a")),
-    (&["metadata", "a"], Metadata("a")),
+    (&["print", "--always", "A", "--json", "a"], Print(&[Side::Always], 2, true, "a")),
+    (&["summary", "a"], Summary(false, "a")),
+    (&["summary", "--json", "a"], Summary(true, "a")),
+    (&["metadata", "a"], Metadata(false, "a")),
+    (&["metadata", "--json", "a"], Metadata(true, "a")),
     (&["stacks", "a"], Stacks(&[], "a")),
     (&["stacks", "--categories", "--events", "--events", "A", "a"], Stacks(&[Side::IncludeEvents, Side::IncludeCategories], "a")),
 ];
 
 // Lines that begin as these do, and are no orders.
 #[rattlefmt::skip]
-static NO_PRINTS: [&[&str]; 20] = [
+static NO_PRINTS: [&[&str]; 27] = [
     &["print"],
     &["print", "--json"],
     &["print", "--depth", "9", "a"],
@@ -115,15 +127,60 @@ static NO_PRINTS: [&[&str]; 20] = [
     &["print", "--json", "--json", "a"],
     &["print", "--events", "A", "--events", "A", "a"],
     &["print", "--events", "", "a"],
+    &["print", "--describe", "A", "a"],
     &["summary"],
     &["summary", "a", "b"],
-    &["summary", "--json", "a"],
+    &["summary", "--json"],
+    &["summary", "--json", "--json", "a"],
+    &["summary", "a", "--json"],
+    &["summary", "--from", "0", "a"],
     &["metadata", "-"],
+    &["metadata", "--json", "--json", "a"],
+    &["metadata", "--depth", "1", "a"],
     &["stacks"],
     &["stacks", "--depth", "1", "a"],
     &["stacks", "--exclude-events", "A", "a"],
+    &["stacks", "--describe", "A", "a"],
     &["stacks", "--events", "A", "--events", "A", "a"],
     &["stacks", "a", "b"],
+];
+
+// The words of a line with a filter, the filter's options that have patterns, and the bounds of its window.
+type Windowed = (&'static [&'static str], Options, Option<i64>, Option<i64>);
+
+// Orders about a time window.
+#[rattlefmt::skip]
+static WINDOWS: [Windowed; 8] = [
+    (&["scrub", "--from", "0", "a", "b"], &[], Some(0), None),
+    (&["scrub", "--to", "9223372036854775807", "a", "b"], &[], None, Some(9223372036854775807)),
+    (&["scrub", "--to", "1", "--renumber", "no", "--from", "2", "a", "b"], &[], Some(2), Some(1)),
+    (&["scrub", "--from", "0000000000000000007", "--always", "A", "a", "b"], &[Side::Always], Some(7), None),
+    (&["receipt", "--to", "5", "--include-events", "--to", "--from", "4", "a", "r"], &[Side::IncludeEvents], Some(4), Some(5)),
+    (&["verify", "--describe", "A", "--from", "1788000000000000000", "a", "b", "r"], &[Side::Describe], Some(1788000000000000000), None),
+    (&["print", "--json", "--from", "1", "--events", "A", "--to", "2", "a"], &[Side::IncludeEvents], Some(1), Some(2)),
+    (&["stacks", "--always", "A", "--to", "2", "a"], &[Side::Always], None, Some(2)),
+];
+
+// Lines that begin as these do, and are no orders.
+#[rattlefmt::skip]
+static NO_WINDOWS: [&[&str]; 17] = [
+    &["scrub", "--from"],
+    &["scrub", "--from", "1"],
+    &["scrub", "--from", "a", "b"],
+    &["scrub", "--from", "", "a", "b"],
+    &["scrub", "--from", "+1", "a", "b"],
+    &["scrub", "--from", "-1", "a", "b"],
+    &["scrub", "--from", " 1", "a", "b"],
+    &["scrub", "--from", "1.5", "a", "b"],
+    &["scrub", "--from", "9223372036854775808", "a", "b"],
+    &["scrub", "--to", "9999999999999999999", "a", "b"],
+    &["scrub", "--to", "00000000000000000007", "a", "b"],
+    &["scrub", "--from", "1", "--from", "1", "a", "b"],
+    &["receipt", "--to", "1", "--from", "1", "--to", "2", "a", "r"],
+    &["verify", "--to", "x", "a", "b", "r"],
+    &["print", "--to", "9223372036854775808", "a"],
+    &["print", "--from", "1", "--from", "2", "a"],
+    &["stacks", "--to", "", "a"],
 ];
 
 // Other orders.
@@ -175,14 +232,36 @@ fn words_of(alloc: Global, line: &[&str]) -> Result<Words, NoMemory> {
     Ok(words)
 }
 
-// Whether these options are given, and no others.
-fn has_options(filter: &Filter, options: &[Side]) -> bool {
+// Whether these options are given, and no others that have patterns.
+fn has_sides(filter: &Filter, options: &[Side]) -> bool {
     for side in SIDES.iter() {
         if filter.has(*side) != options.contains(side) {
             return false;
         }
     }
     true
+}
+
+// Whether these options are given, and no others.
+fn has_options(filter: &Filter, options: &[Side]) -> bool {
+    !filter.has_window() && has_sides(filter, options)
+}
+
+// Whether these are the bounds of the window.
+fn has_window(filter: &Filter, from: Option<i64>, to: Option<i64>) -> bool {
+    filter.from() == from && filter.to() == to
+}
+
+// The filter of an order, if it has one.
+fn filter_of(order: &Order) -> Option<&Filter> {
+    match order {
+        Order::Print { filter, .. }
+        | Order::Scrub { filter, .. }
+        | Order::Receipt { filter, .. }
+        | Order::Verify { filter, .. }
+        | Order::Stacks { filter, .. } => Some(filter),
+        _ => None,
+    }
 }
 
 // Whether a rule has these bounds.
@@ -221,8 +300,12 @@ fn is_asked_print(order: &Order, asked: &Asked) -> bool {
                 && file.as_str() == *name
                 && has_options(filter, options)
         }
-        (Order::Summary { file }, Summary(name)) => file.as_str() == *name,
-        (Order::Metadata { file }, Metadata(name)) => file.as_str() == *name,
+        (Order::Summary { json, file }, Summary(lines, name)) => {
+            json == lines && file.as_str() == *name
+        }
+        (Order::Metadata { json, file }, Metadata(lines, name)) => {
+            json == lines && file.as_str() == *name
+        }
         (Order::Stacks { filter, file }, Stacks(options, name)) => {
             file.as_str() == *name && has_options(filter, options)
         }
@@ -312,6 +395,36 @@ fn see_line(rt: &impl Abort, alloc: Global, line: &[&str], asked: &Asked) -> Res
     Ok(())
 }
 
+// Whether a line was read as an order with these options and this window.
+fn is_windowed(
+    read: Result<Order, WordsFault>,
+    options: &[Side],
+    from: Option<i64>,
+    to: Option<i64>,
+) -> bool {
+    let Ok(order) = read else {
+        return false;
+    };
+    match filter_of(&order) {
+        Some(filter) => has_sides(filter, options) && has_window(filter, from, to),
+        None => false,
+    }
+}
+
+// Compares the filter that is read of a line with its options and its window.
+fn see_window(
+    rt: &impl Abort,
+    alloc: Global,
+    (line, options, from, to): &Windowed,
+) -> Result<(), Fail> {
+    let words = words_of(alloc, line)?;
+    assert!(rt;
+        is_windowed(read(alloc, &words), options, *from, *to),
+        "{line:?}"
+    );
+    Ok(())
+}
+
 // Compares that nothing is read of a line.
 fn see_unreadable(rt: &impl Abort, alloc: Global, line: &[&str]) -> Result<(), Fail> {
     let words = words_of(alloc, line)?;
@@ -324,6 +437,14 @@ fn see_unreadable(rt: &impl Abort, alloc: Global, line: &[&str]) -> Result<(), F
 fn see_lines(rt: &impl Abort, alloc: Global, lines: &[Line]) -> Result<(), Fail> {
     for (line, asked) in lines {
         see_line(rt, alloc, line, asked)?;
+    }
+    Ok(())
+}
+
+// Compares the filter that is read of each line.
+fn see_windows(rt: &impl Abort, alloc: Global, lines: &[Windowed]) -> Result<(), Fail> {
+    for line in lines {
+        see_window(rt, alloc, line)?;
     }
     Ok(())
 }
@@ -341,7 +462,9 @@ fn lines_give_orders(rt: HostRuntime) -> Result<(), Fail> {
     see_lines(&rt, rt.alloc(), &SCRUBS)?;
     see_lines(&rt, rt.alloc(), &PRINTS)?;
     see_lines(&rt, rt.alloc(), &OTHERS)?;
+    see_windows(&rt, rt.alloc(), &WINDOWS)?;
     see_all_unreadable(&rt, rt.alloc(), &NO_SCRUBS)?;
     see_all_unreadable(&rt, rt.alloc(), &NO_PRINTS)?;
+    see_all_unreadable(&rt, rt.alloc(), &NO_WINDOWS)?;
     see_all_unreadable(&rt, rt.alloc(), &NO_OTHERS)
 }

@@ -6,78 +6,76 @@ use Rattle.std.specs.Str.{bytes_eq}
 use Rattle.std.proofs.Common.{arith, ap, refl, sym, subst, ◌∙◌, inl, inr}
 use Rattle.std.proofs.lemmas.List.Sorted.{length_permutation}
 use Rattle.std.proofs.lemmas.Slice.Eq.{bytes_eq-Decides}
-use Rattle.jfr_filter.specs.Filters.{Given, nothing_given, with_patterns}
+use Rattle.jfr_filter.specs.Filters.{Given, nothing_given}
 use Rattle.jfr_words.specs.declared.order.Order.{Order}
+use Rattle.jfr_words.specs.declared.order.Order.TheVariants as orders
 use Rattle.jfr_words.specs.declared.print.PrintOption.{PrintOption}
-use Rattle.jfr_words.specs.declared.print.PrintOption.TheVariants.{Patterns, Depth, Json}
+use Rattle.jfr_words.specs.declared.print.PrintOption.TheVariants.{Filter, Depth, Json}
 use Rattle.jfr_words.specs.declared.print.PrintSettings.{PrintSettings}
 use Rattle.jfr_words.specs.declared.split.SplitOption.{SplitOption}
 use Rattle.jfr_words.specs.declared.split.SplitOption.TheVariants.{Output, MaxChunks, MaxSize}
 use Rattle.jfr_words.specs.declared.split.SplitSettings.{SplitSettings}
+use Rattle.jfr_words.specs.Jsons.{is_json, asks_json, after_json}
 use Rattle.jfr_words.specs.Laws.{filter_options, valued_options, bare_options, is_option, is_same_option, AreOptions, line}
-use Rattle.jfr_words.specs.Names.{name_in}
+use Rattle.jfr_words.specs.Names.{name_in, only_name}
 use Rattle.jfr_words.specs.Numbers.{number_in}
-use Rattle.jfr_words.specs.Patterns.{given_with}
 use Rattle.jfr_words.specs.Prints.{no_print_option, print_option_of, print_with, print_from}
-use Rattle.jfr_words.specs.Filtered.{side_of, filtered_from}
+use Rattle.jfr_words.specs.FilterOptions.{filter_option_of, given_with}
+use Rattle.jfr_words.specs.Filtered.{filtered_from}
 use Rattle.jfr_words.specs.Scrubs.{ScrubSettings, ScrubOption, no_scrub_option, scrub_option_of, scrub_with, scrub_from, yes_or_no}
 use Rattle.jfr_words.specs.declared.scrub.ScrubOption.TheVariants as scrubs
 use Rattle.jfr_words.specs.Splits.{no_split_option, split_option_of, is_split_given, split_with, split_from}
-use Rattle.jfr_words.specs.Stacks.{StacksOption, stacks_option_of, stacks_side, stacks_with, stacks_from}
-use Rattle.jfr_words.specs.declared.stacks.StacksOption.TheVariants.{Events, Categories}
+use Rattle.jfr_words.specs.Stacks.{stacks_option_of, stacks_with, stacks_from}
 use Rattle.jfr_words.specs.Words.{order_of, receipt_named, verification_named}
+use Rattle.jfr_words.proofs.Fields.{FilterValue, has_filter, put_filter, filter_value, filter_set, filter_is, which_filter, filters_settle}
 use Rattle.jfr_words.proofs.Given.{give, in_any_order, given_once}
-use Rattle.jfr_words.proofs.Settings.{set, Apart, Settles, settles}
-use Rattle.jfr_words.proofs.Sides.{has_side, patterns_of, side_set, side_is, which_side, sides_settle}
+use Rattle.jfr_words.proofs.Settings.{set, set_in, Apart, Settles, settles}
 
 -- The options of a print.
 abbrev PrintValue : PrintOption → Type 0
-PrintValue (Patterns side) = List (List ℕ)
+PrintValue (Filter part) = FilterValue part
 PrintValue Depth = ℕ
 PrintValue Json = Unit {0}
 
 abbrev has_print : PrintOption → PrintSettings → Bool
-has_print (Patterns side) g = has_side side g.filter
+has_print (Filter part) g = has_filter part g.filter
 has_print Depth g = is_some g.depth
 has_print Json g = g.json
 
 abbrev put_print : (o : PrintOption) → PrintValue o → PrintSettings → PrintSettings
-put_print (Patterns side) patterns g = record g { filter = with_patterns side patterns g.filter }
+put_print (Filter part) x g = record g { filter = put_filter part x g.filter }
 put_print Depth depth g = record g { depth = Some depth }
 put_print Json _ g = record g { json = true }
 
 abbrev print_value : (o : PrintOption) → List ℕ → Option (PrintValue o)
-print_value (Patterns side) list = patterns_of list
+print_value (Filter part) word = filter_value part word
 print_value Depth word = number_in 0 8 word
 print_value Json word = Some tt
 
 print_set : (o : PrintOption) (v : List ℕ) (g : PrintSettings) → print_with o v g ≡ set (has_print o) (put_print o) (print_value o v) g
-print_set (Patterns side) v g = ap (option_map (λ h. record g { filter = h })) (side_set side v g.filter) ∙ by_tests (has_side side g.filter) (patterns_of v)
-  where
-    by_tests : (t : Bool) (o : Option (List (List ℕ))) → option_map (λ h. record g { filter = h }) (if t then None else option_map (λ x. with_patterns side x g.filter) o) ≡ (if t then None else option_map (λ x. record g { filter = with_patterns side x g.filter }) o)
-    by_tests true o = refl
-    by_tests false None = refl
-    by_tests false (Some x) = refl
+print_set (Filter part) v g =
+    ap (option_map (λ h. record g { filter = h })) (filter_set part v g.filter)
+    ∙ set_in (has_filter part) (put_filter part) (filter_value part v) g.filter (λ h. record g { filter = h })
 print_set Depth v g = refl
 print_set Json v g = refl
 
 print_is : (o : PrintOption) (x : PrintValue o) (g : PrintSettings) → has_print o (put_print o x g) ≡ true
-print_is (Patterns side) x g = side_is side x g.filter
+print_is (Filter part) x g = filter_is part x g.filter
 print_is Depth x g = refl
 print_is Json x g = refl
 
 which_print : (o p : PrintOption) → (o ≡ p) ⊎ Apart (has_print o) (put_print o) (has_print p) (put_print p)
-which_print (Patterns s) (Patterns t) = by_which (which_side s t)
+which_print (Filter s) (Filter t) = by_which (which_filter s t)
   where
-    by_which : (s ≡ t) ⊎ Apart (has_side s) (with_patterns s) (has_side t) (with_patterns t) → (Patterns s ≡ Patterns t) ⊎ Apart (has_print (Patterns s)) (put_print (Patterns s)) (has_print (Patterns t)) (put_print (Patterns t))
-    by_which (inl e) = inl (ap (λ z. Patterns z) e)
+    by_which : (s ≡ t) ⊎ Apart (has_filter s) (put_filter s) (has_filter t) (put_filter t) → (Filter s ≡ Filter t) ⊎ Apart (has_print (Filter s)) (put_print (Filter s)) (has_print (Filter t)) (put_print (Filter t))
+    by_which (inl e) = inl (ap (λ z. Filter z) e)
     by_which (inr a) = inr (record { on = λ x g. a.on x g.filter; back = λ y g. a.back y g.filter; both = λ x y g. ap (λ h. record g { filter = h }) (a.both x y g.filter) })
-which_print (Patterns s) Depth = inr (record { on = λ x g. refl; back = λ y g. refl; both = λ x y g. refl })
-which_print (Patterns s) Json = inr (record { on = λ x g. refl; back = λ y g. refl; both = λ x y g. refl })
-which_print Depth (Patterns t) = inr (record { on = λ x g. refl; back = λ y g. refl; both = λ x y g. refl })
+which_print (Filter s) Depth = inr (record { on = λ x g. refl; back = λ y g. refl; both = λ x y g. refl })
+which_print (Filter s) Json = inr (record { on = λ x g. refl; back = λ y g. refl; both = λ x y g. refl })
+which_print Depth (Filter t) = inr (record { on = λ x g. refl; back = λ y g. refl; both = λ x y g. refl })
 which_print Depth Depth = inl refl
 which_print Depth Json = inr (record { on = λ x g. refl; back = λ y g. refl; both = λ x y g. refl })
-which_print Json (Patterns t) = inr (record { on = λ x g. refl; back = λ y g. refl; both = λ x y g. refl })
+which_print Json (Filter t) = inr (record { on = λ x g. refl; back = λ y g. refl; both = λ x y g. refl })
 which_print Json Depth = inr (record { on = λ x g. refl; back = λ y g. refl; both = λ x y g. refl })
 which_print Json Json = inl refl
 
@@ -86,42 +84,39 @@ prints_settle = settles print_with PrintValue has_print put_print print_value pr
 
 -- The options of a scrub.
 abbrev ScrubValue : ScrubOption → Type 0
-ScrubValue (scrubs.Patterns side) = List (List ℕ)
+ScrubValue (scrubs.Filter part) = FilterValue part
 ScrubValue scrubs.Renumber = Bool
 
 abbrev has_scrub : ScrubOption → ScrubSettings → Bool
-has_scrub (scrubs.Patterns side) g = has_side side g.filter
+has_scrub (scrubs.Filter part) g = has_filter part g.filter
 has_scrub scrubs.Renumber g = is_some g.renumber
 
 abbrev put_scrub : (o : ScrubOption) → ScrubValue o → ScrubSettings → ScrubSettings
-put_scrub (scrubs.Patterns side) patterns g = record g { filter = with_patterns side patterns g.filter }
+put_scrub (scrubs.Filter part) x g = record g { filter = put_filter part x g.filter }
 put_scrub scrubs.Renumber b g = record g { renumber = Some b }
 
 abbrev scrub_value : (o : ScrubOption) → List ℕ → Option (ScrubValue o)
-scrub_value (scrubs.Patterns side) list = patterns_of list
+scrub_value (scrubs.Filter part) word = filter_value part word
 scrub_value scrubs.Renumber word = yes_or_no word
 
 scrub_set : (o : ScrubOption) (v : List ℕ) (g : ScrubSettings) → scrub_with o v g ≡ set (has_scrub o) (put_scrub o) (scrub_value o v) g
-scrub_set (scrubs.Patterns side) v g = ap (option_map (λ h. record g { filter = h })) (side_set side v g.filter) ∙ by_tests (has_side side g.filter) (patterns_of v)
-  where
-    by_tests : (t : Bool) (o : Option (List (List ℕ))) → option_map (λ h. record g { filter = h }) (if t then None else option_map (λ x. with_patterns side x g.filter) o) ≡ (if t then None else option_map (λ x. record g { filter = with_patterns side x g.filter }) o)
-    by_tests true o = refl
-    by_tests false None = refl
-    by_tests false (Some x) = refl
+scrub_set (scrubs.Filter part) v g =
+    ap (option_map (λ h. record g { filter = h })) (filter_set part v g.filter)
+    ∙ set_in (has_filter part) (put_filter part) (filter_value part v) g.filter (λ h. record g { filter = h })
 scrub_set scrubs.Renumber v g = refl
 
 scrub_is : (o : ScrubOption) (x : ScrubValue o) (g : ScrubSettings) → has_scrub o (put_scrub o x g) ≡ true
-scrub_is (scrubs.Patterns side) x g = side_is side x g.filter
+scrub_is (scrubs.Filter part) x g = filter_is part x g.filter
 scrub_is scrubs.Renumber x g = refl
 
 which_scrub : (o p : ScrubOption) → (o ≡ p) ⊎ Apart (has_scrub o) (put_scrub o) (has_scrub p) (put_scrub p)
-which_scrub (scrubs.Patterns s) (scrubs.Patterns t) = by_which (which_side s t)
+which_scrub (scrubs.Filter s) (scrubs.Filter t) = by_which (which_filter s t)
   where
-    by_which : (s ≡ t) ⊎ Apart (has_side s) (with_patterns s) (has_side t) (with_patterns t) → (scrubs.Patterns s ≡ scrubs.Patterns t) ⊎ Apart (has_scrub (scrubs.Patterns s)) (put_scrub (scrubs.Patterns s)) (has_scrub (scrubs.Patterns t)) (put_scrub (scrubs.Patterns t))
-    by_which (inl e) = inl (ap (λ z. scrubs.Patterns z) e)
+    by_which : (s ≡ t) ⊎ Apart (has_filter s) (put_filter s) (has_filter t) (put_filter t) → (scrubs.Filter s ≡ scrubs.Filter t) ⊎ Apart (has_scrub (scrubs.Filter s)) (put_scrub (scrubs.Filter s)) (has_scrub (scrubs.Filter t)) (put_scrub (scrubs.Filter t))
+    by_which (inl e) = inl (ap (λ z. scrubs.Filter z) e)
     by_which (inr a) = inr (record { on = λ x g. a.on x g.filter; back = λ y g. a.back y g.filter; both = λ x y g. ap (λ h. record g { filter = h }) (a.both x y g.filter) })
-which_scrub (scrubs.Patterns s) scrubs.Renumber = inr (record { on = λ x g. refl; back = λ y g. refl; both = λ x y g. refl })
-which_scrub scrubs.Renumber (scrubs.Patterns t) = inr (record { on = λ x g. refl; back = λ y g. refl; both = λ x y g. refl })
+which_scrub (scrubs.Filter s) scrubs.Renumber = inr (record { on = λ x g. refl; back = λ y g. refl; both = λ x y g. refl })
+which_scrub scrubs.Renumber (scrubs.Filter t) = inr (record { on = λ x g. refl; back = λ y g. refl; both = λ x y g. refl })
 which_scrub scrubs.Renumber scrubs.Renumber = inl refl
 
 scrubs_settle : Settles scrub_with
@@ -167,15 +162,9 @@ which_split MaxSize MaxSize = inl refl
 splits_settle : Settles split_with
 splits_settle = settles split_with SplitValue is_split_given put_split split_value split_is_set split_is which_split
 
--- The options of stacks.
-which_stacks : (o p : StacksOption) → (o ≡ p) ⊎ Apart (has_side (stacks_side o)) (with_patterns (stacks_side o)) (has_side (stacks_side p)) (with_patterns (stacks_side p))
-which_stacks Events Events = inl refl
-which_stacks Events Categories = inr (record { on = λ x g. refl; back = λ y g. refl; both = λ x y g. refl })
-which_stacks Categories Events = inr (record { on = λ x g. refl; back = λ y g. refl; both = λ x y g. refl })
-which_stacks Categories Categories = inl refl
-
+-- The options of stacks are those of its filter.
 stacks_settle : Settles stacks_with
-stacks_settle = settles stacks_with (λ o. List (List ℕ)) (λ o. has_side (stacks_side o)) (λ o. with_patterns (stacks_side o)) (λ o. patterns_of) (λ o. side_set (stacks_side o)) (λ o. side_is (stacks_side o)) which_stacks
+stacks_settle = record { either = λ o p v u g. filters_settle.either o.0 p.0 v u g; once = λ o v u g. filters_settle.once o.0 v u g }
 
 -- A word among some is the first of them, or among the others.
 among : (word first : List ℕ) (others : List (List ℕ)) → list_any (bytes_eq word) (first ∷ others) ≡ true → (word ≡ first) ⊎ (list_any (bytes_eq word) others ≡ true)
@@ -203,7 +192,7 @@ abbrev Takes : {G O : Type 0} → (List ℕ → Option O) → (O → List ℕ �
 Takes {G = G} named given from option = (rest : List (List ℕ)) (g : G) → from g (option ++ rest) ≡ option_and_then (λ h. from h rest) (give named given option g)
 
 print_valued : (word : List ℕ) → list_any (bytes_eq word) (valued_options (codes "print")) ≡ true → (value : List ℕ) → Takes print_option_of print_with print_from (word ∷ value ∷ [])
-print_valued word e value = of_each (λ w. Takes print_option_of print_with print_from (w ∷ value ∷ [])) (valued_options (codes "print")) (λ rest g. refl, (λ rest g. refl, (λ rest g. refl, tt))) word e
+print_valued word e value = of_each (λ w. Takes print_option_of print_with print_from (w ∷ value ∷ [])) (valued_options (codes "print")) (λ rest g. refl, (λ rest g. refl, (λ rest g. refl, (λ rest g. refl, (λ rest g. refl, (λ rest g. refl, tt)))))) word e
 
 print_bare : (word : List ℕ) → list_any (bytes_eq word) (bare_options (codes "print")) ≡ true → Takes print_option_of print_with print_from (word ∷ [])
 print_bare word e = of_each (λ w. Takes print_option_of print_with print_from (w ∷ [])) (bare_options (codes "print")) (json, tt) word e
@@ -223,7 +212,7 @@ print_read g (word ∷ value ∷ []) rest e = print_valued word e value rest g
 print_read g (word ∷ value ∷ more ∷ others) rest e = cc
 
 scrub_valued : (word : List ℕ) → list_any (bytes_eq word) (valued_options (codes "scrub")) ≡ true → (value : List ℕ) → Takes scrub_option_of scrub_with scrub_from (word ∷ value ∷ [])
-scrub_valued word e value = of_each (λ w. Takes scrub_option_of scrub_with scrub_from (w ∷ value ∷ [])) (valued_options (codes "scrub")) (λ rest g. refl, (λ rest g. refl, (λ rest g. refl, (λ rest g. refl, (λ rest g. refl, (λ rest g. refl, (λ rest g. refl, tt))))))) word e
+scrub_valued word e value = of_each (λ w. Takes scrub_option_of scrub_with scrub_from (w ∷ value ∷ [])) (valued_options (codes "scrub")) (λ rest g. refl, (λ rest g. refl, (λ rest g. refl, (λ rest g. refl, (λ rest g. refl, (λ rest g. refl, (λ rest g. refl, (λ rest g. refl, (λ rest g. refl, (λ rest g. refl, (λ rest g. refl, tt))))))))))) word e
 
 scrub_read : (g : ScrubSettings) (option : List (List ℕ)) (rest : List (List ℕ)) → IsTrue (is_option (codes "scrub") option) → scrub_from g (option ++ rest) ≡ option_and_then (λ h. scrub_from h rest) (give scrub_option_of scrub_with option g)
 scrub_read g [] rest e = cc
@@ -233,16 +222,16 @@ scrub_read g (word ∷ value ∷ more ∷ others) rest e = cc
 
 -- The options of a filter, for a command that has no others.
 module _ (named : Given → List (List ℕ) → Option Order) where
-  filter_valued : (word : List ℕ) → list_any (bytes_eq word) filter_options ≡ true → (value : List ℕ) → Takes side_of given_with (filtered_from named) (word ∷ value ∷ [])
-  filter_valued word e value = of_each (λ w. Takes side_of given_with (filtered_from named) (w ∷ value ∷ [])) filter_options (λ rest g. refl, (λ rest g. refl, (λ rest g. refl, (λ rest g. refl, (λ rest g. refl, (λ rest g. refl, tt)))))) word e
+  filter_valued : (word : List ℕ) → list_any (bytes_eq word) filter_options ≡ true → (value : List ℕ) → Takes filter_option_of given_with (filtered_from named) (word ∷ value ∷ [])
+  filter_valued word e value = of_each (λ w. Takes filter_option_of given_with (filtered_from named) (w ∷ value ∷ [])) filter_options (λ rest g. refl, (λ rest g. refl, (λ rest g. refl, (λ rest g. refl, (λ rest g. refl, (λ rest g. refl, (λ rest g. refl, (λ rest g. refl, (λ rest g. refl, (λ rest g. refl, tt)))))))))) word e
 
-  receipt_read : (g : Given) (option : List (List ℕ)) (rest : List (List ℕ)) → IsTrue (is_option (codes "receipt") option) → filtered_from named g (option ++ rest) ≡ option_and_then (λ h. filtered_from named h rest) (give side_of given_with option g)
+  receipt_read : (g : Given) (option : List (List ℕ)) (rest : List (List ℕ)) → IsTrue (is_option (codes "receipt") option) → filtered_from named g (option ++ rest) ≡ option_and_then (λ h. filtered_from named h rest) (give filter_option_of given_with option g)
   receipt_read g [] rest e = cc
   receipt_read g (word ∷ []) rest e = cc
   receipt_read g (word ∷ value ∷ []) rest e = filter_valued word e value rest g
   receipt_read g (word ∷ value ∷ more ∷ others) rest e = cc
 
-  verification_read : (g : Given) (option : List (List ℕ)) (rest : List (List ℕ)) → IsTrue (is_option (codes "verify") option) → filtered_from named g (option ++ rest) ≡ option_and_then (λ h. filtered_from named h rest) (give side_of given_with option g)
+  verification_read : (g : Given) (option : List (List ℕ)) (rest : List (List ℕ)) → IsTrue (is_option (codes "verify") option) → filtered_from named g (option ++ rest) ≡ option_and_then (λ h. filtered_from named h rest) (give filter_option_of given_with option g)
   verification_read g [] rest e = cc
   verification_read g (word ∷ []) rest e = cc
   verification_read g (word ∷ value ∷ []) rest e = filter_valued word e value rest g
@@ -258,7 +247,7 @@ split_read g (word ∷ value ∷ []) rest e = split_valued word e value rest g
 split_read g (word ∷ value ∷ more ∷ others) rest e = cc
 
 stacks_valued : (word : List ℕ) → list_any (bytes_eq word) (valued_options (codes "stacks")) ≡ true → (value : List ℕ) → Takes stacks_option_of stacks_with stacks_from (word ∷ value ∷ [])
-stacks_valued word e value = of_each (λ w. Takes stacks_option_of stacks_with stacks_from (w ∷ value ∷ [])) (valued_options (codes "stacks")) (λ rest g. refl, (λ rest g. refl, tt)) word e
+stacks_valued word e value = of_each (λ w. Takes stacks_option_of stacks_with stacks_from (w ∷ value ∷ [])) (valued_options (codes "stacks")) (λ rest g. refl, (λ rest g. refl, (λ rest g. refl, (λ rest g. refl, (λ rest g. refl, tt))))) word e
 
 stacks_read : (g : Given) (option : List (List ℕ)) (rest : List (List ℕ)) → IsTrue (is_option (codes "stacks") option) → stacks_from g (option ++ rest) ≡ option_and_then (λ h. stacks_from h rest) (give stacks_option_of stacks_with option g)
 stacks_read g [] rest e = cc
@@ -266,9 +255,46 @@ stacks_read g (word ∷ []) rest e = cc
 stacks_read g (word ∷ value ∷ []) rest e = stacks_valued word e value rest g
 stacks_read g (word ∷ value ∷ more ∷ others) rest e = cc
 
--- Six commands have options, and no other word has any.
+-- `--json`, for a command that has no other option. What is given so far is whether it was given.
+abbrev json_option_of : List ℕ → Option (Unit {0})
+json_option_of word = if is_json word then Some tt else None
+
+abbrev json_with : Unit {0} → List ℕ → Bool → Option Bool
+json_with _ next given = if given then None else Some true
+
+json_settles : Settles json_with
+json_settles = settles json_with (λ _. Unit {0}) (λ _ given. given) (λ _ _ given. true) (λ _ _. Some tt) (λ _ v given. refl) (λ _ _ given. refl) (λ _ _. inl refl)
+
+module _ (named : Bool → List ℕ → Order) where
+  abbrev json_from : Bool → List (List ℕ) → Option Order
+  json_from true words = option_map (named true) (only_name words)
+  json_from false words = option_map (λ file. named (asks_json words) file) (only_name (after_json words))
+
+  json_bare : (word : List ℕ) → list_any (bytes_eq word) (codes "--json" ∷ []) ≡ true → Takes json_option_of json_with json_from (word ∷ [])
+  json_bare word e = of_each (λ w. Takes json_option_of json_with json_from (w ∷ [])) (codes "--json" ∷ []) (json, tt) word e
+    where
+      json : Takes json_option_of json_with json_from (codes "--json" ∷ [])
+      json rest false = refl
+      json [] true = refl
+      json (next ∷ rest) true = refl
+
+  summary_read : (given : Bool) (option : List (List ℕ)) (rest : List (List ℕ)) → IsTrue (is_option (codes "summary") option) → json_from given (option ++ rest) ≡ option_and_then (λ h. json_from h rest) (give json_option_of json_with option given)
+  summary_read given [] rest e = cc
+  summary_read given (word ∷ []) rest e = json_bare word e rest given
+  summary_read given (word ∷ value ∷ []) rest e = cc
+  summary_read given (word ∷ value ∷ more ∷ others) rest e = cc
+
+  metadata_read : (given : Bool) (option : List (List ℕ)) (rest : List (List ℕ)) → IsTrue (is_option (codes "metadata") option) → json_from given (option ++ rest) ≡ option_and_then (λ h. json_from h rest) (give json_option_of json_with option given)
+  metadata_read given [] rest e = cc
+  metadata_read given (word ∷ []) rest e = json_bare word e rest given
+  metadata_read given (word ∷ value ∷ []) rest e = cc
+  metadata_read given (word ∷ value ∷ more ∷ others) rest e = cc
+
+-- Eight commands have options, and no other word has any.
 data HasOptions (command : List ℕ) : Type 0 where
   print : command ≡ codes "print" → HasOptions command
+  summary : command ≡ codes "summary" → HasOptions command
+  metadata : command ≡ codes "metadata" → HasOptions command
   scrub : command ≡ codes "scrub" → HasOptions command
   split : command ≡ codes "disassemble" → HasOptions command
   receipt : command ≡ codes "receipt" → HasOptions command
@@ -278,22 +304,24 @@ data HasOptions (command : List ℕ) : Type 0 where
 
 has_options : (command : List ℕ) → HasOptions command
 has_options command =
-    by_tests (bytes_eq command (codes "print")) (bytes_eq command (codes "scrub")) (bytes_eq command (codes "disassemble")) (bytes_eq command (codes "receipt")) (bytes_eq command (codes "verify")) (bytes_eq command (codes "stacks"))
-    refl refl refl refl refl refl
+    by_tests (bytes_eq command (codes "print")) (bytes_eq command (codes "summary")) (bytes_eq command (codes "metadata")) (bytes_eq command (codes "scrub")) (bytes_eq command (codes "disassemble")) (bytes_eq command (codes "receipt")) (bytes_eq command (codes "verify")) (bytes_eq command (codes "stacks"))
+    refl refl refl refl refl refl refl refl
   where
-    by_tests : (p s d r v t : Bool) → bytes_eq command (codes "print") ≡ p → bytes_eq command (codes "scrub") ≡ s → bytes_eq command (codes "disassemble") ≡ d → bytes_eq command (codes "receipt") ≡ r → bytes_eq command (codes "verify") ≡ v → bytes_eq command (codes "stacks") ≡ t → HasOptions command
-    by_tests true s d r v t e f h i j k = print ((bytes_eq-Decides command (codes "print")).0 e)
-    by_tests false true d r v t e f h i j k = scrub ((bytes_eq-Decides command (codes "scrub")).0 f)
-    by_tests false false true r v t e f h i j k = split ((bytes_eq-Decides command (codes "disassemble")).0 h)
-    by_tests false false false true v t e f h i j k = receipt ((bytes_eq-Decides command (codes "receipt")).0 i)
-    by_tests false false false false true t e f h i j k = verify ((bytes_eq-Decides command (codes "verify")).0 j)
-    by_tests false false false false false true e f h i j k = stacks ((bytes_eq-Decides command (codes "stacks")).0 k)
-    by_tests false false false false false false e f h i j k = no_options none
+    by_tests : (p u m s d r v t : Bool) → bytes_eq command (codes "print") ≡ p → bytes_eq command (codes "summary") ≡ u → bytes_eq command (codes "metadata") ≡ m → bytes_eq command (codes "scrub") ≡ s → bytes_eq command (codes "disassemble") ≡ d → bytes_eq command (codes "receipt") ≡ r → bytes_eq command (codes "verify") ≡ v → bytes_eq command (codes "stacks") ≡ t → HasOptions command
+    by_tests true u m s d r v t e f g h i j k l = print ((bytes_eq-Decides command (codes "print")).0 e)
+    by_tests false true m s d r v t e f g h i j k l = summary ((bytes_eq-Decides command (codes "summary")).0 f)
+    by_tests false false true s d r v t e f g h i j k l = metadata ((bytes_eq-Decides command (codes "metadata")).0 g)
+    by_tests false false false true d r v t e f g h i j k l = scrub ((bytes_eq-Decides command (codes "scrub")).0 h)
+    by_tests false false false false true r v t e f g h i j k l = split ((bytes_eq-Decides command (codes "disassemble")).0 i)
+    by_tests false false false false false true v t e f g h i j k l = receipt ((bytes_eq-Decides command (codes "receipt")).0 j)
+    by_tests false false false false false false true t e f g h i j k l = verify ((bytes_eq-Decides command (codes "verify")).0 k)
+    by_tests false false false false false false false true e f g h i j k l = stacks ((bytes_eq-Decides command (codes "stacks")).0 l)
+    by_tests false false false false false false false false e f g h i j k l = no_options none
       where
         none : (option : List (List ℕ)) → IsTrue (is_option command option) → ⊥
         none [] t = cc
-        none (word ∷ []) t = cc (rw e at t)
-        none (word ∷ value ∷ []) t = cc (rw (e, f, h, i, j, k) at t)
+        none (word ∷ []) t = cc (rw (e, f, g) at t)
+        none (word ∷ value ∷ []) t = cc (rw (e, h, i, j, k, l) at t)
         none (word ∷ value ∷ more ∷ others) t = cc
 
 pub any_order : (command : List ℕ) (options others : List (List (List ℕ))) (rest : List (List ℕ)) → AreOptions command options → IsPermutation options others → order_of (line command others rest) ≡ order_of (line command options rest)
@@ -310,10 +338,12 @@ any_order command options others rest all p = by_command (has_options command) a
 
     by_command : HasOptions command → Same command
     by_command (print e) = subst Same (sym e) (λ all. in_any_order print_option_of print_with prints_settle print_from (λ o. IsTrue (is_option (codes "print") o)) print_read options others rest no_print_option all p)
+    by_command (summary e) = subst Same (sym e) (λ all. in_any_order json_option_of json_with json_settles (json_from orders.Summary) (λ o. IsTrue (is_option (codes "summary") o)) (summary_read orders.Summary) options others rest false all p)
+    by_command (metadata e) = subst Same (sym e) (λ all. in_any_order json_option_of json_with json_settles (json_from orders.Metadata) (λ o. IsTrue (is_option (codes "metadata") o)) (metadata_read orders.Metadata) options others rest false all p)
     by_command (scrub e) = subst Same (sym e) (λ all. in_any_order scrub_option_of scrub_with scrubs_settle scrub_from (λ o. IsTrue (is_option (codes "scrub") o)) scrub_read options others rest no_scrub_option all p)
     by_command (split e) = subst Same (sym e) (λ all. in_any_order split_option_of split_with splits_settle split_from (λ o. IsTrue (is_option (codes "disassemble") o)) split_read options others rest no_split_option all p)
-    by_command (receipt e) = subst Same (sym e) (λ all. in_any_order side_of given_with sides_settle (filtered_from receipt_named) (λ o. IsTrue (is_option (codes "receipt") o)) (receipt_read receipt_named) options others rest nothing_given all p)
-    by_command (verify e) = subst Same (sym e) (λ all. in_any_order side_of given_with sides_settle (filtered_from verification_named) (λ o. IsTrue (is_option (codes "verify") o)) (verification_read verification_named) options others rest nothing_given all p)
+    by_command (receipt e) = subst Same (sym e) (λ all. in_any_order filter_option_of given_with filters_settle (filtered_from receipt_named) (λ o. IsTrue (is_option (codes "receipt") o)) (receipt_read receipt_named) options others rest nothing_given all p)
+    by_command (verify e) = subst Same (sym e) (λ all. in_any_order filter_option_of given_with filters_settle (filtered_from verification_named) (λ o. IsTrue (is_option (codes "verify") o)) (verification_read verification_named) options others rest nothing_given all p)
     by_command (stacks e) = subst Same (sym e) (λ all. in_any_order stacks_option_of stacks_with stacks_settle stacks_from (λ o. IsTrue (is_option (codes "stacks") o)) stacks_read options others rest nothing_given all p)
     by_command (no_options none) = λ all. nothing_given_at options others (length_permutation options others p) all none
 
@@ -334,9 +364,11 @@ at_most_once command options rest all = by_command (has_options command) all
 
     by_command : HasOptions command → Once command
     by_command (print e) = subst Once (sym e) (λ all. given_once print_option_of print_with prints_settle print_from (λ o. IsTrue (is_option (codes "print") o)) print_read options rest no_print_option all)
+    by_command (summary e) = subst Once (sym e) (λ all. given_once json_option_of json_with json_settles (json_from orders.Summary) (λ o. IsTrue (is_option (codes "summary") o)) (summary_read orders.Summary) options rest false all)
+    by_command (metadata e) = subst Once (sym e) (λ all. given_once json_option_of json_with json_settles (json_from orders.Metadata) (λ o. IsTrue (is_option (codes "metadata") o)) (metadata_read orders.Metadata) options rest false all)
     by_command (scrub e) = subst Once (sym e) (λ all. given_once scrub_option_of scrub_with scrubs_settle scrub_from (λ o. IsTrue (is_option (codes "scrub") o)) scrub_read options rest no_scrub_option all)
     by_command (split e) = subst Once (sym e) (λ all. given_once split_option_of split_with splits_settle split_from (λ o. IsTrue (is_option (codes "disassemble") o)) split_read options rest no_split_option all)
-    by_command (receipt e) = subst Once (sym e) (λ all. given_once side_of given_with sides_settle (filtered_from receipt_named) (λ o. IsTrue (is_option (codes "receipt") o)) (receipt_read receipt_named) options rest nothing_given all)
-    by_command (verify e) = subst Once (sym e) (λ all. given_once side_of given_with sides_settle (filtered_from verification_named) (λ o. IsTrue (is_option (codes "verify") o)) (verification_read verification_named) options rest nothing_given all)
+    by_command (receipt e) = subst Once (sym e) (λ all. given_once filter_option_of given_with filters_settle (filtered_from receipt_named) (λ o. IsTrue (is_option (codes "receipt") o)) (receipt_read receipt_named) options rest nothing_given all)
+    by_command (verify e) = subst Once (sym e) (λ all. given_once filter_option_of given_with filters_settle (filtered_from verification_named) (λ o. IsTrue (is_option (codes "verify") o)) (verification_read verification_named) options rest nothing_given all)
     by_command (stacks e) = subst Once (sym e) (λ all. given_once stacks_option_of stacks_with stacks_settle stacks_from (λ o. IsTrue (is_option (codes "stacks") o)) stacks_read options rest nothing_given all)
     by_command (no_options none) = λ all. on_any _ _ (none_given options all none)

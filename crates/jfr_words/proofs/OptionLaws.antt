@@ -1,15 +1,11 @@
 -- Options that take the next word.
-use Rattle.std.specs.Prelude.{◌≡◌, ℕ, List, [], ◌∷◌, drop, Option, None, Some, option_and_then, option_map, slice_get, Result, Ok, Err}
+use Rattle.std.specs.Prelude.{◌≡◌, ℕ, List, [], ◌∷◌, drop, Option, Some, option_and_then, slice_get}
 use Rattle.std.specs.Option.{option_map_or}
 use Rattle.std.proofs.Common.{ap, refl, sym, ◌∙◌}
-use Rattle.jfr_filter.specs.declared.side.Side.{Side}
 use Rattle.jfr_filter.specs.Filters.{Given}
 use Rattle.jfr_words.specs.declared.order.Order.{Order}
-use Rattle.jfr_words.specs.declared.order.WordsFault.{WordsFault}
-use Rattle.jfr_words.specs.declared.order.WordsFault.TheVariants.{Usage, Memory}
-use Rattle.jfr_words.specs.Filtered.{side_of, filtered_from}
-use Rattle.jfr_words.specs.Patterns.{given_with}
-use Rattle.jfr_words.specs.Words.{IsRead}
+use Rattle.jfr_words.specs.FilterOptions.{FilterOption, filter_option_of, given_with}
+use Rattle.jfr_words.specs.Filtered.{filtered_from}
 
 -- How a command's words are read, from what is given so far.
 pub record Reads {G O X : Type 0} (from : G → List (List ℕ) → Option X) (option : List ℕ → Option O) (given : O → List ℕ → G → Option G) (named : G → List (List ℕ) → Option X) : Type 0 where
@@ -30,38 +26,10 @@ option_taken {G = G} from option given named reads g h o next (word ∷ second �
     ∙ ap (λ z. option_and_then (λ k. from k others) z) f
     ∙ ap (from h) r)
 
--- What is read of a part is read of the whole.
-pub map_read : {T U V : Type 0} (f : U → V) (o : Option U) (r : Result T WordsFault) (x : U) → IsRead o r (λ _. x) → IsRead (option_map f o) r (λ _. f x)
-map_read f o (Ok t) x i = ap (option_map f) i
-map_read f o (Err Usage) x i = ap (option_map f) i
-map_read f o (Err Memory) x i = tt
-
 module _ (named : Given → List (List ℕ) → Option Order) where
-  reads_filter : Reads (filtered_from named) side_of given_with named
+  reads_filter : Reads (filtered_from named) filter_option_of given_with named
   reads_filter = record { on = λ g word next rest. refl }
 
-  -- A side took the next word as its patterns.
-  pub side_taken : (g h : Given) (side : Side) (next : List ℕ) (before unread rest : List (List ℕ)) → Some side ≡ option_and_then side_of (slice_get before 0) → unread ≡ drop 1 before → unread ≡ next ∷ rest → given_with side next g ≡ Some h → filtered_from named h rest ≡ filtered_from named g before
-  side_taken = option_taken (filtered_from named) side_of given_with named reads_filter
-
-  -- The first word left is no option.
-  pub no_side_left : (g : Given) (unread : List (List ℕ)) → None ≡ option_and_then side_of (slice_get unread 0) → filtered_from named g unread ≡ named g unread
-  no_side_left g [] e = refl
-  no_side_left g (word ∷ []) e = ap (λ z. option_map_or (λ side. None) z (named g (word ∷ []))) (sym e)
-  no_side_left g (word ∷ next ∷ rest) e = ap (λ z. option_map_or (λ side. option_and_then (λ h. filtered_from named h rest) (given_with side next g)) z (named g (word ∷ next ∷ rest))) (sym e)
-
-  -- An option has no value.
-  pub no_value_left : (g : Given) (side : Side) (before : List (List ℕ)) → Some side ≡ option_and_then side_of (slice_get before 0) → drop 1 before ≡ [] → filtered_from named g before ≡ None
-  no_value_left g side [] e l = cc
-  no_value_left g side (word ∷ []) e l = ap (λ z. option_map_or (λ side. None) z (named g (word ∷ []))) (sym e)
-  no_value_left g side (word ∷ next ∷ rest) e l = cc
-
-  -- The value of an option isn't valid, or the option was given before.
-  pub not_given : (g : Given) (side : Side) (next : List ℕ) (before unread rest : List (List ℕ)) → Some side ≡ option_and_then side_of (slice_get before 0) → unread ≡ drop 1 before → unread ≡ next ∷ rest → given_with side next g ≡ None → filtered_from named g before ≡ None
-  not_given g side next [] unread rest e l m f = cc
-  not_given g side next (word ∷ []) unread rest e l m f = cc
-  not_given g side next (word ∷ second ∷ others) unread rest e l m f =
-      let s : second ≡ next = cc in
-      ap (λ z. option_map_or (λ p. option_and_then (λ h. filtered_from named h others) (given_with p second g)) z (named g (word ∷ second ∷ others))) (sym e)
-      ∙ ap (λ z. option_and_then (λ h. filtered_from named h others) (given_with side z g)) s
-      ∙ ap (option_and_then (λ h. filtered_from named h others)) f
+  -- An option took the next word as its value.
+  pub filter_taken : (g h : Given) (option : FilterOption) (next : List ℕ) (before unread rest : List (List ℕ)) → Some option ≡ option_and_then filter_option_of (slice_get before 0) → unread ≡ drop 1 before → unread ≡ next ∷ rest → given_with option next g ≡ Some h → filtered_from named h rest ≡ filtered_from named g before
+  filter_taken = option_taken (filtered_from named) filter_option_of given_with named reads_filter

@@ -10,18 +10,18 @@ use Rattle.jfr_words.specs.declared.order.Order.{Order}
 use Rattle.jfr_words.specs.declared.order.Order.TheVariants as orders
 use Rattle.jfr_words.specs.declared.order.WordsFault.{WordsFault}
 use Rattle.jfr_words.specs.declared.print.PrintOption.{PrintOption}
-use Rattle.jfr_words.specs.declared.print.PrintOption.TheVariants.{Patterns, Depth, Json}
+use Rattle.jfr_words.specs.declared.print.PrintOption.TheVariants.{Filter, Depth, Json}
 use Rattle.jfr_words.specs.declared.print.PrintSettings.{PrintSettings}
 use Rattle.jfr_words.specs.declared.split.SplitOption.{SplitOption}
 use Rattle.jfr_words.specs.declared.split.SplitOption.TheVariants.{Output, MaxChunks, MaxSize}
 use Rattle.jfr_words.specs.declared.split.SplitSettings.{SplitSettings}
 use Rattle.jfr_filter.specs.Filters.{Given, nothing_given}
-use Rattle.jfr_filter.specs.declared.side.Side.{Side}
-use Rattle.jfr_words.specs.Filtered.{side_of, filtered_from}
+use Rattle.jfr_words.specs.FilterOptions.{FilterOption, filter_option_of, given_with}
+use Rattle.jfr_words.specs.Filtered.{filtered_from}
+use Rattle.jfr_words.specs.Jsons.{after_json}
 use Rattle.jfr_words.specs.Names.{only_name, two_names, three_names, name_in}
 use Rattle.jfr_base.specs.Decimal.{decimal_number}
 use Rattle.jfr_words.specs.Numbers.{within, number_in}
-use Rattle.jfr_words.specs.Patterns.{given_with}
 use Rattle.jfr_words.specs.Prints.{no_print_option, print_option_of, print_with, print_goes_on, print_named, print_from}
 use Rattle.jfr_words.specs.Scrubs.{ScrubOption, ScrubSettings, no_scrub_option, scrub_option_of, scrub_with, scrub_named, scrub_from}
 use Rattle.jfr_words.specs.Splits.{no_split_option, split_option_of, is_split_given, split_set, split_with, split_named, split_from}
@@ -75,7 +75,7 @@ abbrev IsShallow : PrintSettings → Type 0
 IsShallow g = Gives (λ d. d ≤ 8) g.depth
 
 shallow_with : (option : PrintOption) (next : List ℕ) (g : PrintSettings) → IsShallow g → Gives IsShallow (print_with option next g)
-shallow_with (Patterns side) next g s = gives_map IsShallow _ (given_with side next g.filter) (λ k. s)
+shallow_with (Filter part) next g s = gives_map IsShallow _ (given_with part next g.filter) (λ k. s)
 shallow_with Depth next g s = gives_if IsShallow (is_some g.depth) None _ tt (gives_number IsShallow _ 0 8 next (λ n l h. h))
 shallow_with Json next g s = gives_if IsShallow g.json None _ tt s
 
@@ -92,7 +92,7 @@ print_usable g (word ∷ []) s = print_named_usable g (word ∷ []) s
 print_usable g (word ∷ next ∷ rest) s = by_option (print_option_of word) (λ h. print_usable h (next ∷ rest)) (λ h. print_usable h rest)
   where
     goes_on : (o : PrintOption) (a b : Option Order) → Gives IsUsableOrder a → Gives IsUsableOrder b → Gives IsUsableOrder (print_goes_on o a b)
-    goes_on (Patterns side) a b u v = v
+    goes_on (Filter part) a b u v = v
     goes_on Depth a b u v = v
     goes_on Json a b u v = u
 
@@ -143,17 +143,17 @@ scrub_usable g (word ∷ next ∷ rest) = by_option (scrub_option_of word) (λ h
 -- A command whose options are those of a filter, if its names give usable orders.
 filtered_usable : (named : Given → List (List ℕ) → Option Order) → ((g : Given) (words : List (List ℕ)) → Gives IsUsableOrder (named g words)) → (g : Given) (words : List (List ℕ)) → Gives IsUsableOrder (filtered_from named g words)
 filtered_usable named u g [] = u g []
-filtered_usable named u g (word ∷ []) = by_option (side_of word)
+filtered_usable named u g (word ∷ []) = by_option (filter_option_of word)
   where
-    by_option : (z : Option Side) → Gives IsUsableOrder (option_map_or (λ side. None) z (named g (word ∷ [])))
+    by_option : (z : Option FilterOption) → Gives IsUsableOrder (option_map_or (λ option. None) z (named g (word ∷ [])))
     by_option None = u g (word ∷ [])
-    by_option (Some side) = tt
-filtered_usable named u g (word ∷ next ∷ rest) = by_option (side_of word) (λ h. filtered_usable named u h rest)
+    by_option (Some option) = tt
+filtered_usable named u g (word ∷ next ∷ rest) = by_option (filter_option_of word) (λ h. filtered_usable named u h rest)
   where
-    by_option : (z : Option Side) → ((h : Given) → Gives IsUsableOrder (filtered_from named h rest))
-        → Gives IsUsableOrder (option_map_or (λ side. option_and_then (λ h. filtered_from named h rest) (given_with side next g)) z (named g (word ∷ next ∷ rest)))
+    by_option : (z : Option FilterOption) → ((h : Given) → Gives IsUsableOrder (filtered_from named h rest))
+        → Gives IsUsableOrder (option_map_or (λ option. option_and_then (λ h. filtered_from named h rest) (given_with option next g)) z (named g (word ∷ next ∷ rest)))
     by_option None v = u g (word ∷ next ∷ rest)
-    by_option (Some side) v = gives_after IsUsableOrder _ (given_with side next g) v
+    by_option (Some option) v = gives_after IsUsableOrder _ (given_with option next g) v
 
 sample_usable : (words : List (List ℕ)) → Gives IsUsableOrder (sample_of words)
 sample_usable [] = tt
@@ -182,8 +182,8 @@ unfolding order_of
 order_usable [] = tt
 order_usable (command ∷ rest) =
     gives_if IsUsableOrder (bytes_eq command (codes "print")) _ _ (print_usable no_print_option rest tt)
-    (gives_if IsUsableOrder (bytes_eq command (codes "summary")) _ _ (gives_map IsUsableOrder _ (only_name rest) (λ file. tt))
-    (gives_if IsUsableOrder (bytes_eq command (codes "metadata")) _ _ (gives_map IsUsableOrder _ (only_name rest) (λ file. tt))
+    (gives_if IsUsableOrder (bytes_eq command (codes "summary")) _ _ (gives_map IsUsableOrder _ (only_name (after_json rest)) (λ file. tt))
+    (gives_if IsUsableOrder (bytes_eq command (codes "metadata")) _ _ (gives_map IsUsableOrder _ (only_name (after_json rest)) (λ file. tt))
     (gives_if IsUsableOrder (bytes_eq command (codes "scrub")) _ _ (scrub_usable no_scrub_option rest)
     (gives_if IsUsableOrder (bytes_eq command (codes "disassemble")) _ _ (split_usable no_split_option rest (tt, tt))
     (gives_if IsUsableOrder (bytes_eq command (codes "assemble")) _ _ (gives_map IsUsableOrder _ (two_names rest) (λ names. tt))

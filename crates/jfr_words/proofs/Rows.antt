@@ -1,5 +1,5 @@
 -- The orders of some lines.
-use Rattle.std.specs.Prelude.{◌≡◌, ◌^◌, true, false, [], ◌∷◌, codes, Some, None, refl}
+use Rattle.std.specs.Prelude.{◌≡◌, ◌^◌, pos, true, false, [], ◌∷◌, codes, Some, None, refl}
 use Rattle.jfr_filter.specs.Filters.{nothing_given}
 use Rattle.jfr_words.specs.declared.order.Order.TheVariants.{Print, Summary, Metadata, Scrub, Disassemble, Assemble, Sample, Receipt, Verify, Stacks, Build}
 use Rattle.jfr_base.specs.Decimal.{decimal_number}
@@ -39,17 +39,34 @@ late_option_row : order_of (codes "print" ∷ codes "a" ∷ codes "--json" ∷ [
 unfolding order_of
 late_option_row = refl
 
-summary_row : order_of (codes "summary" ∷ codes "a" ∷ []) ≡ Some (Summary (codes "a"))
+summary_row : order_of (codes "summary" ∷ codes "a" ∷ []) ≡ Some (Summary false (codes "a"))
 unfolding order_of
 summary_row = refl
+
+summary_json_row : order_of (codes "summary" ∷ codes "--json" ∷ codes "a" ∷ []) ≡ Some (Summary true (codes "a"))
+unfolding order_of
+summary_json_row = refl
+
+summary_json_twice_row : order_of (codes "summary" ∷ codes "--json" ∷ codes "--json" ∷ codes "a" ∷ []) ≡ None
+unfolding order_of
+summary_json_twice_row = refl
 
 two_files_row : order_of (codes "summary" ∷ codes "a" ∷ codes "b" ∷ []) ≡ None
 unfolding order_of
 two_files_row = refl
 
-metadata_row : order_of (codes "metadata" ∷ codes "a" ∷ []) ≡ Some (Metadata (codes "a"))
+metadata_row : order_of (codes "metadata" ∷ codes "a" ∷ []) ≡ Some (Metadata false (codes "a"))
 unfolding order_of
 metadata_row = refl
+
+metadata_json_row : order_of (codes "metadata" ∷ codes "--json" ∷ codes "a" ∷ []) ≡ Some (Metadata true (codes "a"))
+unfolding order_of
+metadata_json_row = refl
+
+-- The option comes before the name.
+late_json_row : order_of (codes "metadata" ∷ codes "a" ∷ codes "--json" ∷ []) ≡ None
+unfolding order_of
+late_json_row = refl
 
 -- A name doesn't begin with a dash, and isn't empty.
 dash_row : order_of (codes "metadata" ∷ codes "-a" ∷ []) ≡ None
@@ -102,6 +119,52 @@ renumber_maybe_row = refl
 renumber_twice_row : order_of (codes "scrub" ∷ codes "--renumber" ∷ codes "no" ∷ codes "--renumber" ∷ codes "yes" ∷ codes "a" ∷ codes "b" ∷ []) ≡ None
 unfolding order_of
 renumber_twice_row = refl
+
+-- The last moment has nineteen digits.
+window_row : order_of (codes "scrub" ∷ codes "--to" ∷ codes "9223372036854775807" ∷ codes "--from" ∷ codes "00" ∷ codes "a" ∷ codes "b" ∷ [])
+    ≡ Some (Scrub (record nothing_given { from = Some (pos 0); to = Some (pos 9223372036854775807) }) false (codes "a") (codes "b"))
+unfolding order_of decimal_number
+window_row = refl
+
+large_moment_row : order_of (codes "scrub" ∷ codes "--from" ∷ codes "9223372036854775808" ∷ codes "a" ∷ codes "b" ∷ []) ≡ None
+unfolding order_of decimal_number
+large_moment_row = refl
+
+-- Twenty digits are too many, even if the number is small.
+long_moment_row : order_of (codes "scrub" ∷ codes "--to" ∷ codes "00000000000000000007" ∷ codes "a" ∷ codes "b" ∷ []) ≡ None
+unfolding order_of decimal_number
+long_moment_row = refl
+
+empty_moment_row : order_of (codes "scrub" ∷ codes "--from" ∷ [] ∷ codes "a" ∷ codes "b" ∷ []) ≡ None
+unfolding order_of decimal_number
+empty_moment_row = refl
+
+signed_moment_row : order_of (codes "print" ∷ codes "--from" ∷ codes "-7" ∷ codes "a" ∷ []) ≡ None
+unfolding order_of decimal_number
+signed_moment_row = refl
+
+no_moment_row : order_of (codes "scrub" ∷ codes "--to" ∷ []) ≡ None
+unfolding order_of
+no_moment_row = refl
+
+moment_twice_row : order_of (codes "verify" ∷ codes "--to" ∷ codes "7" ∷ codes "--to" ∷ codes "7" ∷ codes "a" ∷ codes "b" ∷ codes "r" ∷ []) ≡ None
+unfolding order_of decimal_number
+moment_twice_row = refl
+
+always_row : order_of (codes "stacks" ∷ codes "--always" ∷ codes "OSInformation" ∷ codes "--from" ∷ codes "7" ∷ codes "a" ∷ [])
+    ≡ Some (Stacks (record nothing_given { from = Some (pos 7); always = Some (codes "OSInformation" ∷ []) }) (codes "a"))
+unfolding order_of decimal_number
+always_row = refl
+
+describe_row : order_of (codes "scrub" ∷ codes "--describe" ∷ codes "t.*,A" ∷ codes "--renumber" ∷ codes "yes" ∷ codes "a" ∷ codes "b" ∷ [])
+    ≡ Some (Scrub (record nothing_given { describe = Some (codes "t.*" ∷ codes "A" ∷ []) }) true (codes "a") (codes "b"))
+unfolding order_of
+describe_row = refl
+
+-- `print` has no option --describe.
+described_print_row : order_of (codes "print" ∷ codes "--describe" ∷ codes "A" ∷ codes "a" ∷ []) ≡ None
+unfolding order_of
+described_print_row = refl
 
 receipt_row : order_of (codes "receipt" ∷ codes "--include-events" ∷ codes "t.A" ∷ codes "a" ∷ codes "r" ∷ []) ≡ Some (Receipt (record nothing_given { include_events = Some (codes "t.A" ∷ []) }) (codes "a") (codes "r"))
 unfolding order_of

@@ -18,6 +18,15 @@ pub then_then : {X Y Z : Type 0} (f : X → Option Y) (h : Y → Option Z) (o : 
 then_then f h None = refl
 then_then f h (Some x) = refl
 
+-- What is set in a part is set in the whole.
+pub set_in : {F G X : Type 0} (has : F → Bool) (put : X → F → F) (value : Option X) (f : F) (into : F → G) → option_map into (set has put value f) ≡ (if has f then None else option_map (λ x. into (put x f)) value)
+set_in has put value f into = by_test (has f) value
+  where
+    by_test : (t : Bool) (value : Option _) → option_map into (if t then None else option_map (λ x. put x f) value) ≡ (if t then None else option_map (λ x. into (put x f)) value)
+    by_test true value = refl
+    by_test false None = refl
+    by_test false (Some x) = refl
+
 -- What is set can't be set again.
 pub set_twice : {G X : Type 0} (has : G → Bool) (put : X → G → G) (o p : Option X) (g : G) → ((x : X) (h : G) → has (put x h) ≡ true) → option_and_then (set has put p) (set has put o g) ≡ None
 set_twice has put o p g is = by_test (has g) o

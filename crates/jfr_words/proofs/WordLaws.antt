@@ -23,9 +23,13 @@ no_first (x ∷ xs) e = cc
 pub chars_of : (t word : List ℕ) → list_all is_ascii word ≡ true → t ≡ word → chars t ≡ word
 chars_of t word a e = ap chars e ∙ chars-IsAscii word (word_ascii word a)
 
+-- A text is a word in ASCII exactly if its characters are.
+pub same_word : (t word : List ℕ) → IsUtf8 t → list_all is_ascii word ≡ true → bytes_eq t word ≡ bytes_eq (chars t) word
+same_word t word u a = bytes_eq-chars t word u (IsUtf8-from_ascii word (word_ascii word a)) ∙ ap (bytes_eq (chars t)) (chars-IsAscii word (word_ascii word a))
+
 -- Another text has other characters.
 pub is_other : (t word : List ℕ) → IsUtf8 t → list_all is_ascii word ≡ true → (t ≡ word → ⊥) → bytes_eq (chars t) word ≡ false
-is_other t word u a n = by_test (bytes_eq t word) (bytes_eq-chars t word u (IsUtf8-from_ascii word (word_ascii word a)) ∙ ap (bytes_eq (chars t)) (chars-IsAscii word (word_ascii word a))) (bytes_eq-Decides t word).0
+is_other t word u a n = by_test (bytes_eq t word) (same_word t word u a) (bytes_eq-Decides t word).0
   where
     by_test : (r : Bool) → r ≡ bytes_eq (chars t) word → (r ≡ true → t ≡ word) → bytes_eq (chars t) word ≡ false
     by_test true e d = absurd (n (d refl))

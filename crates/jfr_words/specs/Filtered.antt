@@ -1,32 +1,18 @@
 -- The words after a command whose options are those of a filter.
-use Rattle.std.specs.Prelude.{◌≡◌, ℕ, List, [], ◌∷◌, Option, None, Some, option_and_then, Result, Ok, Err, ⊤, if◌then◌else◌, codes}
+use Rattle.std.specs.Prelude.{◌≡◌, ℕ, List, [], ◌∷◌, Option, None, option_and_then, Result, Ok, Err, ⊤}
 use Rattle.std.specs.Option.{option_map_or}
-use Rattle.std.specs.Str.{bytes_eq}
-use Rattle.jfr_filter.specs.declared.side.Side.{Side}
-use Rattle.jfr_filter.specs.declared.side.Side.TheVariants.{IncludeEvents, ExcludeEvents, IncludeCategories, ExcludeCategories, IncludeThreads, ExcludeThreads}
 use Rattle.jfr_filter.specs.Filters.{Given, nothing_given}
 use Rattle.jfr_words.specs.declared.order.Order.{Order}
 use Rattle.jfr_words.specs.declared.order.WordsFault.{WordsFault}
 use Rattle.jfr_words.specs.declared.order.WordsFault.TheVariants.{Usage, Memory}
-use Rattle.jfr_words.specs.Patterns.{given_with}
-
--- The option of a filter that a word names.
-abbrev pub side_of : List ℕ → Option Side
-side_of word =
-    if bytes_eq word (codes "--include-events") then Some IncludeEvents else
-    if bytes_eq word (codes "--exclude-events") then Some ExcludeEvents else
-    if bytes_eq word (codes "--include-categories") then Some IncludeCategories else
-    if bytes_eq word (codes "--exclude-categories") then Some ExcludeCategories else
-    if bytes_eq word (codes "--include-threads") then Some IncludeThreads else
-    if bytes_eq word (codes "--exclude-threads") then Some ExcludeThreads else
-    None
+use Rattle.jfr_words.specs.FilterOptions.{filter_option_of, given_with}
 
 -- What the words give, with these options of the filter given so far: an option takes the next word, whatever
--- it is, as its list of patterns; after the options come the names.
+-- it is, as its value; after the options come the names.
 abbrev pub filtered_from : (Given → List (List ℕ) → Option Order) → Given → List (List ℕ) → Option Order
 filtered_from named g [] = named g []
-filtered_from named g (word ∷ []) = option_map_or (λ side. None) (side_of word) (named g (word ∷ []))
-filtered_from named g (word ∷ next ∷ rest) = option_map_or (λ side. option_and_then (λ h. filtered_from named h rest) (given_with side next g)) (side_of word) (named g (word ∷ next ∷ rest))
+filtered_from named g (word ∷ []) = option_map_or (λ option. None) (filter_option_of word) (named g (word ∷ []))
+filtered_from named g (word ∷ next ∷ rest) = option_map_or (λ option. option_and_then (λ h. filtered_from named h rest) (given_with option next g)) (filter_option_of word) (named g (word ∷ next ∷ rest))
 
 -- After a success the words give what the filter and the words left give as names; a usage fault means that
 -- they give nothing; running out of memory says nothing.

@@ -3,24 +3,32 @@ use Rattle.std.specs.Prelude.{ℕ, Bool, false, IsTrue, All, List, [], ◌∷◌
 use Rattle.std.specs.List.{flat_map, list_any}
 use Rattle.std.specs.Str.{bytes_eq}
 
+-- The options about a time window.
+abbrev pub window_options : List (List ℕ)
+window_options = codes "--from" ∷ codes "--to" ∷ codes "--always" ∷ []
+
 -- The options of a filter.
 abbrev pub filter_options : List (List ℕ)
-filter_options = codes "--include-events" ∷ codes "--exclude-events" ∷ codes "--include-categories" ∷ codes "--exclude-categories" ∷ codes "--include-threads" ∷ codes "--exclude-threads" ∷ []
+filter_options = codes "--include-events" ∷ codes "--exclude-events" ∷ codes "--include-categories" ∷ codes "--exclude-categories" ∷ codes "--include-threads" ∷ codes "--exclude-threads" ∷ codes "--describe" ∷ window_options
 
 -- The options of a command that take a value.
 abbrev pub valued_options : List ℕ → List (List ℕ)
 valued_options command =
-    if bytes_eq command (codes "print") then codes "--events" ∷ codes "--categories" ∷ codes "--depth" ∷ [] else
+    if bytes_eq command (codes "print") then codes "--depth" ∷ codes "--events" ∷ codes "--categories" ∷ window_options else
     if bytes_eq command (codes "scrub") then codes "--renumber" ∷ filter_options else
     if bytes_eq command (codes "disassemble") then codes "--output" ∷ codes "--max-chunks" ∷ codes "--max-size" ∷ [] else
     if bytes_eq command (codes "receipt") then filter_options else
     if bytes_eq command (codes "verify") then filter_options else
-    if bytes_eq command (codes "stacks") then codes "--events" ∷ codes "--categories" ∷ [] else
+    if bytes_eq command (codes "stacks") then codes "--events" ∷ codes "--categories" ∷ window_options else
     []
 
 -- The options of a command that take none.
 abbrev pub bare_options : List ℕ → List (List ℕ)
-bare_options command = if bytes_eq command (codes "print") then codes "--json" ∷ [] else []
+bare_options command =
+    if bytes_eq command (codes "print") then codes "--json" ∷ [] else
+    if bytes_eq command (codes "summary") then codes "--json" ∷ [] else
+    if bytes_eq command (codes "metadata") then codes "--json" ∷ [] else
+    []
 
 -- Whether words are an option of the command as it is given: its word, followed by its value, which may be
 -- any word, if it takes one.

@@ -1,4 +1,6 @@
+pub mod FilterOptions
 pub mod Filtered
+pub mod Jsons
 pub mod Laws
 pub mod Names
 pub mod Numbers

@@ -2,25 +2,22 @@
 use Rattle.std.specs.Prelude.{ℕ, true, false, List, ◌∷◌, Option, None, Some, option_map, option_and_then, unwrap_or, if◌then◌else◌, codes}
 use Rattle.std.specs.Option.{is_some, option_map_or}
 use Rattle.std.specs.Str.{bytes_eq}
-use Rattle.jfr_filter.specs.declared.side.Side.TheVariants.{IncludeEvents, IncludeCategories}
 use Rattle.jfr_filter.specs.Filters.{nothing_given}
 use Rattle.jfr_words.specs.declared.order.Order.{Order}
 use Rattle.jfr_words.specs.declared.order.Order.TheVariants.{Print}
 pub use Rattle.jfr_words.specs.declared.print.PrintOption.{PrintOption}
-use Rattle.jfr_words.specs.declared.print.PrintOption.TheVariants.{Patterns, Depth, Json}
+use Rattle.jfr_words.specs.declared.print.PrintOption.TheVariants.{Filter, Depth, Json}
 pub use Rattle.jfr_words.specs.declared.print.PrintSettings.{PrintSettings}
+use Rattle.jfr_words.specs.FilterOptions.{shown_option_of, given_with}
 use Rattle.jfr_words.specs.Names.{only_name}
 use Rattle.jfr_words.specs.Numbers.{number_in}
-use Rattle.jfr_words.specs.Patterns.{given_with}
 
 -- The option of `print` that a word names.
 abbrev pub print_option_of : List ℕ → Option PrintOption
 print_option_of word =
-    if bytes_eq word (codes "--events") then Some (Patterns IncludeEvents) else
-    if bytes_eq word (codes "--categories") then Some (Patterns IncludeCategories) else
     if bytes_eq word (codes "--depth") then Some Depth else
     if bytes_eq word (codes "--json") then Some Json else
-    None
+    option_map (λ option. Filter option) (shown_option_of word)
 
 -- No options given.
 abbrev pub no_print_option : PrintSettings
@@ -29,7 +26,7 @@ no_print_option = record { filter = nothing_given; depth = None; json = false }
 -- The options with this one set to the next word; none if it was given before or the word is not a value of
 -- it. `--json` doesn't look at the word.
 abbrev pub print_with : PrintOption → List ℕ → PrintSettings → Option PrintSettings
-print_with (Patterns side) next g = option_map (λ h. record g { filter = h }) (given_with side next g.filter)
+print_with (Filter option) next g = option_map (λ h. record g { filter = h }) (given_with option next g.filter)
 print_with Depth next g = if is_some g.depth then None else option_map (λ d. record g { depth = Some d }) (number_in 0 8 next)
 print_with Json next g = if g.json then None else Some (record g { json = true })
 

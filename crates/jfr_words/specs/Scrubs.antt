@@ -6,15 +6,14 @@ use Rattle.jfr_filter.specs.Filters.{nothing_given}
 use Rattle.jfr_words.specs.declared.order.Order.{Order}
 use Rattle.jfr_words.specs.declared.order.Order.TheVariants.{Scrub}
 pub use Rattle.jfr_words.specs.declared.scrub.ScrubOption.{ScrubOption}
-use Rattle.jfr_words.specs.declared.scrub.ScrubOption.TheVariants.{Patterns, Renumber}
+use Rattle.jfr_words.specs.declared.scrub.ScrubOption.TheVariants.{Filter, Renumber}
 pub use Rattle.jfr_words.specs.declared.scrub.ScrubSettings.{ScrubSettings}
-use Rattle.jfr_words.specs.Filtered.{side_of}
+use Rattle.jfr_words.specs.FilterOptions.{filter_option_of, given_with}
 use Rattle.jfr_words.specs.Names.{two_names}
-use Rattle.jfr_words.specs.Patterns.{given_with}
 
 -- The option of `scrub` that a word names: an option of its filter, or `--renumber`.
 abbrev pub scrub_option_of : List ℕ → Option ScrubOption
-scrub_option_of word = if bytes_eq word (codes "--renumber") then Some Renumber else option_map (λ side. Patterns side) (side_of word)
+scrub_option_of word = if bytes_eq word (codes "--renumber") then Some Renumber else option_map (λ option. Filter option) (filter_option_of word)
 
 -- No options given.
 abbrev pub no_scrub_option : ScrubSettings
@@ -30,7 +29,7 @@ yes_or_no word =
 -- The options with this one set to the next word; none if it was given before or the word is not a value of
 -- it.
 abbrev pub scrub_with : ScrubOption → List ℕ → ScrubSettings → Option ScrubSettings
-scrub_with (Patterns side) next g = option_map (λ h. record g { filter = h }) (given_with side next g.filter)
+scrub_with (Filter option) next g = option_map (λ h. record g { filter = h }) (given_with option next g.filter)
 scrub_with Renumber next g = if is_some g.renumber then None else option_map (λ b. record g { renumber = Some b }) (yes_or_no next)
 
 -- The order with these options, if the input and the output are the only words left. Without `--renumber` the

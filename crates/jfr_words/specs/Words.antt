@@ -9,6 +9,7 @@ use Rattle.jfr_words.specs.declared.order.Order.TheVariants.{Print, Summary, Met
 use Rattle.jfr_words.specs.declared.order.WordsFault.{WordsFault}
 use Rattle.jfr_words.specs.declared.order.WordsFault.TheVariants.{Usage, Memory}
 use Rattle.jfr_words.specs.Filtered.{filtered_from}
+use Rattle.jfr_words.specs.Jsons.{asks_json, after_json}
 use Rattle.jfr_words.specs.Names.{only_name, three_names, two_names}
 use Rattle.jfr_words.specs.Numbers.{number_in}
 use Rattle.jfr_words.specs.Prints.{no_print_option, print_from}
@@ -16,13 +17,13 @@ use Rattle.jfr_words.specs.Scrubs.{no_scrub_option, scrub_from}
 use Rattle.jfr_words.specs.Splits.{no_split_option, split_from}
 use Rattle.jfr_words.specs.Stacks.{stacks_from}
 
--- The order of the words after `summary`: the file.
+-- The order of the words after `summary`: the file, and `--json` before it for JSON.
 abbrev pub summary_of : List (List ℕ) → Option Order
-summary_of words = option_map (λ file. Summary file) (only_name words)
+summary_of words = option_map (λ file. Summary (asks_json words) file) (only_name (after_json words))
 
--- The order of the words after `metadata`: the file.
+-- The order of the words after `metadata`: the file, and `--json` before it for JSON.
 abbrev pub metadata_of : List (List ℕ) → Option Order
-metadata_of words = option_map (λ file. Metadata file) (only_name words)
+metadata_of words = option_map (λ file. Metadata (asks_json words) file) (only_name (after_json words))
 
 -- The order of the words after `assemble`: the folder and the output.
 abbrev pub assembly_of : List (List ℕ) → Option Order

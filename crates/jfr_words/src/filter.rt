@@ -1,12 +1,10 @@
 //! The options of a filter, as the only options of a command.
-ghost use Rattle.std.specs.Prelude.{◌≡◌};
-ghost use Rattle.std.specs.Str.{chars};
-ghost use Rattle.jfr_words.specs.Filtered.{IsFiltered, side_of};
+ghost use Rattle.jfr_words.specs.Filtered.{IsFiltered};
 
 use crate::WordsFault;
-use crate::patterns::give_patterns;
-use crate::unread::{Named, UnreadWords};
-use jfr_filter::{Filter, Side};
+use crate::filter_option::{FilterOption, give_option};
+use crate::unread::UnreadWords;
+use jfr_filter::Filter;
 use std::alloc::Global;
 
 /// Reads the options of a filter.
@@ -14,34 +12,9 @@ pub(crate) fn read_filter(alloc: Global, unread: &mut UnreadWords<'_>) -> Result
     ensures { IsFiltered unread.old result unread.new }
 {
     let mut filter = Filter::new(alloc);
-    'options: while let Some(side) = unread.take_option() {
-        let list = unread.next_word()?;
-        give_patterns(&mut filter, side, list)?;
+    'options: while let Some(option) = unread.take_option::<FilterOption>() {
+        let value = unread.next_word()?;
+        give_option(&mut filter, option, value)?;
     }
     Ok(filter)
-}
-
-/// The option of a filter that a word names, if any.
-pub(crate) fn side_of(word: &str) -> Option<Side>
-    ensures { result ≡ side_of (chars word.now) }
-{
-    match word {
-        "--include-events" => Some(Side::IncludeEvents),
-        "--exclude-events" => Some(Side::ExcludeEvents),
-        "--include-categories" => Some(Side::IncludeCategories),
-        "--exclude-categories" => Some(Side::ExcludeCategories),
-        "--include-threads" => Some(Side::IncludeThreads),
-        "--exclude-threads" => Some(Side::ExcludeThreads),
-        _ => None,
-    }
-}
-
-impl Named for Side {
-    ghost use Rattle.jfr_words.specs.Filtered.{side_of};
-
-    ghost named = { λ word. side_of word };
-
-    fn of_word(word: &str) -> Option<Self> {
-        side_of(word)
-    }
 }

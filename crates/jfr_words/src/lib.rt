@@ -4,6 +4,8 @@
 #![tactic(auto)]
 
 mod filter;
+mod filter_option;
+mod json;
 pub mod laws;
 mod name;
 mod number;

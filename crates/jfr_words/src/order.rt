@@ -15,12 +15,14 @@ pub enum Order {
         json: bool,
         file: Text,
     },
-    /// Prints the totals of the file.
+    /// Prints the totals of the file. The output is a line of JSON if `json` is set.
     Summary {
+        json: bool,
         file: Text,
     },
-    /// Prints the metadata of each chunk of the file.
+    /// Prints the metadata of each chunk of the file. The output is lines of JSON if `json` is set.
     Metadata {
+        json: bool,
         file: Text,
     },
     /// Writes to the output what remains of the input with only the events that the filter keeps. The keys of

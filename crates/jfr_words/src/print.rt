@@ -4,19 +4,19 @@ ghost use Rattle.std.specs.Str.{chars};
 ghost use Rattle.jfr_words.specs.Prints.{no_print_option, print_option_of, print_from, print_with};
 ghost use Rattle.jfr_words.specs.Words.{IsRead, StillGives};
 
+use crate::filter_option::{FilterOption, give_option, shown_option_of};
 use crate::name::read_only_name;
 use crate::number::read_number;
-use crate::patterns::give_patterns;
 use crate::unread::{Named, UnreadWords};
 use crate::{Order, WordsFault};
-use jfr_filter::{Filter, Side};
+use jfr_filter::Filter;
 use std::alloc::Global;
 
 /// An option of `print`.
 #[derive(Clone, Copy)]
 pub enum PrintOption {
-    /// The list of patterns of this option of the filter.
-    Patterns(Side),
+    /// This option of the filter.
+    Filter(FilterOption),
     /// The depth to which references are followed.
     Depth,
     /// Output as lines of JSON. This option has no value.
@@ -72,9 +72,9 @@ impl PrintSettings {
         ensures fewer { OnOk result (length unread.new ≤ length unread.old) }
     {
         match option {
-            PrintOption::Patterns(side) => give_patterns(
+            PrintOption::Filter(option) => give_option(
                 &mut self.filter,
-                side,
+                option,
                 unread.next_word()?,
             ),
             PrintOption::Depth => self.give_depth(unread.next_word()?),
@@ -113,11 +113,12 @@ impl Named for PrintOption {
 
     fn of_word(word: &str) -> Option<Self> {
         match word {
-            "--events" => Some(PrintOption::Patterns(Side::IncludeEvents)),
-            "--categories" => Some(PrintOption::Patterns(Side::IncludeCategories)),
             "--depth" => Some(PrintOption::Depth),
             "--json" => Some(PrintOption::Json),
-            _ => None,
+            _ => match shown_option_of(word) {
+                Some(option) => Some(PrintOption::Filter(option)),
+                None => None,
+            },
         }
     }
 }

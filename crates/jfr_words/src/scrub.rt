@@ -4,19 +4,18 @@ ghost use Rattle.std.specs.Str.{chars};
 ghost use Rattle.jfr_words.specs.Scrubs.{no_scrub_option, scrub_from, scrub_with, yes_or_no};
 ghost use Rattle.jfr_words.specs.Words.{IsRead};
 
-use crate::filter::side_of;
+use crate::filter_option::{FilterOption, filter_option_of, give_option};
 use crate::name::read_two_names;
-use crate::patterns::give_patterns;
 use crate::unread::{Named, UnreadWords};
 use crate::{Order, WordsFault};
-use jfr_filter::{Filter, Side};
+use jfr_filter::Filter;
 use std::alloc::Global;
 
 /// An option of `scrub`.
 #[derive(Clone, Copy)]
 pub enum ScrubOption {
-    /// The list of patterns of this option of the filter.
-    Patterns(Side),
+    /// This option of the filter.
+    Filter(FilterOption),
     /// Whether the keys of constants are numbered anew.
     Renumber,
 }
@@ -62,7 +61,7 @@ impl ScrubSettings {
         ensures { IsRead (scrub_with option (chars value.now) self.old) result (λ _. self.new) }
     {
         match option {
-            ScrubOption::Patterns(side) => give_patterns(&mut self.filter, side, value),
+            ScrubOption::Filter(option) => give_option(&mut self.filter, option, value),
             ScrubOption::Renumber => self.give_renumber(value),
         }
     }
@@ -100,8 +99,8 @@ impl Named for ScrubOption {
     fn of_word(word: &str) -> Option<Self> {
         match word {
             "--renumber" => Some(ScrubOption::Renumber),
-            _ => match side_of(word) {
-                Some(side) => Some(ScrubOption::Patterns(side)),
+            _ => match filter_option_of(word) {
+                Some(option) => Some(ScrubOption::Filter(option)),
                 None => None,
             },
         }

@@ -4,6 +4,7 @@ ghost use Rattle.std.specs.Str.{chars};
 ghost use Rattle.jfr_words.specs.Words.{order_of, summary_of, metadata_of, assembly_of, receipt_of, verification_of, building_of, IsRead, IsUsableOrder};
 
 use crate::filter::read_filter;
+use crate::json::take_json;
 use crate::name::{read_only_name, read_three_names, read_two_names};
 use crate::print::read_print;
 use crate::sample::read_sample;
@@ -54,15 +55,17 @@ fn read_command(
 fn read_summary(alloc: Global, unread: &mut UnreadWords<'_>) -> Result<Order, WordsFault>
     ensures { IsRead (summary_of unread.old) result (λ order. order) }
 {
+    let json = take_json(unread);
     let file = read_only_name(alloc, unread)?;
-    Ok(Order::Summary { file })
+    Ok(Order::Summary { json, file })
 }
 
 fn read_metadata(alloc: Global, unread: &mut UnreadWords<'_>) -> Result<Order, WordsFault>
     ensures { IsRead (metadata_of unread.old) result (λ order. order) }
 {
+    let json = take_json(unread);
     let file = read_only_name(alloc, unread)?;
-    Ok(Order::Metadata { file })
+    Ok(Order::Metadata { json, file })
 }
 
 fn read_assembly(alloc: Global, unread: &mut UnreadWords<'_>) -> Result<Order, WordsFault>

@@ -7,7 +7,7 @@ ghost use Rattle.jfr_layout.specs.Classes.{inline_form};
 ghost use Rattle.jfr_layout.specs.declared.form.Form.TheVariants as forms;
 ghost use Rattle.jfr_text.specs.Spans.{content_of};
 ghost use Rattle.jfr_text.specs.Strings.{text_of};
-ghost use Rattle.serde_json.specs.Data.{null};
+ghost use Rattle.serde_json.specs.Data.{boolean, null};
 ghost use Rattle.serde_json.specs.Written.{compact_text};
 ghost use Rattle.jfr_show.specs.Json.{base_json, text_json};
 ghost use Rattle.jfr_show.specs.Leaves.{hex};
@@ -75,11 +75,14 @@ fn push_boolean(bytes: &[u8], out: &mut String) -> Result<(), NoMemory>
     requires one { length bytes.now ≡ 1 }
     ensures ok { OnOk result (string_bytes out.new ≡ string_bytes out.old ++ compact_text (base_json Kind.Boolean bytes.now)) }
 {
-    if bytes[0] == 0 {
-        out.push_str("false")?;
-    } else {
-        out.push_str("true")?;
-    }
+    push_flag(bytes[0] != 0, out)
+}
+
+/// Adds true or false.
+pub(crate) fn push_flag(holds: bool, out: &mut String) -> Result<(), NoMemory>
+    ensures ok { OnOk result (string_bytes out.new ≡ string_bytes out.old ++ compact_text (boolean holds)) }
+{
+    out.push_str(if holds { "true" } else { "false" })?;
     Ok(())
 }
 
@@ -114,7 +117,8 @@ pub(crate) fn push_text(
     }
 }
 
-fn push_null(out: &mut String) -> Result<(), NoMemory>
+/// Adds null.
+pub(crate) fn push_null(out: &mut String) -> Result<(), NoMemory>
     ensures ok { OnOk result (string_bytes out.new ≡ string_bytes out.old ++ compact_text null) }
 {
     out.push_str("null")?;

@@ -221,7 +221,7 @@ fn push_items(
 }
 
 /// Adds a comma if something comes before.
-fn push_comma(later: bool, out: &mut String) -> Result<(), NoMemory>
+pub(crate) fn push_comma(later: bool, out: &mut String) -> Result<(), NoMemory>
     ensures ok { OnOk result (string_bytes out.new ≡ string_bytes out.old ++ comma_if later) }
 {
     if later {

@@ -8,4 +8,4 @@ use Rattle.jfr_path.proofs.verdict.verdicts_on.Goals as goal
 pub loop-index-preserved : goal.loop-index-preserved
 loop-index-preserved c =
     subst (AllZip (IsVerdict c.args.filter.now) (take (c.loop-index.index + 1) c.args.chunk.now.classes)) (sym c.in_ok-push.ensures.items)
-    (zip_next (IsVerdict c.args.filter.now) c.args.chunk.now.classes c.loop-index.verdicts.items c.loop-index.index c.class_at.result.now c.verdict_on.result (ap (λ z. slice_get z c.loop-index.index) (sym c.classes-classes.ensures) ∙ c.class_at.ensures) c.loop-index.invariant c.verdict_on.ensures)
+    (zip_next (IsVerdict c.args.filter.now) c.args.chunk.now.classes c.loop-index.verdicts.items c.loop-index.index c.class_at-class.result.now c.verdict_on.result (ap (λ z. slice_get z c.loop-index.index) (sym c.classes-classes.ensures) ∙ c.class_at-class.ensures) c.loop-index.invariant c.verdict_on.ensures)

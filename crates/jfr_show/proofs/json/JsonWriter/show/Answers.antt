@@ -1,6 +1,5 @@
 use Rattle.std.proofs.Common.{◌≡◌, ◌++◌, OnOk, string_bytes, ap, sym, ◌∙◌, subst}
 use Rattle.std.specs.Str.{chars}
-use Rattle.std.proofs.lemmas.List.{append_assoc}
 use Rattle.serde_json.specs.Written.{compact_text}
 use Rattle.jfr_value.specs.Nodes.{node_of}
 use Rattle.jfr_chunk.specs.Parts.{Parts}
@@ -23,5 +22,5 @@ returns-clause-ok c =
     ∙ (ap (λ (z : Reach). string_bytes c.in_ok-line.line ++ compact_text (event_data c.self.inside.chunk.now z.references n)) c.of_event.ensures
     ∙ (ap (λ z. z ++ compact_text (event_data c.self.inside.chunk.now c.args.depth n)) c.in_ok-line.ensures.bytes
     ∙ ap (λ (p : Parts). compact_text (event_data p c.args.depth n)) c.self.view_is)) in
-    let whole = ap (λ z. z ++ newline) (c.in_ok-push_str.ensures.ok ∙ ap (λ z. c.args.out.now ++ chars z) (c.as_str.ensures.value ∙ written)) ∙ (append_assoc c.args.out.now (chars line) newline ∙ ap (λ z. c.args.out.now ++ z) (sym (line_is c.args.self.now c.args.depth n))) in
-    subst (λ z. OnOk c.push_ascii.result (c.push_ascii.new.self ≡ z)) whole c.push_ascii.ensures.ok
+    let whole = ap (λ z. c.args.out.now ++ (chars z ++ newline)) (c.as_str.ensures.value ∙ written) ∙ ap (λ z. c.args.out.now ++ z) (sym (line_is c.args.self.now c.args.depth n)) in
+    subst (λ z. OnOk c.push_line.result (c.push_line.new.self ≡ z)) whole c.push_line.ensures.ok

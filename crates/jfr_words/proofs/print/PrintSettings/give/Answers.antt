@@ -1,8 +1,8 @@
-use Rattle.jfr_words.proofs.PrintLaws.{patterns_given, depth_given, json_given}
+use Rattle.jfr_words.proofs.PrintLaws.{filter_given, depth_given, json_given}
 use Rattle.jfr_words.proofs.print.PrintSettings.give.Goals as goal
 
-pub returns-in_ok-next_word-in-Patterns-clause-given : goal.returns-in_ok-next_word-in-Patterns-clause-given
-returns-in_ok-next_word-in-Patterns-clause-given c = λ word e. patterns_given c.args.self.now c.give_patterns.new.filter c.args.option c.in-Patterns.side word _ c.args.unread.now c.next_word.new.self c.give_patterns.result e c.in-Patterns.is c.in_ok-next_word-in-Patterns.ensures c.give_patterns.ensures
+pub returns-in_ok-next_word-in-Filter-clause-given : goal.returns-in_ok-next_word-in-Filter-clause-given
+returns-in_ok-next_word-in-Filter-clause-given c = λ word e. filter_given c.args.self.now c.give_option.new.filter c.args.option c.in-Filter.option word _ c.args.unread.now c.next_word.new.self c.give_option.result e c.in-Filter.is c.in_ok-next_word-in-Filter.ensures c.give_option.ensures
 
 pub returns-in_ok-next_word-in-Depth-clause-given : goal.returns-in_ok-next_word-in-Depth-clause-given
 returns-in_ok-next_word-in-Depth-clause-given c = λ word e. depth_given c.args.self.now c.give_depth.new.self c.args.option word _ c.args.unread.now c.next_word-in-Depth.new.self c.give_depth.result e c.in-Depth.is c.in_ok-next_word-in-Depth.ensures c.give_depth.ensures

@@ -1,0 +1,24 @@
+-- Chunks, and so recordings, that agree on all that stays of them have the same scrub.
+use Rattle.std.specs.Prelude.{◌≡◌, ℕ, List}
+use Rattle.std.proofs.Common.{ap, sym, ◌∙◌}
+use Rattle.jfr_filter.specs.Filters.{Given, describes}
+use Rattle.jfr_header.specs.Fronts.{Whole}
+use Rattle.jfr_chunk.specs.Chosen.{chosen, kept_of}
+use Rattle.jfr_chunk.specs.Metas.{new_metadata}
+use Rattle.jfr_laws.proofs.OnlyKept.{same_scrub}
+use Rattle.jfr_laws.proofs.Same.{chosen_events}
+use Rattle.jfr_output.specs.Agreements.{ChunksAgree, RecordingsAgree}
+use Rattle.jfr_output.proofs.AgreementLaws.{output_same, parts_read, others_read}
+use Rattle.jfr_scrub.specs.Headline.{recording_scrubbed}
+use Rattle.jfr_scrub.specs.Scrubs.{scrubbed, scrubbed_by}
+
+chunks_same : (g : Given) (c d : List ℕ) → Whole c → Whole d → ChunksAgree g c d → scrubbed g c ≡ scrubbed g d
+unfolding scrubbed
+chunks_same g c d w v s =
+    ap (scrubbed_by g) (parts_read g c d w s)
+    ∙ (same_scrub (new_metadata (describes g) s.parts (kept_of g s.parts)) (new_metadata (describes g) s.others (kept_of g s.others)) s.parts s.others (kept_of g s.parts) (kept_of g s.others) s.valid s.others_valid
+    (chosen_events s.parts (chosen g s.parts)) (chosen_events s.others (chosen g s.others)) s.same
+    ∙ sym (ap (scrubbed_by g) (others_read g c d v s)))
+
+pub recordings_same : (g : Given) (x y : List ℕ) → RecordingsAgree g x y → recording_scrubbed g x ≡ recording_scrubbed g y
+recordings_same g = output_same g (scrubbed g) (chunks_same g)
