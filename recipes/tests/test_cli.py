@@ -1,0 +1,128 @@
+"""The command line, copies for the JDK, and flame graphs."""
+
+import os
+import subprocess
+import unittest
+import xml.dom.minidom
+
+from kijorafe.jdk import integer_at, spelled, unseen_in
+from kijorafe.program import EVENT, Class
+from tests.support import TOP, Case
+
+NAMES = "vendor", "strict", "tenant", "many", "left", "strangers", "threads", "flame", "jdk"
+
+
+class Words(Case):
+    def test_help(self) -> None:
+        front = os.path.join(TOP, "kijorafe")
+        said = subprocess.run([front, "--help"], check=True, stdout=subprocess.PIPE).stdout.decode()
+        for name in NAMES:
+            self.assertIn(f"    {name}", said)
+            done = subprocess.run([front, name, "--help"], check=True, stdout=subprocess.PIPE)
+            self.assertIn(f"usage: kijorafe {name}", done.stdout.decode())
+
+    def test_wrong_words(self) -> None:
+        self.recording("in.jfr")
+        for text, words in (
+            ("OUT", ("vendor", "in.jfr")),
+            ("OUT", ("strict", "--", "in.jfr")),
+            ("write ./-in.jfr", ("vendor", "--", "-in.jfr", "out")),
+            ("isn't an option", ("vendor", "in.jfr", "out", "--fast")),
+            ("a name is empty", ("vendor", "in.jfr", "")),
+            ("a pattern is empty", ("tenant", "", "in.jfr", "out")),
+            ("belongs to the pattern", ("tenant", "a, b", "in.jfr", "out")),
+            ("IN OUT", ("jdk", "in.jfr")),
+            ("OUT", ("flame", "in.jfr")),
+        ):
+            with self.subTest(words=words):
+                run = self.recipe(*words)
+                self.assert_run(run, 1, text)
+                self.assertIn("usage: kijorafe", run.err)
+        self.assert_only("in.jfr")
+        self.assert_run(self.recipe("tenant", "-x", "in.jfr", "out"), 0, "the pattern -x matches no thread")
+
+    def test_files(self) -> None:
+        self.recording("in.jfr")
+        self.write("out", "")
+        for recipe in ("vendor",), ("strict",), ("tenant", "x"), ("tenant", "--addresses"), ("jdk",), ("flame",):
+            for status, text, words in (
+                (4, "out exists already", ("in.jfr", "out")),
+                (4, "folder none doesn't exist", ("in.jfr", "none/new")),
+                (3, "none.jfr doesn't exist", ("none.jfr", "new")),
+                (3, "is a folder", (".", "new")),
+            ):
+                with self.subTest(recipe=recipe, words=words):
+                    self.assert_run(self.recipe(*recipe, *words), status, text)
+        self.assert_only("in.jfr", "out")
+
+    def test_closed_streams(self) -> None:
+        self.recording("in.jfr")
+        script = "exec 0<&- 1>&- 2>&-; exec send/recipes/vendor in.jfr out.jfr"
+        self.assertEqual(subprocess.call(["sh", "-c", script]), 0)
+        self.recipe("vendor", "in.jfr", "again.jfr")
+        self.assertEqual(self.read("out.jfr"), self.read("again.jfr"))
+
+    def test_no_python(self) -> None:
+        os.mkdir("bin")
+        for name in "sh", "dirname", "readlink":
+            os.symlink(f"/bin/{name}", f"bin/{name}")
+        run = self.process("vendor", "in.jfr", "out.jfr", env={"PATH": os.path.abspath("bin")})
+        self.assert_run(run, 69, "Python 3.8 or later, and glibc 2.34")
+
+
+class Integers(unittest.TestCase):
+    def test_integers(self) -> None:
+        for value in 0, 127, 128, 300, 2**56, 2**64 - 1:
+            self.assertEqual(integer_at(spelled(value, 9) if value < 2**56 else b"\x80" * 8 + bytes([value >> 56]), 0)[1], 9)
+        self.assertEqual(integer_at(b"\xac\x82\x80\x00", 0), (300, 4))
+        self.assertEqual(spelled(300, 4), b"\xac\x82\x80\x00")
+
+    def test_unseen(self) -> None:
+        a, b = (Class(0, name, EVENT, (), ()) for name in "ab")
+        chunks = [a._replace(chunk=1), a._replace(chunk=2), b._replace(chunk=2), b._replace(chunk=3)]
+        self.assertEqual(unseen_in(chunks, [7, 7, 7]), ["b"])
+        self.assertEqual(unseen_in(chunks, [7, 8, 8]), [])
+        self.assertEqual(unseen_in(chunks, [7, 7, 8]), ["b"])
+
+
+class Files(Case):
+    def test_jdk(self) -> None:
+        types = "class 5 long\nevent 8 jdk.CPULoad\nfield n 5 -\nevent 9 jdk.Shutdown\nfield n 5 -\n"
+        self.recording("first", types + "record 8 1\n")
+        self.recording("second", types + "record 8 1\nrecord 9 1\n")
+        with open("both.jfr", "wb") as file:
+            file.write(self.read("first") + self.read("second"))
+        self.recipe("vendor", "both.jfr", "out.jfr")
+        self.assert_run(self.recipe("jdk", "out.jfr", "copy.jfr"), 0, "changed the metadata id of 1 chunks")
+        out, copied = self.read("out.jfr"), self.read("copy.jfr")
+        self.assertEqual(sum(a != b for a, b in zip(out, copied)), 1)
+        self.assertEqual(len(out), len(copied))
+        self.assertEqual(self.recipe("jdk", "--ids", "copy.jfr").out, "1\n2\n")
+        self.assert_run(self.process("jdk", "/dev/stdin", "again.jfr", stdin=copied), 0, "of 0 chunks")
+        self.assertEqual(self.read("again.jfr"), copied)
+        self.write("text", "FLR\0" + "x" * 200)
+        self.assert_run(self.recipe("jdk", "text", "new"), 2, "isn't a recording")
+        self.assertFalse(os.path.exists("new"))
+
+    def test_flame(self) -> None:
+        self.write("folded\x1b", 'main;a 1\nmain;b<"&\\u003b 2\n')
+        self.assert_run(self.recipe("flame", "folded\x1b", "f.svg"), 0)
+        xml.dom.minidom.parseString(self.read("f.svg"))
+        folded = b"main;" + b"x" * 100 + b" 1\n"
+        self.assert_run(self.process("flame", "/dev/stdin", "g.svg", stdin=folded * 30000), 0)
+        self.assertIn(b"all: 30000, 100.00 %", self.read("g.svg"))
+        self.recording("in.jfr")
+        for words in ("in.jfr",), ("in.jfr", "--events", "CPULoad"):
+            self.assert_run(self.recipe("flame", words[0], "new.svg", *words[1:]), 2, "there is no stack")
+        for text in "words", "a 1e9", "a " + "9" * 400:
+            self.write("text", text)
+            self.assert_run(self.recipe("flame", "text", "new.svg"), 2, "isn't a folded stack")
+        self.assertFalse(os.path.exists("new.svg"))
+
+
+class Scripts(Case):
+    def test_a_script_for_each_recipe(self) -> None:
+        for name in NAMES:
+            done = subprocess.run([f"send/recipes/{name}"], stdout=subprocess.PIPE, stderr=subprocess.PIPE)
+            self.assertIn(f"usage: kijorafe {name}", done.stderr.decode())
+            self.assertEqual(done.returncode, 2 if name in ("left", "strangers", "threads") else 1)
