@@ -77,14 +77,24 @@ run tenant 'nobody-*' "$file" new.jfr
 check 'a pattern that matches nothing' 0 'matches no thread' <<<'test -s new.jfr; rm new.jfr'
 
 # Chunks of which the JDK's reader misses events: an earlier one has no event of a type.
-types=$'class 5 long\nevent 8 jdk.CPULoad\nfield n 5 -\nevent 9 jdk.Shutdown\nfield n 5 -'
-printf '%s\n' "$types" 'record 8 1' >first
-printf '%s\n' "$types" 'record 8 1' 'record 9 1' >second
+types='class 4 float
+class 5 long
+event 8 jdk.CPULoad
+field startTime 5 -
+field jvmUser 4 -
+field jvmSystem 4 -
+field machineTotal 4 -
+event 9 jdk.ThreadContextSwitchRate
+field startTime 5 -
+field switchRate 4 -'
+load='record 8 1 0x00000000 0x00000000 0x00000000'
+printf '%s\n' "$types" "$load" >first
+printf '%s\n' "$types" "$load" 'record 9 1 0x00000000' >second
 for text in first second; do ./send/jfr build "$text" "$text.jfr" || exit 1; done
 cat first.jfr second.jfr >missed.jfr
 cat second.jfr first.jfr >read.jfr
 run vendor missed.jfr missed.out
-check 'events that the JDK misses' 0 'misses the events of jdk.Shutdown, as' <<<'test -s missed.out'
+check 'events that the JDK misses' 0 'misses the events of jdk.ThreadContextSwitchRate, as' <<<'test -s missed.out'
 run vendor read.jfr read.out
 check 'events that it reads' 0 'events are left' <<<'! grep -q WARNING said.err'
 run jdk missed.out copy.out

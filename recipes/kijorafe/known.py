@@ -1,9 +1,9 @@
 """The event types of the JDK, and which recipe keeps which: the file recipes/types."""
 
 import os
-from typing import Dict, Iterable, List, NamedTuple, Set, Tuple
+from typing import Dict, Iterable, List, NamedTuple, Tuple
 
-from kijorafe.program import Class, TypeTotal
+from kijorafe.program import TypeTotal
 
 TYPES = os.path.join(os.path.dirname(os.path.dirname(os.path.realpath(__file__))), "types")
 
@@ -27,28 +27,12 @@ def known_types() -> Dict[str, Known]:
     return types
 
 
-def kept_by(recipe: str) -> str:
-    """The types that a recipe keeps, as a list of patterns. Each is a name with a dot, which matches only itself."""
-    return ",".join(known.name for known in known_types().values() if recipe in known.recipes)
+def kept_by(recipe: str) -> List[str]:
+    """The types that a recipe keeps. Each is a name with a dot, which as a pattern matches only itself."""
+    return [known.name for known in known_types().values() if recipe in known.recipes]
 
 
 def strangers_in(types: Iterable[TypeTotal]) -> List[TypeTotal]:
     """The types that no JDK of the list has."""
     known = known_types()
     return [each for each in types if each.name not in known]
-
-
-def doubled_in(classes: Iterable[Class]) -> List[str]:
-    """The names of JDK types that two event types of one chunk have. Nothing says which of the two is the JDK's."""
-    known = known_types()
-    doubled: Set[str] = set()
-    seen: Set[str] = set()
-    chunk = 0
-    for each in classes:
-        if each.chunk != chunk:
-            chunk, seen = each.chunk, set()
-        if each.is_event and each.name in known:
-            if each.name in seen:
-                doubled.add(each.name)
-            seen.add(each.name)
-    return sorted(doubled)

@@ -21,11 +21,17 @@ START = os.path.join(os.path.dirname(os.path.realpath(__file__)), "start")
 
 
 class Order(NamedTuple):
-    """What to do with each recording: the words of the recipe, and the two folders."""
+    """What to do with each recording: the recipe, its options, the patterns of tenant, and the two folders."""
 
-    words: List[str]
+    recipe: str
+    options: List[str]
+    patterns: Optional[str]
     source: str
     target: str
+
+    def words(self) -> List[str]:
+        """The words of the recipe."""
+        return [self.recipe, *self.options, *([] if self.patterns is None else ["--", self.patterns])]
 
 
 class Jobs:
@@ -44,7 +50,7 @@ class Jobs:
             os.makedirs(os.path.dirname(target), exist_ok=True)
         except OSError as fault:
             return Result(4, 0, name, shown(f"the output's folder can't be made: {fault.strerror}"))
-        words = [START, *order.words, os.path.join(order.source, name), target]
+        words = [START, *order.words(), os.path.join(order.source, name), target]
         with self._lock:
             if self._stopped:
                 return Result(130, 0, name, "stopped")
@@ -57,7 +63,7 @@ class Jobs:
             self._running.discard(process)
         seconds = int(time.monotonic() - start)
         lines = said.decode("utf-8", "replace").splitlines()
-        prefix = f"kijorafe {order.words[0]}: "
+        prefix = f"kijorafe {order.recipe}: "
         text = "; ".join(shown(line[len(prefix) :] if line.startswith(prefix) else line) for line in lines)
         status = process.returncode
         return Result(status if status >= 0 else 128 - status, seconds, name, text)
@@ -79,7 +85,8 @@ def one(order: Order, name: str) -> int:
 def many(order: Order, at_once: int, hosts: Optional[str], resume: bool) -> int:
     """Scrubs the recordings of a folder. The status is 2 if one was refused."""
     order = _checked(order)
-    head = " ".join(["# recipes/many", *(file_name(word) for word in order.words), file_name(order.source), ""])
+    said = [order.recipe, *order.options, *([] if order.patterns is None else [order.patterns]), order.source]
+    head = " ".join(["# recipes/many", *(file_name(word) for word in said), ""])
     log = Log(f"{order.target}.log", head, resume)
     every = list(_recordings_in(order.source))
     if not every:
@@ -180,7 +187,7 @@ def _has_parallel() -> bool:
 
 def _by_parallel(order: Order, names: List[str], at_once: int, hosts: str) -> Iterator[Result]:
     """The results of the jobs on the hosts of a file."""
-    job = [START, "many", "--one", *order.words, order.source, order.target]
+    job = [START, "many", "--one", *order.options, *order._replace(options=[]).words(), order.source, order.target]
     words = ["parallel", "--will-cite", "--null", "--quote", "--jobs", str(at_once), "--sshloginfile", hosts, *job]
     process = subprocess.Popen(words, stdin=subprocess.PIPE, stdout=subprocess.PIPE)
     assert process.stdin is not None and process.stdout is not None

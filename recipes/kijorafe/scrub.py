@@ -1,8 +1,8 @@
 """Scrubs of recordings: vendor, strict and tenant."""
 
-from typing import List, Sequence
+from typing import Dict, List, NamedTuple, Sequence, Tuple
 
-from kijorafe import jdk, known
+from kijorafe import genuine, jdk, known
 from kijorafe.explain import fault_of
 from kijorafe.inputs import check_input, recording_of
 from kijorafe.messages import Fault, say
@@ -11,31 +11,43 @@ from kijorafe.shown import file_name, in_a_row
 from kijorafe.staging import Output, free_bytes
 from kijorafe.threads import addresses_in
 
+REFUSED = 2
+READ_FAULT = 3
 WRITE_FAULT = 4
 UNCHECKED = 71
 
 
-def scrub(recipe: str, source: str, target: str) -> int:
-    """Scrubs by the list of a recipe: vendor or strict."""
-    check_input(source)
-    with Output(target) as output:
-        recording = recording_of(source, output)
-        return _scrubbed(find(), recipe, [], source, recording, output)
+class Order(NamedTuple):
+    """What to scrub, to what, by which recipe, and the types to keep though they may be the program's own."""
+
+    recipe: str
+    source: str
+    target: str
+    trusted: Tuple[str, ...] = ()
 
 
-def tenant(patterns: str, source: str, target: str) -> int:
-    """Scrubs by the list of tenant, without the events of the threads that match the patterns."""
-    check_input(source)
-    with Output(target) as output:
-        recording, program = recording_of(source, output), find()
-        _report_patterns(program, patterns, source, recording, output)
-        return _scrubbed(program, "tenant", ["--exclude-threads", patterns], source, recording, output)
+def scrub(order: Order) -> int:
+    """Scrubs by the list of a recipe."""
+    check_input(order.source)
+    with Output(order.target) as output:
+        recording = recording_of(order.source, output)
+        return _scrubbed(find(), order, [], recording, output)
 
 
-def tenant_by_addresses(source: str, target: str) -> int:
+def tenant(order: Order, patterns: str) -> int:
+    """The same, without the events of the threads that match the patterns."""
+    check_input(order.source)
+    with Output(order.target) as output:
+        recording, program = recording_of(order.source, output), find()
+        _report_patterns(program, patterns, order.source, recording, output)
+        return _scrubbed(program, order, ["--exclude-threads", patterns], recording, output)
+
+
+def tenant_by_addresses(order: Order) -> int:
     """The same for the threads whose names look like addresses or requests."""
+    source = order.source
     check_input(source)
-    with Output(target) as output:
+    with Output(order.target) as output:
         recording, program = recording_of(source, output), find()
         try:
             patterns = addresses_in(program, recording)
@@ -44,14 +56,15 @@ def tenant_by_addresses(source: str, target: str) -> int:
             raise Fault(2, f"{reason.message} It can't be searched for addresses, so nothing is written") from failure
         say(f"threads with addresses in their names: {file_name(patterns) if patterns else 'none'}")
         options = ["--exclude-threads", patterns] if patterns else []
-        return _scrubbed(program, "tenant", options, source, recording, output)
+        return _scrubbed(program, order, options, recording, output)
 
 
-def _scrubbed(
-    program: Program, recipe: str, options: Sequence[str], source: str, recording: str, output: Output
-) -> int:
+def _scrubbed(program: Program, order: Order, options: Sequence[str], recording: str, output: Output) -> int:
     """Scrubs, and says what came of it, when the output has its name."""
-    words = ["scrub", "--include-events", known.kept_by(recipe), *options]
+    source, kept = order.source, known.kept_by(order.recipe)
+    own = _own_types(program, source, recording)
+    names = ",".join(name for name in kept if name not in own or name in order.trusted)
+    words = ["scrub", "--include-events", names, *options]
     try:
         program.run(*words, as_operand(recording), as_operand(output.path))
     except Failure as failure:
@@ -62,13 +75,26 @@ def _scrubbed(
     try:
         report = _report(program, recording, output)
     except (Failure, Fault, MemoryError) as failure:
-        raise Fault(
-            UNCHECKED, f"it wasn't checked what is left of {file_name(source)}, so there is no output: {failure}"
-        ) from failure
+        raise _unchecked(source, failure) from failure
+    report += _report_own({name: reason for name, reason in own.items() if name in kept}, order)
     output.commit()
     for line in report:
         say(line)
     return 0
+
+
+def _own_types(program: Program, source: str, recording: str) -> Dict[str, str]:
+    """The names of JDK types that the program's own types have."""
+    try:
+        return genuine.own_types(program.classes(as_operand(recording)))
+    except Failure as failure:
+        if failure.status in (REFUSED, READ_FAULT):
+            raise fault_of(failure, source) from failure
+        raise _unchecked(source, failure) from failure
+
+
+def _unchecked(source: str, failure: BaseException) -> Fault:
+    return Fault(UNCHECKED, f"{file_name(source)} can't be checked, so there is no output: {failure}")
 
 
 def as_operand(name: str) -> str:
@@ -77,7 +103,7 @@ def as_operand(name: str) -> str:
 
 
 def _report(program: Program, recording: str, output: Output) -> List[str]:
-    """How much is left, which types were removed or kept that aren't the JDK's, and what the JDK's reader misses."""
+    """How much is left, which types were removed that aren't the JDK's, and what the JDK's reader misses."""
     before, after = program.summary(as_operand(recording)), program.summary(output.path)
     total, left = sum(each.events for each in before), sum(each.events for each in after)
     lines = [f"{left} of {total} events are left, of {len(after)} of {len(before)} types"]
@@ -85,13 +111,6 @@ def _report(program: Program, recording: str, output: Output) -> List[str]:
     if strangers:
         names = in_a_row(f"{each.events} {each.name}" for each in strangers)
         lines.append(f"removed, since the list of the JDK's types doesn't have them: {names}")
-    kept = {each.name for each in after}
-    doubled = [name for name in known.doubled_in(program.classes(as_operand(recording))) if name in kept]
-    if doubled:
-        lines.append(
-            "WARNING: a type of the program's own has the name of a JDK type, and is kept like it: "
-            + in_a_row(doubled)
-        )
     unseen = jdk.unseen_in(program.classes(output.path), jdk.ids_of(output.path))
     if unseen:
         name = file_name(output.name)
@@ -99,6 +118,19 @@ def _report(program: Program, recording: str, output: Output) -> List[str]:
             f"WARNING: the JDK's reader misses the events of {in_a_row(unseen)}, as an earlier chunk has none. It"
             f" reads all events of the copy that `kijorafe jdk {name} COPY` makes"
         )
+    return lines
+
+
+def _report_own(own: Dict[str, str], order: Order) -> List[str]:
+    """Which of the types that a recipe keeps may be the program's own."""
+    lines = []
+    kept = [name for name in own if name in order.trusted]
+    removed = [name for name in own if name not in order.trusted]
+    if kept:
+        lines.append(f"WARNING: kept on trust, though the program's own types have these names: {in_a_row(kept)}")
+    if removed:
+        names = in_a_row(f"{name} ({own[name]})" for name in removed)
+        lines.append(f"removed, since the program's own types have these names: {names}; --trust NAME keeps one")
     return lines
 
 

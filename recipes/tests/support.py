@@ -17,29 +17,55 @@ RECIPES = os.path.dirname(os.path.dirname(os.path.realpath(__file__)))
 TOP = os.path.dirname(RECIPES)
 
 # A type of the JDK that all recipes keep, one that only vendor keeps, one that none keeps, and one of the program's own.
+# Those of the JDK have the fields of 17 and 25.
 TYPES = """\
+class 3 boolean
+class 4 float
 class 5 long
 class 6 java.lang.String
 class 7 java.lang.Thread
 field javaName 6 -
+class 8 jdk.types.StackTrace
+field truncated 3 -
 event 20 jdk.CPULoad
-field n 5 -
-event 21 jdk.JavaMonitorWait
+field startTime 5 -
+field jvmUser 4 -
+field jvmSystem 4 -
+field machineTotal 4 -
+event 21 jdk.ThreadStart
+field startTime 5 -
 field eventThread 7 c
+field stackTrace 8 c
+field thread 7 c
+field parentThread 7 c
 event 22 jdk.FileRead
+field startTime 5 -
+field duration 5 -
+field eventThread 7 c
+field stackTrace 8 c
 field path 6 -
+field bytesRead 5 -
+field endOfFile 3 -
 event 23 farm.Own
 field text 6 -
+event 25 jdk.Shutdown
+field startTime 5 -
+field eventThread 7 c
+field stackTrace 8 c
+field reason 6 -
 """
 EVENTS = """\
 constant 7 1 "main"
 constant 7 2 "http\\u0020GET\\u0020/pay"
-record 20 1
-record 21 #1
-record 21 #2
-record 22 "/secret/path"
+record 20 1 0x00000000 0x00000000 0x00000000
+record 21 1 #1 #0 #0 #0
+record 21 1 #2 #0 #0 #0
+record 22 1 1 #0 #0 "/secret/path" 7 true
 record 23 "secret\\u0020text"
 """
+
+
+SHUTDOWN = 'record 25 1 #1 #0 "no\\u0020reason"\n'
 
 
 class Run(NamedTuple):

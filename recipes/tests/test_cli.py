@@ -8,7 +8,7 @@ import xml.dom.minidom
 from kijorafe.explain import reasons
 from kijorafe.jdk import integer_at, spelled, unseen_in
 from kijorafe.program import EVENT, Class
-from tests.support import TOP, Case
+from tests.support import EVENTS, SHUTDOWN, TOP, TYPES, Case
 
 NAMES = "vendor", "strict", "tenant", "many", "left", "strangers", "threads", "flame", "jdk", "explain"
 
@@ -108,9 +108,8 @@ class Integers(unittest.TestCase):
 
 class Files(Case):
     def test_jdk(self) -> None:
-        types = "class 5 long\nevent 8 jdk.CPULoad\nfield n 5 -\nevent 9 jdk.Shutdown\nfield n 5 -\n"
-        self.recording("first", types + "record 8 1\n")
-        self.recording("second", types + "record 8 1\nrecord 9 1\n")
+        self.recording("first")
+        self.recording("second", TYPES + EVENTS + SHUTDOWN)
         with open("both.jfr", "wb") as file:
             file.write(self.read("first") + self.read("second"))
         self.recipe("vendor", "both.jfr", "out.jfr")

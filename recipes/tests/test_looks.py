@@ -5,7 +5,7 @@ import unittest
 
 from kijorafe.shown import file_name, quoted, shown
 from kijorafe.threads import ADDRESS
-from tests.support import Case
+from tests.support import EVENTS, SHUTDOWN, TYPES, Case
 
 TEXTS = "class 6 java.lang.String\nevent 8 t.A\nfield s 6 -\nfield t 6 -\n"
 
@@ -58,10 +58,13 @@ class Looks(Case):
             self.assertEqual(self.recipe("left", *words).status, 2, words)
 
     def test_strangers(self) -> None:
-        self.recording("a.jfr", "class 5 long\nevent 8 jdk.CPULoad\nfield n 5 -\nrecord 8 1\n")
+        self.recording("a.jfr", TYPES + SHUTDOWN.replace("#1", "#0"))
         self.assertEqual(self.recipe("strangers", "a.jfr")[:2], (0, ""))
         self.recording("b.jfr")
         self.assertEqual(self.recipe("strangers", "b.jfr")[:2], (1, "1 farm.Own\n"))
+        self.recording("c.jfr", TYPES + "event 24 jdk.CPULoad\nfield n 5 -\nevent 26 jdk.SwapSpace\nfield n 5 -\n" + EVENTS)
+        said = "1 farm.Own\njdk.CPULoad (two types have this name)\njdk.SwapSpace (its fields aren't those of the JDK's type)\n"
+        self.assertEqual(self.recipe("strangers", "c.jfr")[:2], (1, said))
         self.write("text", "x")
         for words in ("none.jfr",), ("text",), ("-b.jfr",), ():
             self.assertEqual(self.recipe("strangers", *words).status, 2, words)

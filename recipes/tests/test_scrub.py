@@ -4,9 +4,9 @@ import gzip
 import os
 from typing import List, Tuple
 
-from tests.support import EVENTS, TYPES, Case
+from tests.support import EVENTS, SHUTDOWN, TYPES, Case
 
-KEPT = {"vendor": ["jdk.CPULoad", "jdk.JavaMonitorWait"], "strict": ["jdk.CPULoad"], "tenant": ["jdk.CPULoad"]}
+KEPT = {"vendor": ["jdk.CPULoad", "jdk.ThreadStart"], "strict": ["jdk.CPULoad"], "tenant": ["jdk.CPULoad"]}
 
 
 class Scrub(Case):
@@ -27,7 +27,7 @@ class Scrub(Case):
 
     def test_output_is_what_the_program_makes(self) -> None:
         self.recording("in.jfr")
-        self.run_program("scrub", "--include-events", "jdk.CPULoad,jdk.JavaMonitorWait", "in.jfr", "by-hand.jfr")
+        self.run_program("scrub", "--include-events", "jdk.CPULoad,jdk.ThreadStart", "in.jfr", "by-hand.jfr")
         self.assert_run(self.recipe("vendor", "in.jfr", "out.jfr"), 0)
         self.assertEqual(self.read("out.jfr"), self.read("by-hand.jfr"))
         mask = os.umask(0)
@@ -85,21 +85,31 @@ class Scrub(Case):
             f'case $1 in metadata) echo "out of memory" >&2; exit 5 ;; *) exec {self.program} "$@" ;; esac\n'
         )
         run = self.recipe("vendor", "in.jfr", "out.jfr")
-        self.assert_run(run, 71, "wasn't checked what is left")
+        self.assert_run(run, 71, "can't be checked, so there is no output")
         self.assertIn("out of memory", run.err)
         self.assert_only("in.jfr")
 
     def test_warnings(self) -> None:
-        types = "class 5 long\nevent 8 jdk.CPULoad\nfield n 5 -\nevent 9 jdk.Shutdown\nfield n 5 -\n"
-        first, second = self.recording("a", types + "record 8 1\n"), self.recording("b", types + "record 8 1\nrecord 9 1")
+        first, second = self.recording("a"), self.recording("b", TYPES + EVENTS + SHUTDOWN)
         with open("missed.jfr", "wb") as file:
             file.write(self.read(first) + self.read(second))
         run = self.recipe("vendor", "missed.jfr", "missed.out")
         self.assert_run(run, 0, "misses the events of jdk.Shutdown, as")
         self.assertIn("kijorafe jdk missed.out COPY", run.err)
-        self.recording("double.jfr", TYPES + "event 24 jdk.CPULoad\nfield text 6 -\n" + EVENTS)
-        run = self.recipe("vendor", "double.jfr", "double.out")
-        self.assert_run(run, 0, "has the name of a JDK type, and is kept like it: jdk.CPULoad")
+
+    def test_own_types_with_names_of_the_jdk(self) -> None:
+        double = "event 24 jdk.CPULoad\nfield text 6 -\n"
+        self.recording("in.jfr", TYPES + double + "event 26 jdk.SwapSpace\nfield text 6 -\n" + EVENTS + 'record 26 "own"\n')
+        run = self.recipe("vendor", "in.jfr", "out.jfr")
+        self.assert_run(run, 0, "2 of 6 events are left")
+        self.assertIn("jdk.CPULoad (two types have this name); jdk.SwapSpace (its fields aren't those", run.err)
+        self.assertEqual(self.types_in("out.jfr"), ["jdk.ThreadStart"])
+        run = self.recipe("vendor", "--trust", "jdk.SwapSpace", "in.jfr", "--trust", "jdk.CPULoad", "trusted.jfr")
+        self.assert_run(run, 0, "WARNING: kept on trust, though the program's own types have these names: jdk.CPULoad; jdk")
+        self.assertEqual(self.types_in("trusted.jfr"), ["jdk.CPULoad", "jdk.SwapSpace", "jdk.ThreadStart"])
+        self.assert_run(self.recipe("vendor", "--trust", "farm.Own", "in.jfr", "o"), 1, "isn't the name of a type of the JDK")
+        run = self.recipe("tenant", "--trust", "jdk.CPULoad", "--", "-x", "in.jfr", "tenant.jfr")
+        self.assertEqual(self.types_in("tenant.jfr"), ["jdk.CPULoad"])
 
     def test_names_are_made_safe(self) -> None:
         self.recording("in.jfr", TYPES + "event 24 \x1b[31mred\u202ex\u2028y\nfield n 5 -\n" + EVENTS + "record 24 1\n")

@@ -21,7 +21,6 @@ case $1 in
         echo "$last" >begun.new && mv begun.new begun
         while [ ! -e go ]; do sleep 0.02; done
         ;;
-    metadata) echo 'chunk 1' ;;
 esac
 """
 
