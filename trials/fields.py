@@ -37,7 +37,7 @@ def main() -> int:
         return 1
     version, recording = sys.argv[1:]
     found = fields_in(recording)
-    lines = {}
+    lines: "dict[tuple[str, str], set[str]]" = {}
     if os.path.exists(genuine.FIELDS):
         lines = {(row.name, row.fields): set(row.jdks) - {version} for row in genuine.rows()}
     for each in known.known_types().values():
@@ -45,7 +45,8 @@ def main() -> int:
             if len(found.get(each.name, ())) != 1:
                 print(f"{each.name}: {len(found.get(each.name, ()))} descriptions", file=sys.stderr)
                 return 1
-            lines.setdefault((each.name, *found[each.name]), set()).add(version)
+            (fields,) = found[each.name]
+            lines.setdefault((each.name, fields), set()).add(version)
     with open(genuine.FIELDS, "w", encoding="utf-8") as file:
         file.write(HEAD)
         for (name, fields), jdks in sorted(lines.items()):

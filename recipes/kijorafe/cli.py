@@ -111,11 +111,7 @@ def main(words: Optional[List[str]] = None) -> int:
     _prepare_streams()
     interrupts.catch()
     try:
-        given = _parsed(sys.argv[1:] if words is None else words)
-        status = RUNS[given.recipe_name](given)
-        if sys.stdout is not None:
-            sys.stdout.flush()
-        return status
+        return _run(sys.argv[1:] if words is None else words)
     except Fault as fault:
         say(fault.message)
         return fault.status
@@ -127,5 +123,29 @@ def main(words: Optional[List[str]] = None) -> int:
         say("out of memory")
         return 5
     except OSError as fault:
-        say(f"{fault.filename or 'the output stream'}: {fault.strerror}")
+        say(f"{file_name(fault.filename or 'a stream')}: {fault.strerror}")
         return 4
+    finally:
+        _give_up_output()
+
+
+def _run(words: List[str]) -> int:
+    given = _parsed(words)
+    status = RUNS[given.recipe_name](given)
+    try:
+        if sys.stdout is not None:
+            sys.stdout.flush()
+    except BrokenPipeError:
+        raise
+    except OSError as fault:
+        raise Fault(2, f"the output can't be written: {fault.strerror}") from fault
+    return status
+
+
+def _give_up_output() -> None:
+    """Drops the output that can't be written, so that Python doesn't try again when it ends."""
+    try:
+        if sys.stdout is not None:
+            sys.stdout.flush()
+    except OSError:
+        os.dup2(os.open(os.devnull, os.O_WRONLY), sys.stdout.fileno())

@@ -8,7 +8,7 @@ from typing import BinaryIO, Iterator, Protocol, cast
 
 from kijorafe.messages import Fault
 from kijorafe.shown import file_name
-from kijorafe.staging import Output
+from kijorafe.staging import Output, is_utf8
 
 BLOCK = 1 << 20
 GZIP = b"\x1f\x8b"
@@ -50,16 +50,19 @@ def check_input(name: str) -> None:
 def recording_of(name: str, output: Output, or_text: bool = False) -> str:
     """A file with the input, which can be read several times.
 
-    That is the input itself, unless it is a pipe or compressed: then it is a file beside the output, which is removed
-    with the output's folder. Of a pipe with anything else, only the first block is taken, unless a text will do, too.
+    That is the input itself, unless it is a pipe or compressed, or has a name that the program doesn't take: then it is
+    a file beside the output, which is removed with the output's folder. Of a pipe with anything else, only the first block is taken, unless a text will do, too.
     """
     try:
         with open(name, "rb") as file:
             is_file = stat.S_ISREG(os.fstat(file.fileno()).st_mode)
             first = file.read(len(GZIP) if is_file else BLOCK)
-            if is_file and not first.startswith(GZIP):
-                return name
             path = output.beside("in")
+            if is_file and not first.startswith(GZIP):
+                if is_utf8(name):
+                    return name
+                os.symlink(os.path.abspath(name), path)
+                return path
             blocks = _blocks(name, _Rejoined(first, file), first.startswith(GZIP))
             _write(blocks if or_text else _of_recording(blocks), path, output)
             return path

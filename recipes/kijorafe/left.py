@@ -24,6 +24,8 @@ def left(recording: str, file: Optional[str]) -> int:
         if file is not None:
             return _find_words(find(), recording, file)
         return _list_strings(find(), recording)
+    except BrokenPipeError:
+        raise
     except (Failure, OSError, UnicodeDecodeError) as failure:
         raise Fault(2, f"{failure}; nothing is known of the rest") from failure
     except MemoryError as failure:

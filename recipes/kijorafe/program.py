@@ -191,37 +191,33 @@ def _summary_of_text(lines: Iterator[bytes]) -> List[TypeTotal]:
     return types
 
 
-_CLASS = re.compile(r"(?P<name>.*) id \d+(?: super (?P<super>.*))?", re.DOTALL)
+_CLASS = re.compile(r"(.*) id \d+(?: super (.*))?", re.DOTALL)
+_CATEGORY = "  category "
 
 
 def _classes_of_text(lines: Iterator[bytes]) -> Iterator[Class]:
     chunk = 0
-    described: Optional[Class] = None
+    # What was read of a class: its name, its super type, its categories and its fields.
+    read: Optional[Tuple[str, Optional[str], Tuple[str, ...], List[Field]]] = None
     for coded in lines:
         line = coded.decode("utf-8", "replace").rstrip("\n")
-        if line.startswith("  ") and described is not None:
-            described = _with_line(described, line[2:])
-            continue
-        if described is not None:
-            yield described
-            described = None
-        if line == f"chunk {chunk + 1}":
-            chunk += 1
-            continue
-        found = _CLASS.fullmatch(line)
-        if found:
-            described = Class(chunk, found["name"], found["super"], (), ())
-    if described is not None:
-        yield described
+        if read is not None and line.startswith(_CATEGORY + '"'):
+            read = (*read[:2], tuple(json.loads(f"[{line[len(_CATEGORY):]}]")), read[3])
+        elif read is not None and line.startswith("  "):
+            read[3].append(_field_of_text(line[2:]))
+        else:
+            if read is not None:
+                yield Class(chunk, *read[:3], tuple(read[3]))
+            found = _CLASS.fullmatch(line)
+            read = (found[1], found[2], (), []) if found else None
+            chunk += line == f"chunk {chunk + 1}"
+    if read is not None:
+        yield Class(chunk, *read[:3], tuple(read[3]))
 
 
-def _with_line(described: Class, line: str) -> Class:
-    """The class with what a line below it says."""
-    if line.startswith('category "'):
-        return described._replace(categories=tuple(json.loads(f"[{line[len('category '):]}]")))
+def _field_of_text(line: str) -> Field:
     name, _, class_name = line.partition(": ")
     constant = class_name.endswith(" constant")
     class_name = class_name[: -len(" constant")] if constant else class_name
     array = class_name.endswith("[]")
-    field = Field(name, class_name[:-2] if array else class_name, constant, array)
-    return described._replace(fields=described.fields + (field,))
+    return Field(name, class_name[:-2] if array else class_name, constant, array)

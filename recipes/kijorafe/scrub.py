@@ -6,7 +6,7 @@ from kijorafe import genuine, jdk, known
 from kijorafe.explain import fault_of
 from kijorafe.inputs import check_input, recording_of
 from kijorafe.messages import Fault, say
-from kijorafe.program import Failure, Program, find
+from kijorafe.program import WRONG_WORDS, Failure, Program, find
 from kijorafe.shown import file_name, in_a_row
 from kijorafe.staging import Output, free_bytes
 from kijorafe.threads import addresses_in
@@ -88,7 +88,7 @@ def _own_types(program: Program, source: str, recording: str) -> Dict[str, str]:
     try:
         return genuine.own_types(program.classes(as_operand(recording)))
     except Failure as failure:
-        if failure.status in (REFUSED, READ_FAULT):
+        if failure.status in (WRONG_WORDS, REFUSED, READ_FAULT):
             raise fault_of(failure, source) from failure
         raise _unchecked(source, failure) from failure
 

@@ -11,7 +11,7 @@ import os
 import shutil
 import stat
 from types import TracebackType
-from typing import Optional, Type
+from typing import Optional, Tuple, Type
 
 from kijorafe import interrupts
 from kijorafe.messages import Fault, say
@@ -43,8 +43,8 @@ class Output:
 
     def __enter__(self) -> "Output":
         try:
-            self._lock = _taken(self.folder)
-            if os.listdir(self.folder):
+            self._lock, is_new = _taken(self.folder)
+            if not is_new:
                 say(f"{file_name(self.folder)} is of a run that was killed, and is emptied")
                 _empty(self.folder)
         except BlockingIOError as fault:
@@ -130,17 +130,22 @@ def free_bytes(name: str) -> str:
     return f"; {disk.f_bavail * disk.f_frsize} bytes are free in its folder"
 
 
+def is_utf8(name: str) -> bool:
+    """Whether the program takes the name."""
+    return not any("\ud800" <= character <= "\udfff" for character in name)
+
+
 def _folder_name(base: str) -> str:
     name = f".{base}.part"
-    if len(os.fsencode(name)) <= LONGEST_NAME:
+    if len(os.fsencode(name)) <= LONGEST_NAME and is_utf8(name):
         return name
     from hashlib import sha256
 
     return f".{sha256(os.fsencode(base)).hexdigest()}.part"
 
 
-def _taken(folder: str) -> int:
-    """Makes the folder if it isn't there, and locks it; the lock is the descriptor."""
+def _taken(folder: str) -> Tuple[int, bool]:
+    """Makes the folder if it isn't there, and locks it: the descriptor that is the lock, and whether it is new."""
     while True:
         try:
             os.mkdir(folder, 0o700)
@@ -150,7 +155,7 @@ def _taken(folder: str) -> int:
         lock = os.open(folder, os.O_RDONLY | os.O_DIRECTORY | os.O_NOFOLLOW)
         try:
             if _locked(lock, folder, is_new):
-                return lock
+                return lock, is_new
         except BaseException:
             os.close(lock)
             raise

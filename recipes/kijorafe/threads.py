@@ -31,8 +31,9 @@ def names_of(program: Program, recording: str) -> Counts[str]:
 
 
 def pattern_of(name: str) -> str:
-    """A pattern that matches the name, and others that differ in their numbers."""
-    return re.sub(r"\d+", "*", re.sub(r"[,*\x00-\x1f\x7f]", "?", name))
+    """A pattern that matches the name, and others that differ in their numbers. It can be shown."""
+    plain = "".join(character if character.isprintable() and character not in ",*" else "?" for character in name)
+    return re.sub(r"\d+", "*", plain)
 
 
 def addresses_in(program: Program, recording: str) -> str:

@@ -1,6 +1,7 @@
 """The command line, explanations, copies for the JDK, and flame graphs."""
 
 import os
+import signal
 import subprocess
 import unittest
 import xml.dom.minidom
@@ -62,6 +63,17 @@ class Words(Case):
         self.assertEqual(subprocess.call(["sh", "-c", script]), 0)
         self.recipe("vendor", "in.jfr", "again.jfr")
         self.assertEqual(self.read("out.jfr"), self.read("again.jfr"))
+
+    def test_output_that_nobody_takes(self) -> None:
+        self.recording("in.jfr")
+        with open("/dev/full", "wb") as full:
+            done = subprocess.run(self.command("left", "in.jfr"), stdout=full, stderr=subprocess.PIPE)
+        self.assertEqual((done.returncode, done.stderr.count(b"\n")), (2, 1))
+        reader, writer = os.pipe()
+        os.close(reader)
+        done = subprocess.run(self.command("left", "in.jfr"), stdout=writer, stderr=subprocess.PIPE)
+        os.close(writer)
+        self.assertEqual((done.returncode, done.stderr), (-signal.SIGPIPE, b""))
 
     def test_no_python(self) -> None:
         os.mkdir("bin")

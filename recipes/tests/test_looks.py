@@ -4,7 +4,7 @@ import time
 import unittest
 
 from kijorafe.shown import file_name, quoted, shown
-from kijorafe.threads import ADDRESS
+from kijorafe.threads import ADDRESS, pattern_of
 from tests.support import EVENTS, SHUTDOWN, TYPES, Case
 
 TEXTS = "class 6 java.lang.String\nevent 8 t.A\nfield s 6 -\nfield t 6 -\n"
@@ -29,6 +29,10 @@ class Names(unittest.TestCase):
             self.assertTrue(ADDRESS.search(name), name)
         for name in "main", "G1 Main Marker", "Thread-7", "a.b", "1.2.3", "x:1":
             self.assertFalse(ADDRESS.search(name), name)
+
+    def test_patterns(self) -> None:
+        self.assertEqual(pattern_of("http-nio-8080-exec-12"), "http-nio-*-exec-*")
+        self.assertEqual(pattern_of("a,b*c\x1b\u202e\x85"), "a?b?c???")
 
     def test_long_names(self) -> None:
         start = time.process_time()

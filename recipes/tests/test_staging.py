@@ -120,6 +120,9 @@ class Outputs(Case):
                 self.write(output.path, "mine")
                 output.commit()
             self.assertEqual(self.read(name), b"mine")
+        odd = os.fsdecode(b"in\xff.jfr")
+        os.rename(self.recording("in.jfr"), odd)
+        self.assert_run(self.recipe("vendor", odd, os.fsdecode(b"out\xff.jfr")), 0, "events are left")
 
     def test_a_folder_of_somebody_else(self) -> None:
         os.mkdir(".out.part", 0o777)
