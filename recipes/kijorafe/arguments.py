@@ -11,7 +11,9 @@ from kijorafe.shown import file_name, shown
 
 Arguments = argparse.Namespace
 DESCRIPTION = "Scrubs recordings of JDK Flight Recorder for different readers, and shows what is left of them."
-NEEDS = "Needs Linux on x86-64 with glibc 2.34 or later, and Python 3.8 or later. docs/OPERATORS.md describes the recipes."
+NEEDS = (
+    "Needs Linux on x86-64 with glibc 2.34 or later, and Python 3.8 or later. docs/OPERATORS.md describes the recipes."
+)
 SCRUBS = (
     "OUT must not exist, and is there only when it is complete. IN may be a pipe, or compressed by gzip. The statuses"
     " are those of jfr, and 71 if it can't be checked what is left."
@@ -146,7 +148,8 @@ def _add_many(recipe: Callable[..., Parser]) -> None:
     )
     many.usage = MANY
     many.add_argument("--resume", action="store_true", help="go on after an interruption; try again what was refused")
-    many.add_argument("--jobs", type=at_once, metavar="N", default=len(os.sched_getaffinity(0)), help="how many at once")
+    processors = len(os.sched_getaffinity(0))
+    many.add_argument("--jobs", type=at_once, metavar="N", default=processors, help="how many at once")
     many.add_argument(
         "--sshloginfile",
         metavar="FILE",

@@ -39,7 +39,7 @@ def explained(status: int, line: str, name: str) -> str:
 
 
 def fault_of(failure: Failure, name: str) -> Fault:
-    """The fault that ends a recipe whose program has failed on the recording of this name. Repeats the program's line."""
+    """The fault that ends a recipe when the program fails on the recording of this name. Repeats the program's line."""
     if failure.line:
         write(shown(failure.line) + "\n")
     return Fault(failure.status, explained(failure.status, failure.line, file_name(name)))

@@ -51,7 +51,8 @@ def recording_of(name: str, output: Output, or_text: bool = False) -> str:
     """A file with the input, which can be read several times.
 
     That is the input itself, unless it is a pipe or compressed, or has a name that the program doesn't take: then it is
-    a file beside the output, which is removed with the output's folder. Of a pipe with anything else, only the first block is taken, unless a text will do, too.
+    a file beside the output, which is removed with the output's folder. If a pipe gives anything but a recording, only
+    its first block is taken, unless a text will do, too.
     """
     try:
         with open(name, "rb") as file:

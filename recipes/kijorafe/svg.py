@@ -60,7 +60,8 @@ def drawn(whole: Frame, title: str) -> Iterator[str]:
     yield f"""<?xml version="1.0" encoding="UTF-8"?>
 <svg xmlns="http://www.w3.org/2000/svg" viewBox="0 0 {WIDTH} {height}" width="{WIDTH}" height="{height}">
 <style>
-text {{ font: 11px monospace; pointer-events: none }} g.frame {{ cursor: pointer }} g.frame:hover rect {{ stroke: black }}
+text {{ font: 11px monospace; pointer-events: none }}
+g.frame {{ cursor: pointer }} g.frame:hover rect {{ stroke: black }}
 g.found rect {{ fill: rgb(190,90,240) }} #whole {{ cursor: pointer; pointer-events: all; text-decoration: underline }}
 </style>
 <rect width="{WIDTH}" height="{height}" fill="#fff8e8"/>

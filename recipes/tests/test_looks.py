@@ -13,7 +13,8 @@ TEXTS = "class 6 java.lang.String\nevent 8 t.A\nfield s 6 -\nfield t 6 -\n"
 class Names(unittest.TestCase):
     def test_shown(self) -> None:
         self.assertEqual(shown("a b ä"), "a b ä")
-        self.assertEqual(shown("\x1b\n\x85\u202e\u2029\udc80\U000e0001"), "\\u001b\\u000a\\u0085\\u202e\\u2029\\udc80\\udb40\\udc01")
+        self.assertEqual(shown("\x1b\n\x85\u202e\u2029"), "\\u001b\\u000a\\u0085\\u202e\\u2029")
+        self.assertEqual(shown("\udc80\U000e0001"), "\\udc80\\udb40\\udc01")
         self.assertEqual(quoted('"\\\n\u202e'), '"\\"\\\\\\n\\u202e"')
 
     def test_file_names(self) -> None:
@@ -66,9 +67,18 @@ class Looks(Case):
         self.assertEqual(self.recipe("strangers", "a.jfr")[:2], (0, ""))
         self.recording("b.jfr")
         self.assertEqual(self.recipe("strangers", "b.jfr")[:2], (1, "1 farm.Own\n"))
-        self.recording("c.jfr", TYPES + "event 24 jdk.CPULoad\nfield n 5 -\nevent 26 jdk.SwapSpace\nfield n 5 -\n" + EVENTS)
-        said = "1 farm.Own\njdk.CPULoad (two types have this name)\njdk.SwapSpace (its fields aren't those of the JDK's type)\n"
-        self.assertEqual(self.recipe("strangers", "c.jfr")[:2], (1, said))
+        own = "event 24 jdk.CPULoad\nfield n 5 -\nevent 26 jdk.SwapSpace\nfield n 5 -\n"
+        self.recording("c.jfr", TYPES + own + EVENTS)
+        run = self.recipe("strangers", "c.jfr")
+        self.assertEqual(run.status, 1)
+        self.assertEqual(
+            run.out.splitlines(),
+            [
+                "1 farm.Own",
+                "jdk.CPULoad (two types have this name)",
+                "jdk.SwapSpace (its fields aren't those of the JDK's type)",
+            ],
+        )
         self.write("text", "x")
         for words in ("none.jfr",), ("text",), ("-b.jfr",), ():
             self.assertEqual(self.recipe("strangers", *words).status, 2, words)

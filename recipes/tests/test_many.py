@@ -40,7 +40,8 @@ class Many(Case):
         self.assert_run(self.process("many", "tenant", "--addresses", "in", "out2"), 0, "2 of 2")
         self.assert_run(self.process("many", "--trust", "jdk.CPULoad", "tenant", "-x*,main", "in", "out3"), 0, "2 of 2")
         self.assertEqual(self.read("out/a/x.jfr"), self.read("out3/a/x.jfr"))
-        run = self.process("many", "--one", "--trust", "jdk.CPULoad", "tenant", "--", "-x*,main", "in", "out4", "a/x.jfr")
+        words = ["--one", "--trust", "jdk.CPULoad", "tenant", "--", "-x*,main", "in", "out4", "a/x.jfr"]
+        run = self.process("many", *words)
         self.assertIn('[0, 0, "a/x.jfr", "WARNING: the pattern', run.out)
         self.recipe("tenant", "--addresses", "in/a/x.jfr", "one.jfr")
         self.assertEqual(self.read("out2/a/x.jfr"), self.read("one.jfr"))

@@ -44,7 +44,8 @@ class Data(Case):
         real = Program(self.program)
         self.assertEqual([each[:2] for each in real.summary("a.jfr")], [("t.A", 2)])
         classes = {each.name: each for each in real.classes("a.jfr")}
-        self.assertEqual(classes["t.Node"].fields, (Field("next", "t.Node", True, False), Field("all", "t.Node", True, True)))
+        fields = (Field("next", "t.Node", True, False), Field("all", "t.Node", True, True))
+        self.assertEqual(classes["t.Node"].fields, fields)
         self.assertEqual(classes["jdk.types.StackTrace"].fields[1], Field("frames", "long", False, True))
         self.assertEqual((classes["t.A"].chunk, classes["t.A"].is_event, classes["long"].is_event), (1, True, False))
 
