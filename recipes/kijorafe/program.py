@@ -171,7 +171,8 @@ def find() -> Program:
     except OSError as fault:
         raise Fault(69, f"the program {file_name(path)} can't be run: {fault.strerror}; {NEEDS}") from fault
     if status != 0:
-        raise Fault(status if status > 0 else 69, f"the program {file_name(path)} doesn't run; {NEEDS}")
+        # The script's own statuses are told; anything else could be taken for an answer.
+        raise Fault(status if status in (70, 130) else 69, f"the program {file_name(path)} doesn't run; {NEEDS}")
     if is_script:
         out = os.path.join(PLACE, "crates", "jfr", "out")
         for name in "jfr", "jfr.before":

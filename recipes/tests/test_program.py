@@ -68,5 +68,5 @@ class Data(Case):
         self.recording("in.jfr")
         self.fake_program("echo \"version 'GLIBC_2.34' not found\" >&2; exit 1\n")
         run = self.recipe("vendor", "in.jfr", "out.jfr")
-        self.assert_run(run, 1, "glibc 2.34")
+        self.assert_run(run, 69, "glibc 2.34")
         self.assert_only("in.jfr")
