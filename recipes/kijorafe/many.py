@@ -14,8 +14,8 @@ from typing import Iterator, List, NamedTuple, Optional, Set
 
 from kijorafe import interrupts, program
 from kijorafe.joblog import Log, Result
-from kijorafe.messages import Fault, say, write
-from kijorafe.shown import file_name, shown
+from kijorafe.messages import WARNING, Fault, say, write
+from kijorafe.shown import file_name, in_a_row, shown
 
 START = os.path.join(os.path.dirname(os.path.realpath(__file__)), "start")
 
@@ -99,13 +99,15 @@ def many(order: Order, at_once: int, hosts: Optional[str], resume: bool) -> int:
         say("without GNU parallel all jobs run on this host")
         hosts = None
     results = _by_parallel(order, names, at_once, hosts) if hosts else _here(order, names, at_once)
-    refused, count = [], 0
+    refused, warned, count = [], [], 0
     try:
         for result in results:
             log.add(result)
             count += result.status == 0
             if result.status != 0:
                 refused.append(result)
+            elif WARNING in result.said:
+                warned.append(file_name(result.name))
             if sys.stderr is not None and sys.stderr.isatty():
                 write(f"\r{count + len(refused)} of {len(names)} ")
     except interrupts.Stopped:
@@ -113,6 +115,8 @@ def many(order: Order, at_once: int, hosts: Optional[str], resume: bool) -> int:
         raise
     if sys.stderr is not None and sys.stderr.isatty():
         write("\n")
+    if warned:
+        say(f"{WARNING}{len(warned)} have warnings, which {file_name(log.name)} has: {in_a_row(warned)}")
     return _told(len(every), len(names), count, refused)
 
 

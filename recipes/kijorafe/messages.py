@@ -3,6 +3,10 @@
 import sys
 
 
+# How a message begins that the user should act on, although the recipe ends well.
+WARNING = "WARNING: "
+
+
 class Fault(Exception):
     """The end of a recipe that can't do what was asked: an exit status and a message."""
 

@@ -5,7 +5,7 @@ from typing import Dict, List, NamedTuple, Sequence, Tuple
 from kijorafe import genuine, jdk, known
 from kijorafe.explain import fault_of
 from kijorafe.inputs import check_input, recording_of
-from kijorafe.messages import Fault, say
+from kijorafe.messages import WARNING, Fault, say
 from kijorafe.program import WRONG_WORDS, Failure, Program, find
 from kijorafe.shown import file_name, in_a_row
 from kijorafe.staging import Output, free_bytes
@@ -115,7 +115,7 @@ def _report(program: Program, recording: str, output: Output) -> List[str]:
     if unseen:
         name = file_name(output.name)
         lines.append(
-            f"WARNING: the JDK's reader misses the events of {in_a_row(unseen)}, as an earlier chunk has none. It"
+            f"{WARNING}the JDK's reader misses the events of {in_a_row(unseen)}, as an earlier chunk has none. It"
             f" reads all events of the copy that `kijorafe jdk {name} COPY` makes"
         )
     return lines
@@ -127,7 +127,7 @@ def _report_own(own: Dict[str, str], order: Order) -> List[str]:
     kept = [name for name in own if name in order.trusted]
     removed = [name for name in own if name not in order.trusted]
     if kept:
-        lines.append(f"WARNING: kept on trust, though the program's own types have these names: {in_a_row(kept)}")
+        lines.append(f"{WARNING}kept on trust, though the program's own types have these names: {in_a_row(kept)}")
     if removed:
         names = in_a_row(f"{name} ({own[name]})" for name in removed)
         lines.append(f"removed, since the program's own types have these names: {names}; --trust NAME keeps one")
@@ -145,5 +145,5 @@ def _report_patterns(program: Program, patterns: str, source: str, recording: st
             say("the patterns couldn't be checked")
             return
         if events == 0:
-            say(f"WARNING: the pattern {file_name(pattern)} matches no thread of {file_name(source)}")
+            say(f"{WARNING}the pattern {file_name(pattern)} matches no thread of {file_name(source)}")
         output.remove(found)

@@ -16,8 +16,8 @@ from kijorafe import cli
 RECIPES = os.path.dirname(os.path.dirname(os.path.realpath(__file__)))
 TOP = os.path.dirname(RECIPES)
 
-# Types: one of the JDK that all recipes keep, one that only vendor keeps, one that none keeps, one of the program's own,
-# and one of which there is no event. Those of the JDK have the fields of 17 and 25.
+# Types: one of the JDK that all recipes keep, one that only vendor keeps, one that none keeps, one of the program's
+# own, and one of which there is no event. Those of the JDK have the fields of 17 and 25.
 TYPES = """\
 class 3 boolean
 class 4 float

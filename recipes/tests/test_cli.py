@@ -20,8 +20,9 @@ class Words(Case):
         said = subprocess.run([front, "--help"], check=True, stdout=subprocess.PIPE).stdout.decode()
         for name in NAMES:
             self.assertIn(f"    {name}", said)
-            done = subprocess.run([front, name, "--help"], check=True, stdout=subprocess.PIPE)
-            self.assertIn(f"usage: kijorafe {name}", done.stdout.decode())
+            run = self.recipe(name, "--help")
+            self.assertEqual((run.status, run.err), (0, ""))
+            self.assertIn(f"usage: kijorafe {name}", run.out)
 
     def test_wrong_words(self) -> None:
         self.recording("in.jfr")
@@ -156,7 +157,11 @@ class Files(Case):
 
 class Scripts(Case):
     def test_a_script_for_each_recipe(self) -> None:
+        script = self.read("send/recipes/vendor").decode()
         for name in NAMES[:-1]:
-            done = subprocess.run([f"send/recipes/{name}"], stdout=subprocess.PIPE, stderr=subprocess.PIPE)
-            self.assertIn(f"usage: kijorafe {name}", done.stderr.decode())
-            self.assertEqual(done.returncode, 2 if name in ("left", "strangers", "threads") else 1)
+            self.assertEqual(self.read(f"send/recipes/{name}").decode(), script.replace("vendor", name))
+            run = self.recipe(name)
+            self.assertIn(f"usage: kijorafe {name}", run.err)
+            self.assertEqual(run.status, 2 if name in ("left", "strangers", "threads") else 1)
+        done = subprocess.run(["send/recipes/left", "none"], stdout=subprocess.PIPE, stderr=subprocess.PIPE)
+        self.assertEqual((done.returncode, done.stderr), (2, b"kijorafe left: none isn't a file\n"))

@@ -36,7 +36,9 @@ class Many(Case):
 
     def test_tenant(self) -> None:
         os.unlink("in/cut.jfr")
-        self.assert_run(self.process("many", "tenant", "-x*,main", "in", "out"), 0, "2 of 2")
+        run = self.process("many", "tenant", "-x*,main", "in", "out")
+        self.assert_run(run, 0, "2 of 2")
+        self.assertIn("WARNING: 2 have warnings, which", run.err)
         self.assert_run(self.process("many", "tenant", "--addresses", "in", "out2"), 0, "2 of 2")
         self.assert_run(self.process("many", "--trust", "jdk.CPULoad", "tenant", "-x*,main", "in", "out3"), 0, "2 of 2")
         self.assertEqual(self.read("out/a/x.jfr"), self.read("out3/a/x.jfr"))
@@ -60,4 +62,4 @@ class Many(Case):
             (1, "usage", ("--jobs", "0", "vendor", "in", "out")),
         ):
             with self.subTest(words=words):
-                self.assert_run(self.process("many", *words), status, text)
+                self.assert_run(self.recipe("many", *words), status, text)

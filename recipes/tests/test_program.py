@@ -66,7 +66,7 @@ class Data(Case):
 
     def test_a_program_that_does_not_run(self) -> None:
         self.recording("in.jfr")
-        self.fake_program("echo \"version 'GLIBC_2.34' not found\" >&2; exit 1\n")
+        self.fake_program("exit 1\n")
         run = self.recipe("vendor", "in.jfr", "out.jfr")
         self.assert_run(run, 69, "glibc 2.34")
         self.assert_only("in.jfr")
