@@ -18,7 +18,8 @@ HEAD = """\
 # order, each with its class, [] for an array and * for the constant mark. Between the three are tabs. What has the name
 # of such a type and other fields is removed by every recipe, and listed by `kijorafe strangers`.
 #
-# trials/fields.py makes this file of recordings: of OpenJDK 17.0.15 and Temurin 25.0.3.
+# trials/fields.py makes this file of recordings: of OpenJDK 17.0.15 and 21.0.13, and of Temurin 25.0.3, whose fields
+# OpenJDK 25.0.5 has, too.
 """
 
 

@@ -9,7 +9,7 @@ from collections import defaultdict
 from itertools import groupby
 from typing import DefaultDict, Dict, Iterable, Iterator, List, NamedTuple, Set, Tuple
 
-from kijorafe.known import TYPES, Known, known_types
+from kijorafe.known import TYPES, known_types
 from kijorafe.program import Class, Field
 
 FIELDS = os.path.join(os.path.dirname(TYPES), "fields")
@@ -59,14 +59,12 @@ def own_types(classes: Iterable[Class]) -> Dict[str, str]:
         for each in chunk:
             if each.is_event and each.name in known:
                 described[each.name].append(spelled(each.fields))
-        for name, reason in _own_types_of(described, known, fields):
+        for name, reason in _own_types_of(described, fields):
             found.setdefault(name, reason)
     return dict(sorted(found.items()))
 
 
-def _own_types_of(
-    described: Dict[str, List[str]], known: Dict[str, Known], fields: Spelled
-) -> Iterator[Tuple[str, str]]:
+def _own_types_of(described: Dict[str, List[str]], fields: Spelled) -> Iterator[Tuple[str, str]]:
     """The same for the types that a chunk describes."""
     jdks = [jdk for jdk, types in fields.items() if _is_of(described, types)]
     for name, spellings in described.items():
@@ -74,10 +72,8 @@ def _own_types_of(
             yield name, TWICE
         elif jdks and not any(name in fields[jdk] for jdk in jdks):
             yield name, OTHER_JDK
-        elif spellings[0] not in _allowed(known[name], jdks, fields):
-            # Of a JDK that the file lacks nothing is known.
-            if jdks or set(known[name].jdks) <= set(fields):
-                yield name, OTHER_FIELDS
+        elif spellings[0] not in _allowed(name, jdks, fields):
+            yield name, OTHER_FIELDS
 
 
 def _is_of(described: Dict[str, List[str]], types: Dict[str, str]) -> bool:
@@ -85,6 +81,6 @@ def _is_of(described: Dict[str, List[str]], types: Dict[str, str]) -> bool:
     return all(fields in described.get(name, ()) for name, fields in types.items())
 
 
-def _allowed(known: Known, jdks: List[str], fields: Spelled) -> Set[str]:
+def _allowed(name: str, jdks: List[str], fields: Spelled) -> Set[str]:
     """The fields that a type may have: in the JDKs of its chunk, or in all that have it."""
-    return {fields[jdk][known.name] for jdk in jdks or fields if known.name in fields[jdk]}
+    return {fields[jdk][name] for jdk in jdks or fields if name in fields[jdk]}

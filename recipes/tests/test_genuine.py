@@ -35,12 +35,10 @@ class Genuine(unittest.TestCase):
             for jdk in row.jdks:
                 self.assertNotIn((row.name, jdk), seen)
                 seen.add((row.name, jdk))
-        for jdk in {jdk for _, jdk in seen}:
-            names = {name for name, each in seen if each == jdk}
-            self.assertEqual(names, {each.name for each in known.values() if jdk in each.jdks})
+        self.assertEqual(seen, {(each.name, jdk) for each in known.values() for jdk in each.jdks})
 
     def test_recordings_of_a_jdk(self) -> None:
-        for jdk in "17", "25":
+        for jdk in "17", "21", "25":
             self.assertEqual(genuine.own_types(chunk_of(jdk)), {})
             self.assertEqual(genuine.own_types(chunk_of(jdk)[::3]), {})
         self.assertEqual(genuine.own_types(chunk_of("17", 1) + chunk_of("25", 2)), {})
@@ -63,6 +61,3 @@ class Genuine(unittest.TestCase):
         theirs = described("jdk.SwapSpace", "startTime:long totalSize:long freeSize:long")
         self.assertEqual(genuine.own_types([own]), {"jdk.SwapSpace": genuine.OTHER_FIELDS})
         self.assertEqual(genuine.own_types([theirs]), {})
-
-    def test_jdks_that_the_file_lacks(self) -> None:
-        self.assertEqual(genuine.own_types([described("jdk.GCHeapMemoryUsage", "n:long")]), {})
