@@ -76,7 +76,8 @@ check 'a blank after a comma' 1 'belongs to the pattern' <<<'test ! -e new.jfr'
 run tenant 'nobody-*' "$file" new.jfr
 check 'a pattern that matches nothing' 0 'matches no thread' <<<'test -s new.jfr; rm new.jfr'
 
-# Chunks of which the JDK's reader misses events: an earlier one has no event of a type.
+# Chunks of which the JDK's reader would miss events: an earlier one has no event of a type, so a scrub without
+# --describe has no description of it there.
 types='class 4 float
 class 5 long
 event 8 jdk.CPULoad
@@ -93,10 +94,14 @@ printf '%s\n' "$types" "$load" 'record 9 1 0x00000000' >second
 for text in first second; do ./send/jfr build "$text" "$text.jfr" || exit 1; done
 cat first.jfr second.jfr >missed.jfr
 cat second.jfr first.jfr >read.jfr
-run vendor missed.jfr missed.out
-check 'events that the JDK misses' 0 'misses the events of jdk.ThreadContextSwitchRate, as' <<<'test -s missed.out'
-run vendor read.jfr read.out
-check 'events that it reads' 0 'events are left' <<<'! grep -q WARNING said.err'
+./send/jfr scrub missed.jfr missed.out || exit 1
+for text in missed read; do
+    run vendor "$text.jfr" "$text.vendor"
+    check "descriptions, $text" 0 'events are left' \
+        <<<"test \"\$(./send/jfr metadata $text.vendor | grep -c '^jdk.* super jdk.jfr.Event')\" = 4"
+done
+run jdk missed.vendor copy.vendor
+check 'jdk, an output of a recipe' 0 'id of 0 chunks' <<<'cmp missed.vendor copy.vendor'
 run jdk missed.out copy.out
 check 'jdk' 0 'changed the metadata id of 1 chunks' <<<'test "$(cmp -l missed.out copy.out | wc -l)" = 1'
 run jdk copy.out again.out
@@ -111,6 +116,19 @@ run jdk read.jfr none/new.jfr
 check 'jdk, no folder' 4 "doesn't exist" <<<'test ! -e none'
 run jdk --x new.jfr
 check 'jdk, a name with -' 1 'usage' <<<'test ! -e new.jfr'
+
+# Windows of time.
+run vendor "$file" all.jfr
+run vendor --last 1h "$file" last.jfr
+check 'a window with all events' 0 'the window is --from' <<<'cmp last.jfr all.jfr'
+run vendor --to 1970-01-01T00:00:00Z "$file" none.jfr
+check 'a window before the recording' 0 'WARNING: the recording is from' <<<'test -s none.jfr; rm none.jfr'
+run strict --from 2000-01-01T00:00:00Z --to 1999-12-31T23:59:59.999999999Z "$file" new.jfr
+check 'a window that ends before it begins' 1 'is after --to' <<<'test ! -e new.jfr; test ! -e .new.jfr.part'
+run tenant 'nobody-*' --from 25:00 "$file" new.jfr
+check 'no time' 1 "25:00 isn't a time" <<<'test ! -e new.jfr'
+run strict --last 10m --to 10:15 "$file" new.jfr
+check 'two windows' 1 "isn't for use with" <<<'test ! -e new.jfr'
 
 # Names.
 cp -- "$file" $' two\nlines "ä".jfr'

@@ -8,6 +8,7 @@ from typing import Callable, List, NoReturn
 from kijorafe.known import known_types
 from kijorafe.messages import write
 from kijorafe.shown import file_name, shown
+from kijorafe.window import duration, moment
 
 Arguments = argparse.Namespace
 DESCRIPTION = "Scrubs recordings of JDK Flight Recorder for different readers, and shows what is left of them."
@@ -19,9 +20,11 @@ SCRUBS = (
     " are those of jfr, and 71 if it can't be checked what is left."
 )
 MANY = (
-    "kijorafe many [--resume] [--jobs N] [--sshloginfile FILE] [--trust TYPE] RECIPE [PATTERNS|--addresses]"
-    " IN_FOLDER OUT_FOLDER"
+    "kijorafe many [--resume] [--jobs N] [--sshloginfile FILE] [--trust TYPE] [--from TIME] [--to TIME] [--last TIME]"
+    " RECIPE [PATTERNS|--addresses] IN_FOLDER OUT_FOLDER"
 )
+# The options of tenant and many that take a value.
+WITH_VALUES = "--trust", "--from", "--to", "--last", "--jobs", "--sshloginfile"
 
 
 class Parser(argparse.ArgumentParser):
@@ -60,6 +63,26 @@ def jdk_type(text: str) -> str:
     """The name of an event type of the JDK."""
     if text not in known_types():
         raise argparse.ArgumentTypeError(f"{shown(text)} isn't the name of a type of the JDK, such as jdk.CPULoad")
+    return text
+
+
+def time_text(text: str) -> str:
+    """A moment with a date and a zone, or a time of day."""
+    try:
+        moment(text)
+    except ValueError as fault:
+        raise argparse.ArgumentTypeError(
+            f"{shown(text)} isn't a time such as 2026-11-30T10:15:00Z, 2026-11-30T11:15:00+01:00, 11:15 or 11:15:30"
+        ) from fault
+    return text
+
+
+def span_text(text: str) -> str:
+    """A duration."""
+    try:
+        duration(text)
+    except ValueError as fault:
+        raise argparse.ArgumentTypeError(f"{shown(text)} isn't a duration such as 90s, 10m, 2h or 1d") from fault
     return text
 
 
@@ -112,6 +135,18 @@ def _trust(made: Parser) -> None:
     )
 
 
+def _window(made: Parser) -> None:
+    group = made.add_argument_group(
+        "a window of time",
+        "Only events stay of which some moment lies in the window, and those that a JVM writes once in each chunk, such"
+        " as its flags. TIME is a date and time with a zone, such as 2026-11-30T10:15:00Z, or a local time of day, such"
+        " as 11:15, of the day on which it is nearest to the recording.",
+    )
+    group.add_argument("--from", dest="since", metavar="TIME", type=time_text, help="from this moment on")
+    group.add_argument("--to", dest="until", metavar="TIME", type=time_text, help="before this moment")
+    group.add_argument("--last", metavar="TIME", type=span_text, help="the end of the recording: 90s, 10m, 2h or 1d")
+
+
 def _add_scrubs(recipe: Callable[..., Parser]) -> None:
     vendor = recipe(
         "vendor",
@@ -136,6 +171,7 @@ def _add_scrubs(recipe: Callable[..., Parser]) -> None:
     for made in vendor, strict, tenant:
         _names(made)
         _trust(made)
+        _window(made)
 
 
 def _add_many(recipe: Callable[..., Parser]) -> None:
@@ -158,6 +194,7 @@ def _add_many(recipe: Callable[..., Parser]) -> None:
     )
     many.add_argument("--addresses", action="store_true", help="for tenant, instead of PATTERNS")
     _trust(many)
+    _window(many)
     many.add_argument("--one", action="store_true", help=argparse.SUPPRESS)
     many.add_argument("recipe", metavar="RECIPE", choices=("vendor", "strict", "tenant"), help="vendor, strict, tenant")
     many.add_argument("operands", metavar="FOLDER", nargs="+", help="the patterns of tenant, and the two folders")
@@ -216,10 +253,24 @@ def _add_copies(recipe: Callable[..., Parser]) -> None:
     jdk.add_argument("target", metavar="OUT", type=name, nargs="?")
 
 
-def with_patterns(words: List[str]) -> List[str]:
-    """The words, with a mark before the patterns of tenant if they begin with a hyphen."""
-    if words[:1] in (["tenant"], ["many"]) and "tenant" in words[:-1]:
-        at = words.index("tenant") + 1
-        if words[at].startswith("-") and words[at] not in ("--", "--addresses", "--trust", "--help", "-h"):
-            return words[:at] + ["--"] + words[at:]
-    return words
+def in_order(words: List[str]) -> List[str]:
+    """The words with the options of tenant and many first, and a mark before the others.
+
+    So options may be anywhere, and the patterns of tenant may begin with a hyphen.
+    """
+    if words[:1] not in (["tenant"], ["many"]):
+        return words
+    options, operands, rest = [], [], words[1:]
+    while rest:
+        word = rest.pop(0)
+        if word == "--":
+            operands += rest
+            break
+        if word in WITH_VALUES:
+            options += [word, *rest[:1]]
+            del rest[:1]
+        elif word.startswith("--") or word == "-h":
+            options.append(word)
+        else:
+            operands.append(word)
+    return [words[0], *options, "--", *operands]

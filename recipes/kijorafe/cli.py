@@ -5,10 +5,11 @@ import io
 import os
 import signal
 import sys
+from datetime import time
 from typing import Callable, Dict, List, NoReturn, Optional
 
 from kijorafe import interrupts, many, messages
-from kijorafe.arguments import Arguments, Parser, name, parser, patterns, with_patterns
+from kijorafe.arguments import Arguments, Parser, in_order, name, parser, patterns
 from kijorafe.explain import explain
 from kijorafe.flame import flame
 from kijorafe.jdk import copy, print_ids
@@ -18,15 +19,26 @@ from kijorafe.scrub import Order, scrub, tenant, tenant_by_addresses
 from kijorafe.shown import file_name
 from kijorafe.strangers import strangers
 from kijorafe.threads import list_threads
+from kijorafe.window import Asked, moment
+
+
+def _order(given: Arguments) -> Order:
+    return Order(given.recipe_name, given.source, given.target, tuple(given.trust), _asked(given))
+
+
+def _asked(given: Arguments) -> Asked:
+    """The window of time."""
+    if given.last is not None and (given.since is not None or given.until is not None):
+        _wrong(given, "--last isn't for use with --from or --to")
+    return Asked(given.since, given.until, given.last)
 
 
 def _run_scrub(given: Arguments) -> int:
-    return scrub(Order(given.recipe_name, given.source, given.target, tuple(given.trust)))
+    return scrub(_order(given))
 
 
 def _run_tenant(given: Arguments) -> int:
-    order = Order("tenant", given.source, given.target, tuple(given.trust))
-    return tenant_by_addresses(order) if given.addresses else tenant(order, given.patterns)
+    return tenant_by_addresses(_order(given)) if given.addresses else tenant(_order(given), given.patterns)
 
 
 def _run_jdk(given: Arguments) -> int:
@@ -40,7 +52,7 @@ def _run_jdk(given: Arguments) -> int:
 
 def _run_many(given: Arguments) -> int:
     operands, texts = list(given.operands), None
-    options = [word for type_name in given.trust for word in ("--trust", type_name)]
+    options = [word for type_name in given.trust for word in ("--trust", type_name)] + _asked(given).words()
     if given.addresses:
         options.append("--addresses")
         if given.recipe != "tenant":
@@ -53,6 +65,8 @@ def _run_many(given: Arguments) -> int:
     order = many.Order(given.recipe, options, texts, source, target)
     if given.one:
         return many.one(order, operands[2])
+    if given.sshloginfile and any(isinstance(moment(text), time) for text in (given.since, given.until) if text):
+        _wrong(given, "with --sshloginfile times need a date and a zone, since other hosts may have other local times")
     return many.many(order, given.jobs, given.sshloginfile, given.resume)
 
 
@@ -84,7 +98,7 @@ def _wrong(given: Arguments, message: str) -> NoReturn:
 
 def _parsed(words: List[str]) -> Arguments:
     whole = parser()
-    given, rest = whole.parse_known_args(with_patterns(words))
+    given, rest = whole.parse_known_args(in_order(words))
     if given.recipe_name is None:
         write(whole.format_help())
         sys.exit(1)

@@ -1,22 +1,20 @@
 """Copies of scrubs that the JDK's reader reads completely.
 
 If consecutive chunks have metadata with the same id, the JDK's reader uses the event types of the first one for all of
-them. In a scrub their types may differ, and then it misses events. A copy has another id wherever the metadata differs
-from that of the chunk before. All other bytes are the same, so `jfr verify` checks the copy with the scrub's receipts.
+them. Where their types differ, as in scrubs that don't describe the types without events, it misses events. A copy has
+another id wherever the metadata differs from that of the chunk before. All other bytes are the same, so `jfr verify`
+checks the copy with the scrub's receipts.
 """
 
 import os
 import shutil
-import struct
-from typing import BinaryIO, Iterable, Iterator, List, NamedTuple, Optional, Set, Tuple
+from typing import BinaryIO, Iterator, List, NamedTuple, Optional, Tuple
 
+from kijorafe.headers import NO_RECORDING, headers_of
 from kijorafe.inputs import check_input, recording_of
 from kijorafe.messages import Fault, say
-from kijorafe.program import Class
 from kijorafe.shown import file_name
 from kijorafe.staging import Output
-
-HEADER = struct.Struct(">4s4xQ8xQ36x")
 
 
 class Metadata(NamedTuple):
@@ -46,24 +44,19 @@ def spelled(value: int, width: int) -> bytes:
 
 
 def metadata_of(file: BinaryIO) -> Iterator[Metadata]:
-    """The metadata record of each chunk; raises ValueError, IndexError or struct.error if it isn't a recording."""
-    start, end = 0, os.fstat(file.fileno()).st_size
-    while start < end:
-        file.seek(start)
-        magic, size, metadata = HEADER.unpack(file.read(HEADER.size))
-        if magic != b"FLR\0" or not HEADER.size <= metadata < size <= end - start:
-            raise ValueError
-        file.seek(start + metadata)
+    """The metadata record of each chunk; raises one of NO_RECORDING if it isn't a recording."""
+    for header in headers_of(file):
+        place = header.at + header.metadata
+        file.seek(place)
         length, at = integer_at(file.read(9), 0)
-        if length > size:
+        if length > header.size:
             raise ValueError
-        file.seek(start + metadata)
+        file.seek(place)
         record = file.read(length)
         for _ in ("type", "start", "duration"):
             _, at = integer_at(record, at)
         number, after = integer_at(record, at)
-        yield Metadata(start + metadata + at, number, after - at, record[:at] + record[after:])
-        start += size
+        yield Metadata(place + at, number, after - at, record[:at] + record[after:])
 
 
 def ids_of(recording: str) -> List[int]:
@@ -71,7 +64,7 @@ def ids_of(recording: str) -> List[int]:
     try:
         with open(recording, "rb") as file:
             return [each.number for each in metadata_of(file)]
-    except (ValueError, IndexError, struct.error) as fault:
+    except NO_RECORDING as fault:
         raise _refused(recording) from fault
     except OSError as fault:
         raise Fault(3, f"{file_name(recording)} can't be read: {fault.strerror}") from fault
@@ -87,24 +80,6 @@ def new_ids(file: BinaryIO) -> Iterator[Tuple[int, bytes]]:
         last = each
 
 
-def unseen_in(classes: Iterable[Class], ids: List[int]) -> List[str]:
-    """The event types whose events the JDK's reader misses: an earlier chunk with the same id hasn't described them."""
-    seen: Set[str] = set()
-    unseen: Set[str] = set()
-    first = chunk = 0
-    for each in classes:
-        if each.chunk != chunk:
-            chunk = each.chunk
-            if chunk == 1 or ids[chunk - 1] != ids[chunk - 2]:
-                first, seen = chunk, set()
-        if each.is_event:
-            if chunk == first:
-                seen.add(each.name)
-            elif each.name not in seen:
-                unseen.add(each.name)
-    return sorted(unseen)
-
-
 def copy(source: str, target: str) -> int:
     """Makes a copy that the JDK's reader reads completely."""
     check_input(source)
@@ -115,7 +90,7 @@ def copy(source: str, target: str) -> int:
                 changes = list(new_ids(file))
                 file.seek(0)
                 _write(file, changes, output)
-        except (ValueError, IndexError, struct.error) as fault:
+        except NO_RECORDING as fault:
             raise _refused(source) from fault
         except OSError as fault:
             raise Fault(3, f"{file_name(source)} can't be read: {fault.strerror}") from fault

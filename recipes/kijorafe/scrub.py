@@ -2,7 +2,7 @@
 
 from typing import Dict, List, NamedTuple, Sequence, Tuple
 
-from kijorafe import genuine, jdk, known
+from kijorafe import genuine, known
 from kijorafe.explain import fault_of
 from kijorafe.inputs import check_input, recording_of
 from kijorafe.messages import WARNING, Fault, say
@@ -10,6 +10,7 @@ from kijorafe.program import WRONG_WORDS, Failure, Program, find
 from kijorafe.shown import file_name, in_a_row
 from kijorafe.staging import Output, free_bytes
 from kijorafe.threads import addresses_in
+from kijorafe.window import Asked, window_of
 
 REFUSED = 2
 READ_FAULT = 3
@@ -18,12 +19,13 @@ UNCHECKED = 71
 
 
 class Order(NamedTuple):
-    """What to scrub, to what, by which recipe, and the types to keep though they may be the program's own."""
+    """What to scrub, to what, by which recipe; types to keep though they may be the program's own; the window of time."""
 
     recipe: str
     source: str
     target: str
     trusted: Tuple[str, ...] = ()
+    asked: Asked = Asked()
 
 
 def scrub(order: Order) -> int:
@@ -64,7 +66,11 @@ def _scrubbed(program: Program, order: Order, options: Sequence[str], recording:
     source, kept = order.source, known.kept_by(order.recipe)
     own = _own_types(program, source, recording)
     names = ",".join(name for name in kept if name not in own or name in order.trusted)
-    words = ["scrub", "--include-events", names, *options]
+    # With the descriptions of all types that can be left, the JDK's reader finds the events of each chunk.
+    words = ["scrub", "--include-events", names, "--describe", names, *options]
+    window = window_of(order.asked, recording)
+    if window is not None:
+        words += [*window.words(), "--always", ",".join(known.written_once())]
     try:
         program.run(*words, as_operand(recording), as_operand(output.path))
     except Failure as failure:
@@ -77,6 +83,7 @@ def _scrubbed(program: Program, order: Order, options: Sequence[str], recording:
     except (Failure, Fault, MemoryError) as failure:
         raise _unchecked(source, failure) from failure
     report += _report_own({name: reason for name, reason in own.items() if name in kept}, order)
+    report += [] if window is None else window.report()
     output.commit()
     for line in report:
         say(line)
@@ -103,7 +110,7 @@ def as_operand(name: str) -> str:
 
 
 def _report(program: Program, recording: str, output: Output) -> List[str]:
-    """How much is left, which types were removed that aren't the JDK's, and what the JDK's reader misses."""
+    """How much is left, and which types were removed that aren't the JDK's."""
     before, after = program.summary(as_operand(recording)), program.summary(output.path)
     total, left = sum(each.events for each in before), sum(each.events for each in after)
     lines = [f"{left} of {total} events are left, of {len(after)} of {len(before)} types"]
@@ -111,13 +118,6 @@ def _report(program: Program, recording: str, output: Output) -> List[str]:
     if strangers:
         names = in_a_row(f"{each.events} {each.name}" for each in strangers)
         lines.append(f"removed, since the list of the JDK's types doesn't have them: {names}")
-    unseen = jdk.unseen_in(program.classes(output.path), jdk.ids_of(output.path))
-    if unseen:
-        name = file_name(output.name)
-        lines.append(
-            f"{WARNING}the JDK's reader misses the events of {in_a_row(unseen)}, as an earlier chunk has none. It"
-            f" reads all events of the copy that `kijorafe jdk {name} COPY` makes"
-        )
     return lines
 
 

@@ -4,6 +4,8 @@ import gzip
 import os
 from typing import List, Tuple
 
+from kijorafe.known import kept_by
+from kijorafe.program import Class, Program
 from tests.support import EVENTS, SHUTDOWN, TYPES, Case
 
 KEPT = {"vendor": ["jdk.CPULoad", "jdk.ThreadStart"], "strict": ["jdk.CPULoad"], "tenant": ["jdk.CPULoad"]}
@@ -27,7 +29,8 @@ class Scrub(Case):
 
     def test_output_is_what_the_program_makes(self) -> None:
         self.recording("in.jfr")
-        self.run_program("scrub", "--include-events", "jdk.CPULoad,jdk.ThreadStart", "in.jfr", "by-hand.jfr")
+        types = ",".join(kept_by("vendor"))
+        self.run_program("scrub", "--include-events", types, "--describe", types, "in.jfr", "by-hand.jfr")
         self.assert_run(self.recipe("vendor", "in.jfr", "out.jfr"), 0)
         self.assertEqual(self.read("out.jfr"), self.read("by-hand.jfr"))
         mask = os.umask(0)
@@ -90,13 +93,20 @@ class Scrub(Case):
         self.assertIn("out of memory", run.err)
         self.assert_only("in.jfr")
 
-    def test_warnings(self) -> None:
+    def test_descriptions_stay_in_each_chunk(self) -> None:
         first, second = self.recording("a"), self.recording("b", TYPES + EVENTS + SHUTDOWN)
-        with open("missed.jfr", "wb") as file:
+        with open("in.jfr", "wb") as file:
             file.write(self.read(first) + self.read(second))
-        run = self.recipe("vendor", "missed.jfr", "missed.out")
-        self.assert_run(run, 0, "misses the events of jdk.Shutdown, as")
-        self.assertIn("kijorafe jdk missed.out COPY", run.err)
+        for recipe, types in (
+            ("vendor", ["jdk.CPULoad", "jdk.ThreadStart", "jdk.Shutdown"]),
+            ("strict", ["jdk.CPULoad"]),
+        ):
+            self.assert_run(self.recipe(recipe, "in.jfr", f"{recipe}.jfr"), 0)
+            described = [(each.chunk, each.name) for each in self.classes(f"{recipe}.jfr") if each.is_event]
+            self.assertEqual(described, [(chunk, name) for chunk in (1, 2) for name in types])
+
+    def classes(self, name: str) -> List[Class]:
+        return list(Program(self.program).classes(name))
 
     def test_own_types_with_names_of_the_jdk(self) -> None:
         own = "event 24 jdk.CPULoad\nfield text 6 -\nevent 26 jdk.SwapSpace\nfield text 6 -\n"
