@@ -75,7 +75,7 @@ RUNS: Dict[str, Callable[[Arguments], int]] = {
     "strict": _run_scrub,
     "tenant": _run_tenant,
     "many": _run_many,
-    "left": lambda given: left(given.file, given.words),
+    "left": lambda given: left(given.file, given.words, given.exact),
     "strangers": lambda given: strangers(given.file),
     "threads": lambda given: list_threads(given.file, given.addresses),
     "explain": lambda given: explain(" ".join(given.words)),

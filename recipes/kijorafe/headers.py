@@ -10,7 +10,7 @@ NO_RECORDING = ValueError, IndexError, struct.error
 
 
 class Header(NamedTuple):
-    """A chunk: its offset in the file, its size, the offset of its metadata, and its start and duration in nanoseconds."""
+    """A chunk: its offset in the file, its size, the offset of its metadata, its start and duration in nanoseconds."""
 
     at: int
     size: int

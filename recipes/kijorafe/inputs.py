@@ -3,8 +3,10 @@
 import gzip
 import os
 import stat
+import tempfile
 import zlib
-from typing import BinaryIO, Iterator, Protocol, cast
+from contextlib import contextmanager
+from typing import IO, BinaryIO, Iterator, Protocol, cast
 
 from kijorafe.messages import Fault
 from kijorafe.shown import file_name
@@ -69,6 +71,33 @@ def recording_of(name: str, output: Output, or_text: bool = False) -> str:
             return path
     except OSError as fault:
         raise _unread(name, fault) from fault
+
+
+@contextmanager
+def readable(name: str) -> Iterator[str]:
+    """A name by which the program can read the input several times.
+
+    A pipe, or what is compressed, is unpacked into a file without a name, which only this process and its children see.
+    """
+    try:
+        with open(name, "rb") as file:
+            is_file = stat.S_ISREG(os.fstat(file.fileno()).st_mode)
+            first = file.read(len(GZIP) if is_file else BLOCK)
+            if is_file and not first.startswith(GZIP):
+                yield name if is_utf8(name) else name_of(file)
+                return
+            with tempfile.TemporaryFile() as whole:
+                for block in _of_recording(_blocks(name, _Rejoined(first, file), first.startswith(GZIP))):
+                    whole.write(block)
+                whole.flush()
+                yield name_of(whole)
+    except OSError as fault:
+        raise _unread(name, fault) from fault
+
+
+def name_of(file: IO[bytes]) -> str:
+    """A name of an open file, for this process and its children."""
+    return f"/proc/{os.getpid()}/fd/{file.fileno()}"
 
 
 def _unread(name: str, fault: OSError) -> Fault:

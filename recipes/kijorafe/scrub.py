@@ -19,7 +19,7 @@ UNCHECKED = 71
 
 
 class Order(NamedTuple):
-    """What to scrub, to what, by which recipe; types to keep though they may be the program's own; the window of time."""
+    """What to scrub, to what, by which recipe; types to keep though they may be the program's own; the window."""
 
     recipe: str
     source: str
