@@ -125,6 +125,29 @@ static BY_CATEGORIES: [Scrub; 1] = [
     ),
 ];
 
+// These are chosen by their times. A tick is a nanosecond, and tick 0 nanosecond 1000. So the first event is from
+// 2000 to 2050, the second from 2100 to 2160, and the third at 2200. The last row keeps no other event than the
+// first, and describes the second's class.
+#[rattlefmt::skip]
+static BY_TIMES: [Scrub; 4] = [
+    (
+        &["scrub", "--from", "2050", "--to", "2100", "a.jfr", "b.jfr"], (&[JdkLike], &[]), 0, "",
+        (&[Chunk(&[THREAD_AND_SYMBOLS, PARK, PARK_CLASSES, ONE_TRACE], 1032, 140)], &[(1039, 0xBC), (1040, 0xF8)]),
+    ),
+    (
+        &["scrub", "--from", "2160", "a.jfr", "b.jfr"], (&[JdkLike], &[]), 0, "",
+        (&[Chunk(&[SYMBOLS, ENTER, LOAD, ENTER_AND_LOAD_CLASSES, RENAMED], 1135, 134)], &[(1142, 0xD5), (1143, 0xF7)]),
+    ),
+    (
+        &["scrub", "--from", "2161", "--to", "2200", "--always", "ThreadPark", "a.jfr", "b.jfr"], (&[JdkLike], &[]), 0, "",
+        (&[Chunk(&[THREAD_AND_SYMBOLS, PARK, PARK_CLASSES, ONE_TRACE], 1032, 140)], &[(1039, 0xBC), (1040, 0xF8)]),
+    ),
+    (
+        &["scrub", "--include-events", "ThreadPark", "--describe", "JavaMonitorEnter", "a.jfr", "b.jfr"], (&[JdkLike], &[]), 0, "",
+        (&[Chunk(&[THREAD_AND_SYMBOLS, PARK, PARK_AND_ENTER_CLASSES, ONE_TRACE], 1130, 140)], &[(1137, 0xDA), (1138, 0xF7)]),
+    ),
+];
+
 // Compares what each scrub leaves, and that a second one changes nothing.
 fn see_lasting(rt: &impl Abort, alloc: Global, rows: &[Scrub]) -> Result<(), Fail> {
     for (command, input, status, line, output) in rows {
@@ -139,6 +162,11 @@ fn events_are_chosen(rt: HostRuntime) -> Result<(), Fail> {
     see_lasting(&rt, rt.alloc(), &BY_EVENTS)?;
     see_lasting(&rt, rt.alloc(), &BY_THREADS)?;
     see_lasting(&rt, rt.alloc(), &BY_CATEGORIES)
+}
+
+#[test]
+fn times_choose_and_classes_are_described(rt: HostRuntime) -> Result<(), Fail> {
+    see_lasting(&rt, rt.alloc(), &BY_TIMES)
 }
 
 // A thread without a Java name goes by its system name. The empty text is a name.
