@@ -1,11 +1,10 @@
 -- A record that is built anew is a record at the offset of its bytes.
 use Rattle.std.specs.Prelude.{◌≡◌, ℕ, ◌+◌, ◌-◌, List, length}
-use Rattle.std.proofs.Common.{ap, arith, sym, subst}
+use Rattle.std.proofs.Common.{arith, sym, subst}
 use Rattle.std.proofs.lemmas.List.{take_all}
 use Rattle.jfr_base.proofs.HoldLaws.{Holds}
-use Rattle.jfr_frame.specs.declared.framed.Framed.{Framed}
 use Rattle.jfr_frame.specs.Records.{IsRecord, record_bytes}
-use Rattle.jfr_laws.proofs.Copied.{copied_to, record_copied}
+use Rattle.jfr_laws.proofs.Copied.{record_copied}
 use Rattle.jfr_laws.proofs.ReadBack.{moved_frame}
 use Rattle.jfr_laws.proofs.OutputRecords.{own_frame}
 

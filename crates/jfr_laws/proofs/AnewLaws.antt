@@ -1,5 +1,5 @@
 -- What is built anew of the metadata record of a chunk is a record, and describes the classes that stay.
-use Rattle.std.specs.Prelude.{◌≡◌, ℕ, ◌-◌, ◌^◌, ◌<◌, ◌≤◌, Bool, true, false, ◌&&◌, ◌||◌, ◌==◌, nat_lt, nat_le, List, [], ◌∷◌, length, Option, Some, None, Contains, if◌then◌else◌}
+use Rattle.std.specs.Prelude.{◌≡◌, ℕ, ◌^◌, ◌<◌, ◌≤◌, Bool, true, false, ◌&&◌, ◌||◌, ◌==◌, nat_lt, nat_le, List, [], ◌∷◌, length, Option, Some, None, Contains, if◌then◌else◌}
 use lib.Utf8.{scalars}
 use Rattle.std.specs.List.{AllByRecursion, list_all}
 use Rattle.std.specs.Str.{encode_utf8_all}
@@ -8,19 +8,17 @@ use Rattle.std.specs.Option.{option_map_or}
 use Rattle.std.proofs.Common.{ap, arith, refl, sym, ◌∙◌, subst}
 use Rattle.std.proofs.lemmas.Bool.Decides.{nat_tests}
 use Rattle.jfr_layout.specs.Classes.{Class, Classes, Sound, Agree, find_class, has_id, is_event_class, extends_event}
-use Rattle.jfr_frame.specs.declared.framed.Framed.{Framed}
 use Rattle.jfr_meta.specs.Trees.{Tree, element_offset}
 use Rattle.jfr_meta.specs.Described.{class_elements, class_flaws, described}
 use Rattle.jfr_meta.specs.Written.{IsText}
 use Rattle.jfr_meta.proofs.Depths.{shallow}
-use Rattle.jfr_chunk.specs.Parts.{Parts, EventAt, AreParts, metadata_at}
+use Rattle.jfr_chunk.specs.Parts.{Parts, EventAt, AreParts}
 use Rattle.jfr_layout.specs.Staying.{staying}
 use Rattle.jfr_meta.specs.Stays.{ids_below, HasHead, IsStay, stay_of}
 use Rattle.jfr_meta.specs.Slimmed.{slim_body, bytes_of_body, table_len, IsSlim, slim_in}
 use Rattle.jfr_chunk.specs.Metas.{Names, used_by, is_described, is_used, stays_in, slim_of, rebuilt}
 use Rattle.jfr_laws.proofs.Five.{StandsAnew, read_back}
 use Rattle.jfr_meta.proofs.Lists.{nothing_each}
-use Rattle.jfr_laws.proofs.Premises.{GoodAnew}
 use Rattle.jfr_laws.proofs.Whole.{or_right}
 use Rattle.jfr_meta.proofs.SlimLaws.{Describes, told_well, is_slim}
 use Rattle.jfr_meta.proofs.StayLaws.{is_stay}

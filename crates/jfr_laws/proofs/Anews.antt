@@ -1,6 +1,6 @@
 -- The classes of what is written suit what is kept, and its metadata record describes them.
-use Rattle.std.specs.Prelude.{◌≡◌, ℕ, zero, suc, ◌+◌, ◌≤◌, Bool, true, false, not, ◌&&◌, ◌||◌, ◌==◌, List, [], ◌∷◌, length, find, Option, Some, None, Ok, Contains, if◌then◌else◌, ◌⊎◌}
-use Rattle.std.specs.List.{AllByRecursion, list_any}
+use Rattle.std.specs.Prelude.{◌≡◌, ℕ, ◌+◌, ◌≤◌, Bool, true, false, ◌&&◌, ◌||◌, ◌==◌, List, [], ◌∷◌, length, find, Option, Some, None, Ok, Contains, if◌then◌else◌, ◌⊎◌}
+use Rattle.std.specs.List.{AllByRecursion}
 use Rattle.std.specs.Option.{option_map_or}
 use Rattle.std.proofs.Common.{ap, arith, refl, sym, ◌∙◌, subst, inl, inr}
 use Rattle.std.proofs.lemmas.Bool.{eq-eqb}
@@ -8,25 +8,22 @@ use Rattle.std.proofs.lemmas.Bool.Decides.{nat_tests}
 use Rattle.std.proofs.lemmas.List.Elements.{All-contains}
 use Rattle.jfr_base.specs.Formats.{Reads}
 use Rattle.jfr_base.proofs.HoldLaws.{Holds}
-use Rattle.jfr_layout.specs.Classes.{Class, Classes, Sound, Agree, find_class, has_id, is_event_class}
+use Rattle.jfr_layout.specs.Classes.{Classes, find_class, is_event_class}
 use Rattle.jfr_frame.specs.declared.framed.Framed.{Framed}
-use Rattle.jfr_frame.specs.Records.{IsRecord, record_end, record_bytes}
+use Rattle.jfr_frame.specs.Records.{IsRecord}
 use Rattle.jfr_frame.proofs.RecordLaws.{record_one}
-use Rattle.jfr_meta.specs.Trees.{Tree}
 use Rattle.jfr_meta.specs.Body.{Body, meta_format}
 use Rattle.jfr_meta.specs.Described.{described, IsMetadata}
-use Rattle.jfr_meta.specs.Written.{IsText}
 use Rattle.jfr_meta.proofs.Bare.{described_bare}
-use Rattle.jfr_chunk.specs.Parts.{Parts, EventAt, AreParts, events_of, event_records, metadata_at}
-use Rattle.jfr_chunk.specs.Laws.{AreEvents, SameRecords}
-use Rattle.jfr_chunk.proofs.AllLaws.{all_in}
+use Rattle.jfr_chunk.specs.Parts.{Parts, EventAt, AreParts, events_of, metadata_at}
+use Rattle.jfr_chunk.specs.Laws.{AreEvents}
 use Rattle.jfr_worklist.specs.Members.{In}
 use Rattle.jfr_worklist.proofs.Members.{contains_in, in_contains}
 use Rattle.jfr_chunk.proofs.HasNodesLaws.{has_nodes}
 use Rattle.jfr_chunk.proofs.TestLaws.{is_eq}
 use Rattle.jfr_layout.specs.Staying.{staying}
 use Rattle.jfr_meta.specs.Slimmed.{slim_body}
-use Rattle.jfr_chunk.specs.Metas.{Names, used_by, is_described, stays_in, slim_of, metadata_size, new_metadata, remaining_classes}
+use Rattle.jfr_chunk.specs.Metas.{Names, is_described, stays_in, slim_of, metadata_size, new_metadata, remaining_classes}
 use Rattle.jfr_chunk.specs.Scrub.{written_anew}
 use Rattle.jfr_laws.proofs.Agrees.{agree_on_event}
 use Rattle.jfr_laws.proofs.Anew.{own_bytes}
@@ -40,8 +37,7 @@ use Rattle.jfr_laws.proofs.OutputRecords.{own_frame}
 use Rattle.jfr_laws.proofs.Premises.{GoodAnew, metadata_stands, recorded}
 use Rattle.jfr_laws.proofs.ReadBack.{moved_frame}
 use Rattle.jfr_laws.proofs.Same.{event_records_of}
-use Rattle.jfr_layout.proofs.StayingLaws.{found_staying, found_as_before, events_staying, stay_well}
-use Rattle.jfr_meta.proofs.Lists.{nothing_each}
+use Rattle.jfr_layout.proofs.StayingLaws.{found_as_before, events_staying}
 use Rattle.jfr_laws.proofs.Suits.{Suits}
 use Rattle.jfr_laws.proofs.Whole.{metadata_new, new_is, MetadataReads}
 

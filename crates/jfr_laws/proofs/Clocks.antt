@@ -2,15 +2,14 @@
 use Rattle.std.specs.Prelude.{◌≡◌, ℕ, ◌+◌, ◌^◌, ◌%◌, List, ◌++◌, length, take, None}
 use Rattle.std.specs.List.{flat_map}
 use Rattle.std.specs.Int.{cast_signed, w64}
-use Rattle.std.proofs.Common.{ap, arith, refl, ◌∙◌, sym}
+use Rattle.std.proofs.Common.{arith}
 use Rattle.jfr_header.specs.declared.header.Header.{Header}
 use Rattle.jfr_header.specs.Headers.{header_of, header_bytes}
-use Rattle.jfr_header.proofs.Layouts.{header_first}
 use Rattle.jfr_chunk.specs.Parts.{Parts, EventAt, metadata_at}
 use Rattle.jfr_chunk.specs.Reach.{remain}
 use Rattle.jfr_chunk.specs.Metas.{Names, new_metadata}
 use Rattle.jfr_chunk.specs.Scrub.{scrub_of, scrub_with, header_with, written, written_bytes, last_at, moved, output_records}
-use Rattle.jfr_chunk.specs.Windows.{Clock, clock_of, signed}
+use Rattle.jfr_chunk.specs.Windows.{Clock, clock_of}
 
 -- The lowest 64 bits of each number are read back.
 nanos_back : (h : Header) → (header_of (header_bytes h)).start_nanos % 2 ^ 64 ≡ h.start_nanos % 2 ^ 64

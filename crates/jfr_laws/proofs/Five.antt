@@ -1,5 +1,5 @@
 -- A record that is written anew is read back as a record by itself.
-use Rattle.std.specs.Prelude.{◌≡◌, ℕ, ◌-◌, ◌<◌, ◌≤◌, List, length}
+use Rattle.std.specs.Prelude.{◌≡◌, ℕ, ◌<◌, ◌≤◌, List, length}
 use Rattle.std.specs.List.{AllByRecursion}
 use Rattle.jfr_base.specs.Formats.{Reads}
 use Rattle.jfr_meta.specs.Trees.{Tree}

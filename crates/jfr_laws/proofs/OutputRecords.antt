@@ -13,7 +13,7 @@ use Rattle.jfr_pool.specs.declared.link.Link.{Link}
 use Rattle.jfr_pool.specs.declared.entry.EntryAt.{EntryAt}
 use Rattle.jfr_pool.specs.Entries.{PoolAt, entries_from}
 use Rattle.jfr_chunk.specs.Written.{group_bytes, checkpoint_tail, checkpoint_bytes, distance}
-use Rattle.jfr_chunk.specs.Scrub.{OutputRecord, Whole, Chained, Rebuilt, Written, groups_of, written_bytes, written, record_of}
+use Rattle.jfr_chunk.specs.Scrub.{OutputRecord, Whole, Chained, Rebuilt, Written, groups_of, written_bytes, written}
 use Rattle.jfr_laws.specs.InChunk.{IsGroupIn, IsLinkIn}
 use Rattle.jfr_laws.proofs.ReadBack.{CheckpointStands, checkpoint_stands, placed_group, moved_frame, moved_link, pools_place, tail_small, checkpoint_small}
 

@@ -17,7 +17,6 @@ use Rattle.jfr_chunk.specs.Laws.{AreEvents, SameRecords, SameOnPaths, AreReached
 use Rattle.jfr_worklist.specs.Members.{In}
 use Rattle.jfr_worklist.proofs.Members.{contains_in, in_contains}
 use Rattle.jfr_chunk.proofs.AllLaws.{filter_all}
-use Rattle.jfr_chunk.proofs.PathLaws.{HasNodes}
 use Rattle.jfr_chunk.proofs.HasNodesLaws.{IsEvent, has_nodes, event_is, tiles_each}
 use Rattle.jfr_chunk.proofs.MeaningLaws.{same_meaning}
 use Rattle.jfr_chunk.proofs.ReachedLaws.{reached_marked}

@@ -9,9 +9,8 @@ use Rattle.jfr_header.specs.Fronts as fronts
 use Rattle.jfr_pool.specs.declared.entry.EntryAt.{EntryAt}
 use Rattle.jfr_chunk.specs.Parts.{Parts, EventAt, AreParts, events_of}
 use Rattle.jfr_chunk.specs.Reach.{Reached, reached_marks, marked, kept_by, remain}
-use Rattle.jfr_chunk.specs.Metas.{Names, metadata_size, new_metadata}
+use Rattle.jfr_chunk.specs.Metas.{Names, new_metadata}
 use Rattle.jfr_chunk.specs.Scrub.{assembled, scrub_of, scrub_with, output_records, written_anew}
-use Rattle.jfr_meta.specs.Written.{IsText}
 use Rattle.jfr_meta.specs.Body.{Body}
 use Rattle.jfr_laws.proofs.Premises.{GoodAnew, metadata_stands}
 use Rattle.jfr_laws.proofs.Anews.{Anew, anew, good_anew, shown_body, size_is}

@@ -1,5 +1,5 @@
 -- A filter keeps all events of what it leaves.
-use Rattle.std.specs.Prelude.{◌≡◌, ◌&&◌, ◌||◌, ℕ, ℤ, pos, not, Bool, Option, Some, None, option_and_then, if◌then◌else◌, codes, true, false, List, [], ◌∷◌, length, map, replicate}
+use Rattle.std.specs.Prelude.{◌≡◌, ◌&&◌, ◌||◌, ℕ, ℤ, pos, not, Option, Some, None, option_and_then, if◌then◌else◌, codes, true, false, List, [], ◌∷◌, length, map, replicate}
 use Rattle.std.specs.List.{AllByRecursion}
 use Rattle.std.specs.Option.{option_map_or}
 use Rattle.std.proofs.Common.{ap, refl, sym, ◌∙◌, subst, inl, inr}
@@ -8,7 +8,6 @@ use Rattle.jfr_filter.specs.Filters.{Given, describes, has_window, is_always, ke
 use Rattle.jfr_layout.specs.Classes.{Class, Agree, find_class, kind_of}
 use Rattle.jfr_layout.specs.declared.shape.Shape.{Shape}
 use Rattle.jfr_value.specs.Values.{shape_of}
-use Rattle.jfr_meta.specs.Written.{IsText}
 use Rattle.jfr_chunk.specs.Laws.{SameRecord, SameRecords}
 use Rattle.jfr_laws.proofs.Anews.{left_found}
 use Rattle.jfr_chunk.specs.Parts.{Parts, EventAt, events_of, AreParts}

@@ -1,32 +1,28 @@
 -- The metadata record of what is written becomes, with all its events kept, what it is.
-use Rattle.std.specs.Prelude.{◌≡◌, ℕ, ◌^◌, ◌<◌, ◌≤◌, Bool, true, false, ◌&&◌, ◌||◌, ◌==◌, nat_lt, nat_le, List, [], ◌∷◌, length, Option, Some, None, Contains, if◌then◌else◌}
+use Rattle.std.specs.Prelude.{◌≡◌, ℕ, ◌^◌, ◌<◌, Bool, true, false, ◌&&◌, ◌||◌, ◌==◌, nat_lt, nat_le, List, [], ◌∷◌, length, Option, Some, None, if◌then◌else◌}
 use lib.Utf8.{scalars}
-use Rattle.std.specs.List.{AllByRecursion, list_any, list_all}
+use Rattle.std.specs.List.{list_all}
 use Rattle.std.specs.Option.{option_map_or}
 use Rattle.std.proofs.Common.{ap, arith, refl, sym, ◌∙◌, subst}
 use Rattle.std.proofs.lemmas.Bool.{eqb-true}
 use Rattle.std.proofs.lemmas.Bool.Decides.{nat_tests}
-use Rattle.std.proofs.lemmas.List.Elements.{All-contains_itself}
 use Rattle.jfr_layout.specs.Classes.{Classes}
-use Rattle.jfr_frame.specs.declared.framed.Framed.{Framed}
 use Rattle.jfr_meta.specs.Trees.{Tree}
 use Rattle.jfr_meta.specs.Body.{Body}
 use Rattle.jfr_meta.specs.Described.{class_elements}
-use Rattle.jfr_meta.specs.Written.{bare}
 use Rattle.jfr_chunk.specs.Parts.{Parts, EventAt, AreParts, events_of}
 use Rattle.jfr_chunk.specs.Laws.{AreEvents, SameRecords}
 use Rattle.jfr_layout.specs.Staying.{staying}
 use Rattle.jfr_meta.specs.Stays.{IsStay, stay_of}
 use Rattle.jfr_meta.specs.Held.{stays_of}
 use Rattle.jfr_meta.specs.Slimmed.{slim_body, bytes_of_body, table_len, slim_in}
-use Rattle.jfr_chunk.specs.Metas.{Names, used_by, is_described, is_used, stays_in, slim_of, rebuilt, metadata_size, new_metadata, remaining_classes}
+use Rattle.jfr_chunk.specs.Metas.{Names, used_by, is_described, is_used, stays_in, slim_of, rebuilt, metadata_size, new_metadata}
 use Rattle.jfr_laws.proofs.AnewLaws as laws
 use Rattle.jfr_laws.proofs.AnewLaws.{IsAnew, is_anew}
 use Rattle.jfr_laws.proofs.Anews.{Anew, shown_body}
 use Rattle.jfr_laws.proofs.Metadata.{SameBody}
 use Rattle.jfr_laws.proofs.Reslim.{SameBytes, same_slim, stay_root}
 use Rattle.jfr_laws.proofs.SlimAgain as slim_again
-use Rattle.jfr_meta.proofs.SlimLaws.{Describes}
 
 -- Events of the same records use the same classes.
 used_same : (p q : Parts) (es fs : List EventAt) → SameRecords p q es fs → (id : ℕ) → used_by es id ≡ used_by fs id

@@ -1,19 +1,18 @@
 -- A slim body stays as it is: all its classes stay, and its table has each text once, in order of first use.
-use Rattle.std.specs.Prelude.{◌≡◌, ℕ, zero, suc, ◌+◌, ◌<◌, Bool, true, false, not, ◌||◌, ◌&&◌, ◌==◌, List, [], ◌∷◌, ◌++◌, length, map, filter, find, Option, Some, None, Ok, option_map, slice_get, if◌then◌else◌, codes, Contains, ◌⊎◌}
-use Rattle.std.specs.List.{AllZip, AllByRecursion, filter_map, flat_map, list_any}
+use Rattle.std.specs.Prelude.{◌≡◌, ℕ, Bool, true, false, not, ◌||◌, ◌&&◌, ◌==◌, List, [], ◌∷◌, ◌++◌, map, filter, find, Option, Some, None, Ok, option_map, if◌then◌else◌, codes, Contains}
+use Rattle.std.specs.List.{AllZip, flat_map}
 use Rattle.std.specs.Option.{option_map_or}
-use Rattle.std.specs.Str.{bytes_eq}
 use Rattle.std.proofs.Common.{ap, refl, sym, ◌∙◌, subst, inl, inr}
 use Rattle.std.proofs.lemmas.Bool.{eqb-true}
-use Rattle.jfr_layout.specs.Classes.{Class, Classes, Sound, has_id, class_index, is_event_class}
-use Rattle.jfr_meta.specs.Trees.{Tree, Node, Trees, Nil, Cons, list_of, trees_of, element_offset, name_of, pairs_of, children_of}
+use Rattle.jfr_layout.specs.Classes.{Classes, has_id, class_index, is_event_class}
+use Rattle.jfr_meta.specs.Trees.{Tree, Node, Trees, Nil, Cons, list_of, trees_of, element_offset, children_of}
 use Rattle.jfr_meta.specs.Attributes.{text_at, named}
 use Rattle.jfr_meta.specs.Body.{Body}
-use Rattle.jfr_meta.specs.Described.{class_elements, class_head, class_flaws, classes_of, described, id_attribute}
+use Rattle.jfr_meta.specs.Described.{class_elements, class_head, class_flaws, described, id_attribute}
 use Rattle.jfr_layout.specs.Staying.{staying}
 use Rattle.jfr_meta.specs.Stays.{below, all_below, ids_below, HasHead, HasNamed, IsStay, stay_marks, stay_of}
 use Rattle.jfr_worklist.specs.Marks.{is_marked}
-use Rattle.jfr_meta.specs.Slimmed.{with_children, is_named, head_is_needed, element_is_needed, first_changed, slim_holder, slim_root, uses, all_uses, firsts, table_of, index_in, renumbered, all_renumbered, retabled, slim_body, IsSlim}
+use Rattle.jfr_meta.specs.Slimmed.{with_children, is_named, head_is_needed, element_is_needed, first_changed, slim_holder, slim_root, uses, all_uses, firsts, table_of, index_in, renumbered, all_renumbered, retabled, slim_body}
 use Rattle.jfr_worklist.specs.Members.{In}
 use Rattle.jfr_worklist.proofs.Members.{get_in, contains_in, in_contains}
 use Rattle.jfr_meta.proofs.Lists.{in_filter, filter_in, nothing_each}
@@ -22,7 +21,7 @@ use Rattle.jfr_meta.proofs.Lists as lists
 use Rattle.jfr_worklist.proofs.Members as members
 use Rattle.jfr_meta.proofs.SlimClasses.{slim_elements}
 use Rattle.jfr_meta.proofs.SlimLaws.{Describes, told_well, is_slim}
-use Rattle.jfr_meta.proofs.StayLaws.{any_at, at_any, index_at, in_get, class_at, is_stay}
+use Rattle.jfr_meta.proofs.StayLaws.{at_any, index_at, in_get, class_at, is_stay}
 use Rattle.jfr_layout.proofs.StayingLaws.{events_staying}
 use Rattle.jfr_meta.proofs.Tables.{retabled_alike, used_there, text_there}
 

@@ -10,7 +10,7 @@ use Rattle.jfr_layout.specs.Classes.{Classes, Sound, Agree, is_event_class}
 use Rattle.jfr_layout.specs.declared.shape.Shape.{Shape}
 use Rattle.jfr_value.specs.declared.node.Step.{Step}
 use Rattle.jfr_value.specs.declared.node.Step.TheVariants as steps
-use Rattle.jfr_value.specs.Values.{Value, Group, shape_of}
+use Rattle.jfr_value.specs.Values.{Value, shape_of}
 use Rattle.jfr_value.specs.Nodes.{NodeAt, IsNode, child, target, Both}
 use Rattle.jfr_value.proofs.AgreeLaws.{value_agree}
 use Rattle.jfr_value.proofs.NodeLaws.{part, child_is, target_is}

@@ -1,19 +1,15 @@
 -- Nodes with equal shape and bytes refer to the same, in any chunk.
 use Rattle.std.specs.Prelude.{◌≡◌, ℕ, List, [], ◌∷◌, Option, Some, None, option_and_then}
 use Rattle.std.specs.Option.{option_map}
-use Rattle.std.proofs.Common.{ap, refl, sym, ◌∙◌, subst, inl, inr}
-use Rattle.jfr_base.specs.Formats.{Exactly}
-use Rattle.jfr_base.proofs.OnceLaws.{exact_once}
+use Rattle.std.proofs.Common.{refl, sym, ◌∙◌, subst, inl, inr}
 use Rattle.jfr_layout.specs.Classes.{Classes, Sound, Agree}
 use Rattle.jfr_value.proofs.ByteLaws.{node_agree}
 use Rattle.jfr_laws.proofs.Suits.{Agreed, agreed_class, path_agreed}
 use Rattle.jfr_value.specs.declared.node.Step.{Step}
 use Rattle.jfr_value.specs.declared.node.Step.TheVariants as steps
-use Rattle.jfr_value.specs.Values.{Value, shape_of, bytes_of, own_target}
-use Rattle.jfr_value.specs.Reading.{value_format}
+use Rattle.jfr_value.specs.Values.{Value}
 use Rattle.jfr_value.specs.Nodes.{NodeAt, IsNode, child, target, Both}
 use Rattle.jfr_value.specs.Laws.{SameNode}
-use Rattle.jfr_value.proofs.DepthLaws.{fits_good}
 use Rattle.jfr_value.proofs.NodeLaws.{part, child_is, target_is}
 use Rattle.jfr_pool.specs.declared.entry.EntryAt.{EntryAt}
 use Rattle.jfr_pool.specs.Entries.{in_force, entry_node}

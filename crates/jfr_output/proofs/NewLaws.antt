@@ -1,9 +1,8 @@
 -- The new metadata record, by the size of the record that it replaces.
-use Rattle.std.specs.Prelude.{◌≡◌, ℕ, ◌^◌, Bool, true, false, ◌&&◌, ◌==◌, nat_lt, nat_le, List, length, slice_get, Option, Some, None, option_map, Result, Ok, Err, IfOk, IfSome, if◌then◌else◌}
+use Rattle.std.specs.Prelude.{◌≡◌, ℕ, Bool, true, false, List, slice_get, Option, Some, None, option_map, Result, Ok, Err, IfOk, IfSome, if◌then◌else◌}
 use lib.Utf8.{scalars}
 use Rattle.std.specs.List.{AllByRecursion, list_all}
-use Rattle.std.proofs.Common.{ap, arith, refl, sym, ◌∙◌}
-use Rattle.std.proofs.lemmas.Bool.{eqb-true}
+use Rattle.std.proofs.Common.{ap, refl, sym, ◌∙◌}
 use Rattle.jfr_frame.specs.declared.framed.Framed.{Framed}
 use Rattle.jfr_frame.specs.Records.{IsRecord}
 use Rattle.jfr_frame.proofs.RecordLaws.{record_one}
@@ -11,7 +10,7 @@ use Rattle.jfr_chunk.specs.Parts.{Parts, EventAt, AreParts, StartsAt, metadata_a
 use Rattle.jfr_layout.specs.Classes.{Classes}
 use Rattle.jfr_meta.specs.Body.{Body}
 use Rattle.jfr_meta.specs.Held.{stays_of}
-use Rattle.jfr_meta.specs.Slimmed.{bytes_of_body, slim_in, table_len}
+use Rattle.jfr_meta.specs.Slimmed.{slim_in}
 use Rattle.jfr_meta.specs.Stays.{is_in}
 use Rattle.jfr_meta.specs.declared.ids.Ids.{Ids}
 use Rattle.jfr_meta.specs.Written.{IsText}

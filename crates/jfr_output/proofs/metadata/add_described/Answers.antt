@@ -1,4 +1,4 @@
-use Rattle.std.proofs.Common.{◌≡◌, ◌||◌, ◌≤◌, ap, arith, length, sym, ◌∙◌}
+use Rattle.std.proofs.Common.{◌||◌, ◌≤◌, ap, arith, length, sym, ◌∙◌}
 use Rattle.jfr_meta.specs.Stays.{is_in}
 use Rattle.jfr_filter.specs.Filters.{describes}
 use Rattle.jfr_output.proofs.UsedLaws.{described_end, described_next, or_false}

@@ -5,7 +5,7 @@ use Rattle.jfr_meta.specs.Slimmed.{slim_body, slim_in}
 use Rattle.jfr_meta.specs.Stays.{is_in}
 use Rattle.jfr_meta.specs.Written.{IsText}
 use Rattle.jfr_filter.specs.Filters.{describes}
-use Rattle.jfr_chunk.specs.Metas.{metadata_size, rebuilt, stays_in}
+use Rattle.jfr_chunk.specs.Metas.{metadata_size, stays_in}
 use Rattle.jfr_chunk.specs.Reach.{kept_by}
 use Rattle.jfr_output.proofs.NewLaws.{found_record, frame_size, slim_found}
 use Rattle.jfr_output.proofs.metadata.slim_metadata.Goals as goal

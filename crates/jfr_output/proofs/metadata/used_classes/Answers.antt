@@ -1,4 +1,4 @@
-use Rattle.std.proofs.Common.{◌≡◌, ◌<◌, ◌∙◌, ◌||◌, ap, arith, false, sym, length}
+use Rattle.std.proofs.Common.{◌<◌, ◌∙◌, ◌||◌, ap, arith, false, sym, length}
 use Rattle.std.specs.Prelude.{unwrap_or}
 use Rattle.jfr_chunk.specs.Parts.{events_of}
 use Rattle.jfr_filter.specs.Filters.{describes}

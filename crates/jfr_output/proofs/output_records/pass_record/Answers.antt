@@ -3,10 +3,10 @@ use Rattle.std.specs.Prelude.{IfSome, if◌then◌else◌, is_some, option_map}
 use Rattle.std.proofs.lemmas.List.{reverse-reverse}
 use Rattle.jfr_header.specs.declared.header.Header.{Header}
 use Rattle.jfr_chunk.specs.Reach.{kept_by}
-use Rattle.jfr_chunk.specs.Scrub.{output_record_by, output_record_of, is_kept_or_metadata}
+use Rattle.jfr_chunk.specs.Scrub.{output_record_by, output_record_of}
 use Rattle.jfr_chunk.specs.Parts.{events_of}
 use Rattle.jfr_output.specs.declared.output_records.Cursor.{Cursor}
-use Rattle.jfr_output.specs.OutputRecords.{IsChosen, IsCursor, is_kept_at, link_after, link_there, linked_at, output_record_as}
+use Rattle.jfr_output.specs.OutputRecords.{IsChosen, IsCursor, is_kept_at, link_after, linked_at, output_record_as}
 use Rattle.jfr_output.proofs.CursorLaws.{chosen_event, chosen_metadata, place_passed, some_if}
 use Rattle.jfr_output.proofs.output_records.pass_record.Goals as goal
 

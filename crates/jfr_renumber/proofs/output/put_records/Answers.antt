@@ -1,6 +1,5 @@
-use Rattle.std.proofs.Common.{ap, ◌∙◌, sym, subst, length, ℕ, List}
+use Rattle.std.proofs.Common.{sym, subst, length}
 use Rattle.std.specs.Prelude.{option_map}
-use Rattle.jfr_chunk.specs.Parts.{metadata_at}
 use Rattle.jfr_chunk.specs.Reach.{kept_by}
 use Rattle.jfr_chunk.specs.Scrub.{output_records}
 use Rattle.jfr_output.specs.OutputRecords.{output_record_as}
@@ -8,7 +7,7 @@ use Rattle.jfr_output.specs.Remaining.{NotFalling}
 use Rattle.jfr_output.proofs.CursorLaws.{cursor_first}
 use Rattle.jfr_renumber.specs.Numbers.{number_or_zero}
 use Rattle.jfr_renumber.specs.Renumber.{new_bytes}
-use Rattle.jfr_renumber.specs.Writing.{CanWrite, progress_of, with_record}
+use Rattle.jfr_renumber.specs.Writing.{CanWrite, progress_of}
 use Rattle.jfr_renumber.proofs.WritingLaws.{Going, firsts_can, firsts_order, going_next, going_none, next_before, written_is}
 use Rattle.jfr_renumber.proofs.output.put_records.Goals as goal
 

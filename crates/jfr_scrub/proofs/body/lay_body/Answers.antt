@@ -9,8 +9,7 @@ use Rattle.jfr_chunk.specs.Scrub.{Whole, output_records, bytes_of, written, writ
 use Rattle.jfr_output.specs.Remaining.{NotFalling}
 use Rattle.jfr_output.specs.OutputRecords.{output_record_as}
 use Rattle.jfr_output.proofs.CursorLaws.{cursor_first}
-use Rattle.jfr_scrub.specs.Bodies.{OutputRecordFits, OutputRecordIsCopied, body_with, output_record_parts, progress_of}
-use Rattle.jfr_scrub.specs.Pieces.{Grows}
+use Rattle.jfr_scrub.specs.Bodies.{OutputRecordFits, output_record_parts}
 use Rattle.jfr_scrub.specs.Sizes.{HasRange}
 use Rattle.jfr_scrub.proofs.BodyLaws.{WrittenFits, going_none, going_next, going_all, going_room}
 use Rattle.jfr_scrub.proofs.CopiedLaws.{parts_all, parts_next, so_far_none, so_far_done, so_far_run, so_far_output_record}
