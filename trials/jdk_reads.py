@@ -1,13 +1,15 @@
 #!/usr/bin/env python3
-"""Tries the JDK's own reader on scrubs of recordings with several chunks.
+"""Tries the JDK's own reader on what vendor and strict make of recordings, most of all those of several chunks.
 
-For each JDK and file, the events that `jfr print --json` shows of a scrub must be those that it shows of the file, of
-the types that the scrub keeps: the same ones in the same order, each value and time. The scrub keeps the types that
-recipes/types lists for `vendor`, and describes all types of the JDK. A row says how many events there are, and how
-many the JDK shows without `--describe`.
+For each JDK, file and recipe, `jfr print --json` must show of a scrub the events that it shows of the file, of the types
+that the recipe keeps: in the same order, with the same values, times and frames. A difference only in the members
+`osThreadId` is counted by itself: some recordings of JDK 21 and later have two constants with one class and key, of
+which the JDK takes the first, and this program the later one.
 
-With --view, `jfr view all-views` of that JDK must name no event type as missing in the scrub that it doesn't name
-for the file too, except those that the scrub removes.
+With --view, which JDK 21 and later have, `jfr view` must show the same of the file and of the scrub, for each view all
+of whose types the recipe keeps, and must not say that such a view misses a type.
+
+Prints a row for each, with how many events the JDK shows of a scrub without `--describe`, and what was wrong.
 """
 import argparse
 import json
@@ -18,66 +20,150 @@ import sys
 import tempfile
 
 TOP = os.path.dirname(os.path.dirname(os.path.realpath(__file__)))
+sys.path.insert(0, os.path.join(TOP, "recipes"))
 
+from kijorafe import known  # noqa: E402  (in the folder just named)
 
-def listed_types():
-    """All types of recipes/types, and those that `vendor` keeps."""
-    every, kept = [], []
-    with open(os.path.join(TOP, "recipes", "types"), encoding="utf-8") as lines:
-        for line in lines:
-            words = line.split()
-            if words and not line.startswith("#"):
-                every.append(words[0])
-                if "vendor" in words[2:]:
-                    kept.append(words[0])
-    return every, kept
+MISSING = re.compile(r"^Missing event found for (\S+)$", re.MULTILINE)
+QUERY = re.compile(r"\bSELECT .* FROM (.*?)(?: WHERE .*| GROUP BY .*| ORDER BY .*| LIMIT .*)?$")
+NO_VIEW = re.compile(r"^(?:No events found for|Missing event found for|Can't find|Use 'SHOW) .*$", re.MULTILINE)
 
 
 def shown_events(jdk, recording, types=None):
-    """The events that a JDK shows, each as its type and its values."""
-    words = [os.path.join(jdk, "jfr"), "print", "--json"]
+    """The events that a JDK shows."""
+    words = [os.path.join(jdk, "jfr"), "print", "--json", "--stack-depth", "64"]
     if types:
         words += ["--events", ",".join(types)]
-    out = subprocess.run([*words, recording], capture_output=True, check=True).stdout
-    return [json.dumps(event, sort_keys=True) for event in json.loads(out)["recording"]["events"]]
+    out = subprocess.run([*words, recording], stdout=subprocess.PIPE, check=True).stdout
+    return json.loads(out)["recording"]["events"]
 
 
-def missing_types(jdk, recording):
-    """The event types that `jfr view all-views` names as missing."""
-    words = [os.path.join(jdk, "jfr"), "view", "--verbose", "all-views", recording]
-    run = subprocess.run(words, capture_output=True, text=True, errors="replace", check=False)
-    found = re.findall(r"(?:Missing event found for|No events found for|metadata for)[^\n]*?'?(jdk\.\w+)'?", run.stdout + run.stderr)
-    return set(found)
+def without_system_ids(value):
+    """The value without the members `osThreadId`."""
+    if isinstance(value, dict):
+        return {name: without_system_ids(member) for name, member in value.items() if name != "osThreadId"}
+    if isinstance(value, list):
+        return [without_system_ids(item) for item in value]
+    return value
+
+
+def compare_events(wanted, found):
+    """What differs, in words."""
+    if len(wanted) != len(found):
+        return [f"{len(found)} events in place of {len(wanted)}"]
+    pairs = [(one, other) for one, other in zip(wanted, found) if one != other]
+    other = [pair for pair in pairs if without_system_ids(pair[0]) != without_system_ids(pair[1])]
+    return [f"{len(other)} events differ, first {other[0][0]['type']}"] if other else []
+
+
+def shown_views(jdk, recording, *options):
+    """The text of all views. With a type missing, --verbose makes JDK 21 and 25 fail at the end."""
+    words = [os.path.join(jdk, "jfr"), "view", *options, "all-views", recording]
+    return subprocess.run(words, stdout=subprocess.PIPE, check=True).stdout.decode("utf-8", "replace")
+
+
+def views_of(table, is_wanted):
+    """The names of the views that have a type that is wanted, by the table at the end of the text."""
+    rows = (line.split(None, 1) for line in table.splitlines() if line.startswith("jdk."))
+    return {view for name, *views in rows if is_wanted(name) for view in ", ".join(views).split(", ")}
+
+
+def types_of(views):
+    """The event types of each view that has rows, by the view's title: with --verbose its query is at the end."""
+    title = None
+    types = {}
+    for paragraph in paragraphs(views):
+        if NO_VIEW.match(paragraph):
+            continue
+        query = " ".join(paragraph.split())
+        title = title or title_of(paragraph)
+        found = QUERY.search(query)
+        if found:
+            types[title] = {"jdk." + word.split()[0].replace("jdk.", "") for word in found[1].split(", ")}
+            title = None
+    return types
+
+
+def views_by_title(views, titles):
+    """The text of each view that has rows, by its title."""
+    found = {}
+    title = None
+    for paragraph in paragraphs(views):
+        if NO_VIEW.match(paragraph):
+            title = None
+        elif title_of(paragraph) in titles:
+            title = title_of(paragraph)
+        if title:
+            found[title] = found.get(title, "") + paragraph.strip() + "\n\n"
+    return found
+
+
+def title_of(paragraph):
+    """The first line, which --verbose may mark as experimental."""
+    return paragraph.splitlines()[0].replace("(Experimental)", "").strip()
+
+
+def paragraphs(text):
+    """The paragraphs of a text; what it says of a view that has no rows is one, too."""
+    text = NO_VIEW.sub(lambda found: f"\n{found[0]}\n", text)
+    return [paragraph.strip("\n") for paragraph in re.split(r"\n[ ]*\n", text) if paragraph.strip()]
+
+
+def compare_views(jdk, file, scrub, kept):
+    """How many views are the same, and what differs, in words."""
+    verbose, _, table = shown_views(jdk, file, "--verbose").partition("\nExecution: ")
+    views, left = shown_views(jdk, file), shown_views(jdk, scrub)
+    gone = views_of(table, lambda name: name not in kept)
+    there = views_of(table, lambda name: name in kept)
+    missing = (set(MISSING.findall(left)) - set(MISSING.findall(views))) & (there - gone)
+    types = types_of(verbose)
+    wanted, found = (views_by_title(text, set(types)) for text in (views, left))
+    same = [title for title in types if types[title] <= kept]
+    wrong = [f"view {name} misses a type" for name in sorted(missing)]
+    wrong += [f"view '{title}' differs" for title in same if title not in wanted or wanted[title] != found.get(title)]
+    return len(same), wrong
 
 
 def main():
-    """Prints a row for each JDK and file; the status is 1 if a scrub is read otherwise than its file."""
+    """Prints a row for each JDK, file and recipe; the status is 1 if a scrub is read otherwise than its file."""
     parser = argparse.ArgumentParser(description=__doc__, formatter_class=argparse.RawDescriptionHelpFormatter)
-    parser.add_argument("--view", action="store_true", help="also compare `jfr view all-views`")
-    parser.add_argument("--jdk", action="append", required=True, metavar="BIN", help="a folder with the JDK's `jfr`; may be repeated")
+    parser.add_argument("--view", action="store_true", help="compare `jfr view`, too, with the JDKs that have it")
+    parser.add_argument(
+        "--jdk", action="append", required=True, metavar="BIN", help="a folder with the JDK's `jfr`; may be repeated"
+    )
     parser.add_argument("program")
     parser.add_argument("files", nargs="+")
     args = parser.parse_args()
-    every, kept = listed_types()
-    wrong = 0
-    print("| JDK | file | kept events | shown with --describe | shown without | the same |")
-    print("|---|---|---:|---:|---:|---|")
+    bad = 0
+    print("| JDK | file | recipe | kept events | osThreadId differs | without --describe | views | wrong |")
+    print("|---|---|---|---:|---:|---:|---:|---|")
     for file in args.files:
-        with tempfile.TemporaryDirectory() as folder:
-            described, plain = os.path.join(folder, "described.jfr"), os.path.join(folder, "plain.jfr")
-            scrub = [args.program, "scrub", "--include-events", ",".join(kept)]
-            subprocess.run([*scrub, "--describe", ",".join(every), file, described], check=True)
-            subprocess.run([*scrub, file, plain], check=True)
-            for jdk in args.jdk:
-                wanted = shown_events(jdk, file, kept)
-                found = shown_events(jdk, described)
-                same = wanted == found
-                if args.view:
-                    extra = missing_types(jdk, described) - missing_types(jdk, file) - (set(every) - set(kept))
-                    same = same and not extra
-                wrong += not same
-                print(f"| {jdk} | {os.path.basename(file)} | {len(wanted)} | {len(found)} | {len(shown_events(jdk, plain))} | {'yes' if same else 'NO'} |")
-    sys.exit(1 if wrong else 0)
+        for recipe in "vendor", "strict":
+            with tempfile.TemporaryDirectory() as folder:
+                described, plain = os.path.join(folder, "described.jfr"), os.path.join(folder, "plain.jfr")
+                kept = known.kept_by(recipe)
+                names = ",".join(kept)
+                scrub = [args.program, "scrub", "--include-events", names]
+                subprocess.run([*scrub, "--describe", names, file, described], check=True)
+                subprocess.run([*scrub, file, plain], check=True)
+                for jdk in args.jdk:
+                    wanted, found = shown_events(jdk, file, kept), shown_events(jdk, described)
+                    wrong = compare_events(wanted, found)
+                    system = sum(one != other for one, other in zip(wanted, found)) if not wrong else "?"
+                    views = "-"
+                    if args.view and has_view(jdk):
+                        views, differences = compare_views(jdk, file, described, set(kept))
+                        wrong += differences
+                    bad += bool(wrong)
+                    without = len(shown_events(jdk, plain))
+                    row = jdk, os.path.basename(file), recipe, len(wanted), system, without, views
+                    print("|", " | ".join(map(str, row)), "|", "; ".join(wrong), "|", flush=True)
+    sys.exit(1 if bad else 0)
+
+
+def has_view(jdk):
+    """Whether a JDK has `jfr view`."""
+    return subprocess.run([os.path.join(jdk, "jfr"), "help", "view"], capture_output=True).returncode == 0
 
 
 if __name__ == "__main__":

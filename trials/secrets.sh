@@ -25,10 +25,8 @@ secret="
     xqfilereadqx xqfilewriteqx xqfileforceqx xqheapdumpqx xqcodesourceqx
     xqhostqx 127.77.66.55 xqtlshostqx xqcertificatenameqx xqcertificateunitqx
     xqsecuritynameqx xqsecurityvalueqx xqfirstsecuritynameqx xqfirstsecurityvalueqx xqproviderqx xqalgorithmqx
-    xqexceptionqx xqerrorqx xqfilterqx xqownvalueqx xqjdkvalueqx
+    xqexceptionqx xqerrorqx xqfilterqx xqownvalueqx xqjdkvalueqx xqsamevalueqx
     xqbracket[2026]\$qx -xqdashqx xqstar*?qx xqcomma,qx"
-# No recipe can remove the events of a type that has the name of a JDK type that it keeps.
-same="xqsamevalueqx"
 # recipes/vendor and recipes/tenant leave names of code and of modules, with the folder that these come from.
 code="xqclassqx xqmethodqx xqpackageqx xqloaderqx xqfinalizedqx xqmodulenameqx xqmoduleversionqx xqmodulefolderqx"
 # recipes/vendor leaves names of threads; recipes/tenant those that it isn't given.
@@ -135,7 +133,7 @@ for jdk in "${@:-${jdks[@]}}"; do
         continue
     fi
     recording=$to/xqrecordingfileqx.jfr
-    words="$secret $same $code $threads $addresses $tenant $metadata"
+    words="$secret $code $threads $addresses $tenant $metadata"
     planted=$(left_in "$recording" "$jdk" $words) || exit 1
     missing=$(only "$words" "$planted")
     strange=$("$recipes/strangers" "$recording")
@@ -145,10 +143,10 @@ for jdk in "${@:-${jdks[@]}}"; do
     unlisted=$(unlisted "$jdk")
     [ -z "$unlisted" ] || fail "$name: types that recipes/types doesn't have: $unlisted"
     echo "$name: $(stat -c %s "$recording") bytes, $(wc -w <<<"$planted") strings planted${missing:+; not in its recordings: $missing}"
-    try "$jdk" "$recording" "$same $code $threads $addresses $tenant $metadata" vendor
-    try "$jdk" "$recording" "$same $metadata" strict
-    try "$jdk" "$recording" "$same $code $threads $addresses $metadata" tenant 'xqtenantqx*'
-    try "$jdk" "$recording" "$same $code $threads $tenant $metadata" tenant --addresses
+    try "$jdk" "$recording" "$code $threads $addresses $tenant $metadata" vendor
+    try "$jdk" "$recording" "$metadata" strict
+    try "$jdk" "$recording" "$code $threads $addresses $metadata" tenant 'xqtenantqx*'
+    try "$jdk" "$recording" "$code $threads $tenant $metadata" tenant --addresses
 done
 [ -n "${planted-}" ] || echo "skipped: there is no JDK in /usr/lib/jvm that makes recordings"
 [ "$wrong" = 0 ]

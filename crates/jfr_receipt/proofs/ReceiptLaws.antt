@@ -45,5 +45,5 @@ is_receipted passed g c w n =
       output = k.parts;
       becomes = k.bytes ∙ sym h.becomes;
       accepted = k.valid;
-      passes = subst (Passes h.parts k.parts (kept_of g h.parts)) (sym (ap receipt_by e)) (passed h.parts (chosen g h.parts) h.valid k);
+      passes = subst (Passes h.parts k.parts (kept_of g h.parts)) (sym (ap receipt_by e)) (passed h.parts (chosen g h.parts) h.valid (describes g) k);
     }

@@ -1,0 +1,176 @@
+"""What the tests share: a folder with the recipes and the program, and small recordings that the program makes."""
+
+import io
+import os
+import shutil
+import stat
+import subprocess
+import tempfile
+import unittest
+from contextlib import redirect_stderr, redirect_stdout
+from typing import Dict, List, NamedTuple, Optional
+from unittest import mock
+
+from kijorafe import cli
+
+RECIPES = os.path.dirname(os.path.dirname(os.path.realpath(__file__)))
+TOP = os.path.dirname(RECIPES)
+
+# Types: one of the JDK that all recipes keep, one that only vendor keeps, one that none keeps, one of the program's
+# own, and one of which there is no event. Those of the JDK have the fields of 17 and 25.
+TYPES = """\
+class 3 boolean
+class 4 float
+class 5 long
+class 6 java.lang.String
+class 7 java.lang.Thread
+field javaName 6 -
+class 8 jdk.types.StackTrace
+field truncated 3 -
+event 20 jdk.CPULoad
+field startTime 5 -
+field jvmUser 4 -
+field jvmSystem 4 -
+field machineTotal 4 -
+event 21 jdk.ThreadStart
+field startTime 5 -
+field eventThread 7 c
+field stackTrace 8 c
+field thread 7 c
+field parentThread 7 c
+event 22 jdk.FileRead
+field startTime 5 -
+field duration 5 -
+field eventThread 7 c
+field stackTrace 8 c
+field path 6 -
+field bytesRead 5 -
+field endOfFile 3 -
+event 23 farm.Own
+field text 6 -
+event 25 jdk.Shutdown
+field startTime 5 -
+field eventThread 7 c
+field stackTrace 8 c
+field reason 6 -
+"""
+EVENTS = """\
+constant 7 1 "main"
+constant 7 2 "http\\u0020GET\\u0020/pay"
+record 20 1 0x00000000 0x00000000 0x00000000
+record 21 1 #1 #0 #0 #0
+record 21 1 #2 #0 #0 #0
+record 22 1 1 #0 #0 "/secret/path" 7 true
+record 23 "secret\\u0020text"
+"""
+
+
+SHUTDOWN = 'record 25 1 #1 #0 "no\\u0020reason"\n'
+
+
+class Run(NamedTuple):
+    """What a command gave."""
+
+    status: int
+    out: str
+    err: str
+
+
+def program() -> str:
+    """The program itself."""
+    path = os.path.join(TOP, "jfr")
+    subprocess.run([path, "sample", "0", "1"], check=True, stdout=subprocess.DEVNULL)
+    with open(path, "rb") as file:
+        return path if file.read(2) != b"#!" else os.path.join(TOP, "crates", "jfr", "out", "jfr")
+
+
+class Case(unittest.TestCase):
+    """A test in a folder with send/jfr, which may be another program, and send/recipes; it is the current folder."""
+
+    program = ""
+
+    @classmethod
+    def setUpClass(cls) -> None:
+        if not Case.program:
+            Case.program = program()
+
+    def setUp(self) -> None:
+        before = os.getcwd()
+        work = tempfile.mkdtemp(prefix="recipes-")
+        self.addCleanup(shutil.rmtree, work)
+        self.addCleanup(os.chdir, before)
+        os.chdir(work)
+        shutil.copytree(RECIPES, "send/recipes", ignore=shutil.ignore_patterns("tests"))
+        os.symlink(self.program, "send/jfr")
+        # Signals are for the process of the tests to handle.
+        self.replace("kijorafe.program.PLACE", os.path.abspath("send"))
+        self.replace("kijorafe.interrupts.catch", lambda: None)
+        self.replace("kijorafe.interrupts.ignore", lambda: None)
+
+    def replace(self, name: str, value: object) -> None:
+        """Gives something another value during the test."""
+        changed = mock.patch(name, value)
+        changed.start()
+        self.addCleanup(changed.stop)
+
+    def run_program(self, *words: str) -> str:
+        """Runs the program, which must end with 0."""
+        return subprocess.run([self.program, *words], check=True, stdout=subprocess.PIPE).stdout.decode()
+
+    def recording(self, name: str, text: str = TYPES + EVENTS) -> str:
+        """Makes a recording of a text, and returns its name."""
+        self.write("text.txt", text)
+        self.run_program("build", "text.txt", name)
+        os.unlink("text.txt")
+        return name
+
+    def write(self, name: str, text: str) -> str:
+        with open(name, "w", encoding="utf-8") as file:
+            file.write(text)
+        return name
+
+    def read(self, name: str) -> bytes:
+        with open(name, "rb") as file:
+            return file.read()
+
+    def command(self, recipe: str, *words: str) -> List[str]:
+        return ["send/recipes/kijorafe/start", recipe, *words]
+
+    def recipe(self, *words: str) -> Run:
+        """Runs a recipe in this process."""
+        out, err = io.StringIO(), io.StringIO()
+        with redirect_stdout(out), redirect_stderr(err):
+            try:
+                status = cli.main(list(words))
+            except SystemExit as end:
+                assert isinstance(end.code, int)
+                status = end.code
+        return Run(status, out.getvalue(), err.getvalue())
+
+    def process(self, recipe: str, *words: str, stdin: bytes = b"", env: Optional[Dict[str, str]] = None) -> Run:
+        """Runs a recipe in a process of its own."""
+        done = subprocess.run(
+            self.command(recipe, *words),
+            input=stdin,
+            stdout=subprocess.PIPE,
+            stderr=subprocess.PIPE,
+            env={**os.environ, **(env or {})},
+        )
+        return Run(done.returncode, done.stdout.decode(), done.stderr.decode())
+
+    def fake_program(self, script: str) -> None:
+        """Puts a script of sh in the program's place. `jfr sample` must end with 0."""
+        os.unlink("send/jfr")
+        self.write("send/jfr", "#!/bin/sh\n" + script)
+        os.chmod("send/jfr", 0o755)
+
+    def assert_run(self, run: Run, status: int, text: str = "") -> None:
+        self.assertEqual(run.status, status, run.err)
+        self.assertIn(text, run.err)
+
+    def assert_only(self, *names: str) -> None:
+        """The files that are there, beside send/."""
+        self.assertEqual(sorted(os.listdir(".")), sorted(["send", *names]))
+
+    def mode(self, name: str) -> int:
+        return stat.S_IMODE(os.stat(name).st_mode)

@@ -1,0 +1,161 @@
+"""Looks at recordings: left, threads, strangers, and names that are made safe."""
+
+import base64
+import gzip
+import json
+import time
+import unittest
+
+from kijorafe.shown import file_name, quoted, shown
+from kijorafe.threads import ADDRESS, pattern_of
+from tests.support import EVENTS, SHUTDOWN, TYPES, Case
+
+TEXTS = "class 6 java.lang.String\nevent 8 t.A\nfield s 6 -\nfield t 6 -\n"
+
+
+def encoded(text: str) -> str:
+    """The text in base64, within another text."""
+    return f"key={base64.b64encode(text.encode()).decode()}"
+
+
+class Names(unittest.TestCase):
+    def test_shown(self) -> None:
+        self.assertEqual(shown("a b ä"), "a b ä")
+        self.assertEqual(shown("\x1b\n\x85\u202e\u2029"), "\\u001b\\u000a\\u0085\\u202e\\u2029")
+        self.assertEqual(shown("\udc80\U000e0001"), "\\udc80\\udb40\\udc01")
+        self.assertEqual(quoted('"\\\n\u202e'), '"\\"\\\\\\n\\u202e"')
+
+    def test_file_names(self) -> None:
+        self.assertEqual(file_name("a.jfr"), "a.jfr")
+        self.assertEqual(file_name("a b"), "'a b'")
+        self.assertEqual(file_name("a'\n\udcff"), "$'a\\'\\x0a\\xff'")
+
+    def test_addresses(self) -> None:
+        for name in (
+            "RMI TCP Connection(1)-127.0.0.1", "x fe80::1", "shop.example:8080", "http://x", "a?user=1", "GET /",
+            "me@shop.example",
+        ):
+            self.assertTrue(ADDRESS.search(name), name)
+        for name in "main", "G1 Main Marker", "Thread-7", "a.b", "1.2.3", "x:1":
+            self.assertFalse(ADDRESS.search(name), name)
+
+    def test_patterns(self) -> None:
+        self.assertEqual(pattern_of("http-nio-8080-exec-12"), "http-nio-*-exec-*")
+        self.assertEqual(pattern_of("a,b*c\x1b\u202e\x85"), "a?b?c???")
+
+    def test_long_names(self) -> None:
+        start = time.process_time()
+        for part in "a", "a.", "1.", "a:", "a@", "?a", "-", "f:":
+            ADDRESS.search(part * (200_000 // len(part)))
+        self.assertLess(time.process_time() - start, 3)
+
+
+class Looks(Case):
+    def test_left(self) -> None:
+        self.recording("a.jfr", TEXTS + 'record 8 "one\\u001b" "two"\nrecord 8 "com/shop/Order" null\n')
+        run = self.recipe("left", "a.jfr")
+        self.assertEqual(run.out, '1\tt.A\ts\t"com/shop/Order"\n1\tt.A\ts\t"one\\u001b"\n1\tt.A\tt\t"two"\n')
+        self.write("words", "com.shop.Order\nthree\nt.A\n")
+        run = self.recipe("left", "a.jfr", "words")
+        self.assert_run(run, 1, "2 of 3 words found in a.jfr")
+        self.assertIn("line 1: t.A s, 1 times\n", run.out)
+        self.assertIn("line 3: the metadata, in 1 names\n", run.out)
+        self.write("words", "three\n")
+        self.assert_run(self.recipe("left", "a.jfr", "words"), 0, "0 of 1 words found")
+        self.recording("b.jfr", TEXTS + 'constant 6 1 "in\\u0020the\\u0020pool"\nrecord 8 #1 null\n')
+        self.assertEqual(self.recipe("left", "b.jfr").out, '1\tt.A\ts\t"in the pool"\n')
+
+    def test_left_of_several_chunks(self) -> None:
+        self.recording("a.jfr")
+        self.recording("b.jfr", TEXTS + 'record 8 "one" "two"\n')
+        with open("c.jfr", "wb") as file:
+            file.write(self.read("a.jfr") + self.read("b.jfr"))
+        run = self.recipe("left", "c.jfr")
+        self.assertIn('1\tfarm.Own\ttext\t"secret text"\n', run.out)
+        self.assertIn('1\tt.A\tt\t"two"\n', run.out)
+        self.assertIn('1\tjdk.ThreadStart\teventThread.javaName\t"main"\n', run.out)
+        self.assertNotIn("0x00000000", run.out)
+        with open("c.gz", "wb") as file:
+            file.write(gzip.compress(self.read("c.jfr")))
+        expected = self.recipe("left", "c.jfr").out
+        self.assertEqual(self.recipe("left", "c.gz").out, expected)
+        self.assertEqual(self.process("left", "/dev/stdin", stdin=self.read("c.jfr")).out, expected)
+
+    def test_fields_named_as_in_references(self) -> None:
+        own = "class 5 long\nclass 9 t.Pair\nfield class 6 -\nfield key 5 -\n"
+        own += "event 10 t.B\nfield pair 9 -\nfield other 9 c\n"
+        text = TEXTS.replace("event", own + "event", 1) + 'constant 9 1 "inside" 7\nrecord 10 "direct" 9 #1\n'
+        self.recording("a.jfr", text)
+        run = self.recipe("left", "a.jfr")
+        self.assertEqual(run.out, '1\tt.B\tother.class\t"inside"\n1\tt.B\tpair.class\t"direct"\n')
+
+    def test_how_words_are_found(self) -> None:
+        types = TEXTS + "class 5 long\nevent 9 t.N\nfield n 5 -\n"
+        for number, (string, word, is_found, is_exactly) in enumerate([
+            ("x-Db.Example", "DB.EXAMPLE", True, False),
+            ("straße", "STRASSE", True, False),
+            ("com/shop/Order$Item", "com.shop.Order.Item", True, True),
+            ("caf\u00e9", "cafe\u0301", True, True),
+            ("?q=a%20b%2Fc", "a b/c", True, True),
+            ("?q=a+b", "a b", True, True),
+            ("say \\u00e4.", "ä", True, True),
+            (encoded("1hunter2-secret"), "hunter2-secret", True, True),
+            (encoded("12hunter2-secret"), "hunter2-secret", True, True),
+            (encoded("123hunter2-secret9"), "hunter2-secret", True, True),
+            ("", "8443", True, True),
+            ("", "844", False, False),
+            ("hunter2", "hunter3", False, False),
+        ]):
+            with self.subTest(string=string, word=word):
+                text = json.dumps(string, ensure_ascii=False).replace(" ", "\\u0020")
+                self.recording(f"{number}.jfr", types + f"record 9 8443\nrecord 8 {text} null\n")
+                self.write("words", word + "\n")
+                run = self.recipe("left", f"{number}.jfr", "words")
+                self.assertEqual(run.status, int(is_found))
+                self.assertEqual("line 1: t." in run.out, is_found)
+                self.assertEqual(self.recipe("left", "--exact", f"{number}.jfr", "words").status, int(is_exactly))
+        self.write("words", "hunter3\n8443\nnothing\n")
+        run = self.recipe("left", "0.jfr", "words")
+        self.assert_run(run, 1, "not found: line 1, 3\n")
+        self.assertEqual(run.out, "line 2: t.N n, 1 times\n")
+
+    def test_bytes_across_blocks(self) -> None:
+        self.replace("kijorafe.left.BLOCK", 7)
+        self.recording("a.jfr", TEXTS + 'record 8 "Hunter2Secret" null\n')
+        self.write("words", "hunter2secret\nanother\n")
+        at = self.read("a.jfr").find(b"Hunter2")
+        self.assertIn(f"line 1: the bytes, first at {at}\n", self.recipe("left", "a.jfr", "words").out)
+
+    def test_left_that_fails(self) -> None:
+        self.recording("a.jfr")
+        self.write("empty", "")
+        self.write("text", "x")
+        for words in ("a.jfr", "empty"), ("none.jfr",), ("text",), ("a.jfr", "none"), ("-a.jfr",), ():
+            self.assertEqual(self.recipe("left", *words).status, 2, words)
+
+    def test_strangers(self) -> None:
+        self.recording("a.jfr", TYPES + SHUTDOWN.replace("#1", "#0"))
+        self.assertEqual(self.recipe("strangers", "a.jfr")[:2], (0, ""))
+        self.recording("b.jfr")
+        self.assertEqual(self.recipe("strangers", "b.jfr")[:2], (1, "1 farm.Own\n"))
+        own = "event 24 jdk.CPULoad\nfield n 5 -\nevent 26 jdk.SwapSpace\nfield n 5 -\n"
+        self.recording("c.jfr", TYPES + own + EVENTS)
+        run = self.recipe("strangers", "c.jfr")
+        self.assertEqual(run.status, 1)
+        self.assertEqual(
+            run.out.splitlines(),
+            [
+                "1 farm.Own",
+                "jdk.CPULoad (two types have this name)",
+                "jdk.SwapSpace (its fields aren't those of the JDK's type)",
+            ],
+        )
+        self.write("text", "x")
+        for words in ("none.jfr",), ("text",), ("-b.jfr",), ():
+            self.assertEqual(self.recipe("strangers", *words).status, 2, words)
+
+    def test_threads(self) -> None:
+        self.recording("a.jfr")
+        self.assertEqual(self.recipe("threads", "a.jfr")[:2], (0, '1 "http GET /pay"\n1 "main"\n'))
+        self.assertEqual(self.recipe("threads", "--addresses", "a.jfr")[:2], (0, "http GET /pay\n"))
+        self.assertEqual(self.recipe("threads", "none.jfr").status, 2)
