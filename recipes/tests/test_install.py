@@ -12,6 +12,20 @@ class Install(Case):
         done = subprocess.run([os.path.join(TOP, "install"), *words], stdout=subprocess.PIPE, stderr=subprocess.PIPE)
         return Run(done.returncode, done.stdout.decode(), done.stderr.decode())
 
+    def test_completion(self) -> None:
+        script = os.path.join(TOP, "completions", "jfr.bash")
+        for line, expected in (
+            ("s", "strict strangers"),
+            ("vendor --l", "--last"),
+            ("vendor --last 10m x", ""),
+            ("many --resume v", "vendor"),
+            ("left --", "--exact --help"),
+        ):
+            words = ["kijorafe", *line.split(" ")]
+            bash = '. "$0"; COMP_WORDS=("$@"); COMP_CWORD=$(($# - 1)); _kijorafe; echo "${COMPREPLY[*]}"'
+            done = subprocess.run(["bash", "-c", bash, script, *words], stdout=subprocess.PIPE, check=True)
+            self.assertEqual(done.stdout.decode(), f"{expected}\n", line)
+
     def names(self) -> List[str]:
         """The files and links below the folder, without what is in lib/kijorafe."""
         found = [os.path.join(above, name) for above, _, names in os.walk("to") for name in names]
@@ -25,6 +39,7 @@ class Install(Case):
             "bin/kijorafe",
             "bin/kjfr",
             "lib/kijorafe",
+            "share/bash-completion/completions/kijorafe",
             "share/bash-completion/completions/kjfr",
             "share/man/man1/kjfr.1",
             "share/zsh/site-functions/_kjfr",
