@@ -48,6 +48,11 @@ class Install(Case):
         self.recording("in.jfr")
         done = subprocess.run(["to/bin/kijorafe", "threads", "in.jfr"], stdout=subprocess.PIPE, check=True)
         self.assertEqual(done.stdout, b'1 "http GET /pay"\n1 "main"\n')
+        versions = [
+            subprocess.run(words, stdout=subprocess.PIPE, check=True).stdout.split()[1]
+            for words in (["to/bin/kijorafe", "--version"], [os.path.join(TOP, "jfr"), "version"])
+        ]
+        self.assertEqual(versions[0], versions[1].rstrip(b","))
         done = subprocess.run(["to/bin/kjfr", "sample", "0", "1"], stdout=subprocess.PIPE, check=True)
         self.assertEqual(done.stdout.decode(), self.run_program("sample", "0", "1"))
         for name in links:
