@@ -1,8 +1,8 @@
 #!/usr/bin/env python3
 """Tries the JDK's own reader on what vendor and strict make of recordings, most of all those of several chunks.
 
-For each JDK, file and recipe, `jfr print --json` must show of a scrub the events that it shows of the file, of the types
-that the recipe keeps: in the same order, with the same values, times and frames. A difference only in the members
+For each JDK, file and recipe, `jfr print --json` must show of a scrub the events that it shows of the file, of the
+types that the recipe keeps: in the same order, with the same values, times and frames. A difference only in the members
 `osThreadId` is counted by itself: some recordings of JDK 21 and later have two constants with one class and key, of
 which the JDK takes the first, and this program the later one.
 
