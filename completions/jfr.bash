@@ -1,4 +1,4 @@
-# Completion of jfr for bash, 4.3 or later: `. completions/jfr.bash`, or a copy named `jfr` in the folder
+# Completion of jfr and kijorafe for bash, 4.3 or later: `. completions/jfr.bash`, or a copy named `jfr` in the folder
 # ~/.local/share/bash-completion/completions. It serves `jfr` under any path, so `./jfr`, and
 # the JDK's `jfr`, too, which has other options.
 
@@ -113,12 +113,31 @@ _jfr() {
 
 complete -o default -F _jfr jfr
 
-# The first words of recipes/many; all other words of recipes are names of files, which bash completes by default.
-_jfr_many() {
+# The recipes and their options; all other words are names of files, which bash completes by default.
+_kijorafe() {
+    local current=${COMP_WORDS[COMP_CWORD]} recipe='' word words
+    local scrubs='--trust --from --to --last --help'
     COMPREPLY=()
-    if ((COMP_CWORD == 1)) && [[ $1 == *recipes/many ]]; then
-        mapfile -t COMPREPLY < <(compgen -W '--resume --jobs --sshloginfile vendor strict tenant' -- "${COMP_WORDS[1]}")
+    for word in "${COMP_WORDS[@]:1:COMP_CWORD-1}"; do
+        if [[ $word != -* ]]; then
+            recipe=$word
+            break
+        fi
+    done
+    case $recipe in
+        '') words='vendor strict tenant many left strangers threads explain flame jdk --help' ;;
+        vendor | strict) words=$scrubs ;;
+        tenant) words="$scrubs --addresses" ;;
+        many) words="$scrubs --addresses --resume --jobs --sshloginfile vendor strict tenant" ;;
+        left) words='--exact --help' ;;
+        threads) words='--addresses --help' ;;
+        flame) words='--events --categories --help' ;;
+        jdk) words='--ids --help' ;;
+        *) words=--help ;;
+    esac
+    if [[ -z $recipe || $recipe == many || $current == -* ]]; then
+        mapfile -t COMPREPLY < <(compgen -W "$words" -- "$current")
     fi
 }
 
-complete -o default -F _jfr_many many
+complete -o default -F _kijorafe kijorafe

@@ -1,13 +1,14 @@
 #!/usr/bin/env python3
 """Tries the JDK's own reader on what vendor and strict make of recordings, most of all those of several chunks.
 
-For each JDK, file and recipe, `jfr print --json` must show of a scrub the events that it shows of the file, of the types
-that the recipe keeps: in the same order, with the same values, times and frames. A difference only in the members
+For each JDK, file and recipe, `jfr print --json` must show of a scrub the events that it shows of the file, of the
+types that the recipe keeps: in the same order, with the same values, times and frames. A difference only in the members
 `osThreadId` is counted by itself: some recordings of JDK 21 and later have two constants with one class and key, of
 which the JDK takes the first, and this program the later one.
 
 With --view, which JDK 21 and later have, `jfr view` must show the same of the file and of the scrub, for each view all
-of whose types the recipe keeps, and must not say that such a view misses a type.
+of whose types the recipe keeps, and must not say that such a view misses a type. Which types a view has is known from
+the files that are of the same JDK.
 
 Prints a row for each, with how many events the JDK shows of a scrub without `--describe`, and what was wrong.
 """
@@ -18,6 +19,7 @@ import re
 import subprocess
 import sys
 import tempfile
+from typing import Dict, NamedTuple, Set
 
 TOP = os.path.dirname(os.path.dirname(os.path.realpath(__file__)))
 sys.path.insert(0, os.path.join(TOP, "recipes"))
@@ -56,16 +58,37 @@ def compare_events(wanted, found):
     return [f"{len(other)} events differ, first {other[0][0]['type']}"] if other else []
 
 
-def shown_views(jdk, recording, *options):
-    """The text of all views. With a type missing, --verbose makes JDK 21 and 25 fail at the end."""
-    words = [os.path.join(jdk, "jfr"), "view", *options, "all-views", recording]
-    return subprocess.run(words, stdout=subprocess.PIPE, check=True).stdout.decode("utf-8", "replace")
+class Views(NamedTuple):
+    """The views of a JDK: the event types of each by its title, and the names of those that each event type has."""
+
+    types: Dict[str, Set[str]]
+    names: Dict[str, Set[str]]
 
 
-def views_of(table, is_wanted):
-    """The names of the views that have a type that is wanted, by the table at the end of the text."""
+def views_in(jdk, recordings):
+    """The views of a JDK that have rows in recordings. Those that lack a type of the JDK make it fail."""
+    every = Views({}, {})
+    for recording in recordings:
+        words = [os.path.join(jdk, "jfr"), "view", "--verbose", "all-views", recording]
+        run = subprocess.run(words, stdout=subprocess.PIPE, stderr=subprocess.DEVNULL)
+        if run.returncode == 0:
+            views, _, table = run.stdout.decode("utf-8", "replace").partition("\nExecution: ")
+            every.types.update(types_of(views))
+            every.names.update(names_of(table))
+    return every
+
+
+def shown_views(jdk, recording):
+    """The text of all views, or None if the JDK fails, as with some recordings of older JDKs."""
+    words = [os.path.join(jdk, "jfr"), "view", "all-views", recording]
+    run = subprocess.run(words, stdout=subprocess.PIPE, stderr=subprocess.DEVNULL)
+    return None if run.returncode else run.stdout.decode("utf-8", "replace")
+
+
+def names_of(table):
+    """The names of the views that each event type has, by the table that --verbose adds."""
     rows = (line.split(None, 1) for line in table.splitlines() if line.startswith("jdk."))
-    return {view for name, *views in rows if is_wanted(name) for view in ", ".join(views).split(", ")}
+    return {name: set(", ".join(views).split(", ")) for name, *views in rows}
 
 
 def types_of(views):
@@ -109,19 +132,21 @@ def paragraphs(text):
     return [paragraph.strip("\n") for paragraph in re.split(r"\n[ ]*\n", text) if paragraph.strip()]
 
 
-def compare_views(jdk, file, scrub, kept):
-    """How many views are the same, and what differs, in words."""
-    verbose, _, table = shown_views(jdk, file, "--verbose").partition("\nExecution: ")
-    views, left = shown_views(jdk, file), shown_views(jdk, scrub)
-    gone = views_of(table, lambda name: name not in kept)
-    there = views_of(table, lambda name: name in kept)
-    missing = (set(MISSING.findall(left)) - set(MISSING.findall(views))) & (there - gone)
-    types = types_of(verbose)
-    wanted, found = (views_by_title(text, set(types)) for text in (views, left))
-    same = [title for title in types if types[title] <= kept]
+def compare_views(jdk, views, file, scrub, kept):
+    """How many views are compared, and what differs, in words."""
+    before, after = shown_views(jdk, file), shown_views(jdk, scrub)
+    if before is None:
+        return "-", []
+    if after is None:
+        return 0, ["jfr view fails"]
+    gone = {view for name, these in views.names.items() if name not in kept for view in these}
+    there = {view for name, these in views.names.items() if name in kept for view in these}
+    missing = (set(MISSING.findall(after)) - set(MISSING.findall(before))) & (there - gone)
+    wanted, found = (views_by_title(text, set(views.types)) for text in (before, after))
+    titles = [title for title in wanted if views.types[title] <= kept]
     wrong = [f"view {name} misses a type" for name in sorted(missing)]
-    wrong += [f"view '{title}' differs" for title in same if title not in wanted or wanted[title] != found.get(title)]
-    return len(same), wrong
+    wrong += [f"view '{title}' differs" for title in titles if wanted[title] != found.get(title)]
+    return len(titles), wrong
 
 
 def main():
@@ -134,6 +159,7 @@ def main():
     parser.add_argument("program")
     parser.add_argument("files", nargs="+")
     args = parser.parse_args()
+    views_of = {jdk: views_in(jdk, args.files) for jdk in args.jdk if args.view and has_view(jdk)}
     bad = 0
     print("| JDK | file | recipe | kept events | osThreadId differs | without --describe | views | wrong |")
     print("|---|---|---|---:|---:|---:|---:|---|")
@@ -151,8 +177,12 @@ def main():
                     wrong = compare_events(wanted, found)
                     system = sum(one != other for one, other in zip(wanted, found)) if not wrong else "?"
                     views = "-"
-                    if args.view and has_view(jdk):
-                        views, differences = compare_views(jdk, file, described, set(kept))
+                    if jdk in views_of:
+                        # JDK 25 doesn't always give the rows of a view in the same order, so it is asked again.
+                        for _ in range(3):
+                            views, differences = compare_views(jdk, views_of[jdk], file, described, set(kept))
+                            if not differences:
+                                break
                         wrong += differences
                     bad += bool(wrong)
                     without = len(shown_events(jdk, plain))

@@ -2,11 +2,13 @@
 
 import argparse
 import os
+import re
 import sys
 from typing import Callable, List, NoReturn
 
 from kijorafe.known import known_types
 from kijorafe.messages import write
+from kijorafe.program import PLACE
 from kijorafe.shown import file_name, shown
 from kijorafe.window import duration, moment
 
@@ -100,9 +102,20 @@ def readable(text: str) -> str:
     return os.path.abspath(text)
 
 
+def version() -> str:
+    """The number of the version that CHANGELOG.md has first, as `./jfr version` says it."""
+    try:
+        with open(os.path.join(PLACE, "CHANGELOG.md"), encoding="utf-8") as changes:
+            found = re.search(r"^## \[([0-9.]+)\]", changes.read(), re.MULTILINE)
+    except OSError:
+        found = None
+    return found[1] if found else "of an unknown version"
+
+
 def parser() -> Parser:
     """The parser of all recipes."""
     whole = Parser(prog="kijorafe", description=DESCRIPTION, epilog=NEEDS, allow_abbrev=False)
+    whole.add_argument("--version", action="version", version=f"kijorafe {version()}")
     recipes = whole.add_subparsers(title="recipes", dest="recipe_name", metavar="RECIPE")
 
     def recipe(title: str, summary: str, more: str, wrong_words: int = 1) -> Parser:

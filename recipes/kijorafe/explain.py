@@ -32,7 +32,7 @@ def explained(status: int, line: str, name: str) -> str:
     if sentence:
         return f"{name}: {sentence}"
     return {
-        1: "jfr doesn't take these words or names; a name must be UTF-8",
+        1: "jfr doesn't take these words or names; a name must be UTF-8, and jfr of version 1.2.0 or later",
         3: f"reading {name} failed",
         5: f"there is not enough memory for {name}",
     }.get(status, f"jfr ended with status {status} for {name}: {shown(line)}")

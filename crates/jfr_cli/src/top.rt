@@ -9,7 +9,9 @@ ghost use Rattle.jfr_plan.specs.Effects.{outside};
 ghost use Rattle.jfr_plan.specs.Rules.{Parts, Text};
 ghost use Rattle.jfr_plan.specs.Clauses.{write_count};
 ghost use Rattle.jfr_chunk.specs.Refusal.{refusal_of};
-ghost use Rattle.jfr_scrub.specs.Headline.{IsScrubbed, Scrubs};
+ghost use Rattle.jfr_output.specs.Agreements.{RecordingsAgree};
+ghost use Rattle.jfr_output.specs.Recordings.{recording_output};
+ghost use Rattle.jfr_scrub.specs.Headline.{IsScrubbed, Scrubs, recording_scrubbed};
 ghost use Rattle.jfr_scrub.specs.Scrubs.{scrubbed};
 ghost use Rattle.jfr_words.specs.declared.order.Order.{Order};
 ghost use Rattle.jfr_words.specs.declared.order.Order.TheVariants as orders;
@@ -74,6 +76,11 @@ pub fn run<P: Place, O: Sink, E: Sink>(
     ensures renumbered { (result ≡ 0) ⊎ (result ≡ 2) → (g : Given) (input output : List ℕ) → order_of words.now ≡ Some (orders.Scrub g true input output)
         → IfKnown (P.state place.old).contents (P.state place.new).contents (Renumbers g (file_name input) (file_name output)) }
     ensures each_renumbered { (g : Given) (c : List ℕ) → Whole c → refusal_of c ≡ None → IsRenumberedOutput g c (renumbered g c) }
+
+    // Nothing else of what was removed can be found out from an output: recordings that agree, chunk by chunk, on
+    // all that stays have the same output, with and without new keys.
+    ensures same_kept { (g : Given) (x y : List ℕ) → RecordingsAgree g x y → recording_scrubbed g x ≡ recording_scrubbed g y }
+    ensures same_kept_renumbered { (g : Given) (x y : List ℕ) → RecordingsAgree g x y → recording_output refusal_of (renumbered g) x ≡ recording_output refusal_of (renumbered g) y }
 
     // With the receipt of an accepted chunk, the chunk and its scrub pass the checks.
     ensures each_receipt { (g : Given) (c : List ℕ) → Whole c → refusal_of c ≡ None → IsReceipted g c (scrub_receipt g c) }

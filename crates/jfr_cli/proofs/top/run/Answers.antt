@@ -1,7 +1,9 @@
 use Rattle.std.proofs.Common.{ap}
 use Rattle.jfr_plan.specs.Effects.{Outside, outside}
 use Rattle.jfr_scrub.proofs.AgainLaws.{is_scrubbed}
+use Rattle.jfr_scrub.proofs.AgreementLaws as scrubs
 use Rattle.jfr_renumber.proofs.HeadlineLaws.{is_output}
+use Rattle.jfr_renumber.proofs.AgreementLaws as renumbers
 use Rattle.jfr_receipt.proofs.ReceiptLaws.{is_receipted}
 use Rattle.jfr_cli.proofs.Clauses.{Answers, answers_by, only_parts, text_writes, usage_told, usage_only, untouched, headline_told, done_told, refused_told, halted_told, broken_told, parts_told, memory_told, memory_line_written, statuses, no_read_passed, no_write_passed, no_text_passed, one_count, complete, can_read, can_create, sink_told, place_told, same_told, doubted_told, renumbered_told, verified_told, scrubs_told, built_told, unbuilt_told}
 use Rattle.jfr_cli.proofs.top.run.Given.{Over}
@@ -30,6 +32,12 @@ returns-clause-renumbered g c = renumbered_told (answered g c)
 
 pub returns-clause-each_renumbered : goal.returns-clause-each_renumbered
 returns-clause-each_renumbered g c = λ f. is_output f
+
+pub returns-clause-same_kept : goal.returns-clause-same_kept
+returns-clause-same_kept g c = λ f. scrubs.recordings_same f
+
+pub returns-clause-same_kept_renumbered : goal.returns-clause-same_kept_renumbered
+returns-clause-same_kept_renumbered g c = λ f. renumbers.recordings_same f
 
 pub returns-clause-each_receipt : goal.returns-clause-each_receipt
 returns-clause-each_receipt g c = is_receipted c.kept_is_passed.ensures
