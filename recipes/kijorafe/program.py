@@ -2,7 +2,6 @@
 
 import json
 import os
-import re
 import subprocess
 from contextlib import contextmanager
 from typing import Any, Dict, Iterator, List, NamedTuple, Optional, Tuple
@@ -91,25 +90,15 @@ class Program:
     def summary(self, recording: str) -> List[TypeTotal]:
         """The event types that have events, in the order of their names."""
         with _as_expected("summary"):
-            try:
-                totals = json.loads(b"".join(self.lines("summary", "--json", recording)))
-            except Failure as failure:
-                if failure.status != WRONG_WORDS:
-                    raise
-                return _summary_of_text(self.lines("summary", recording))
+            totals = json.loads(b"".join(self.lines("summary", "--json", recording)))
             return [TypeTotal(each["name"], each["events"], each["bytes"]) for each in totals["types"]]
 
     def classes(self, recording: str) -> Iterator[Class]:
         """The classes that each chunk describes, in the order of the file."""
-        try:
-            for line in self.lines("metadata", "--json", recording):
-                with _as_expected("metadata"):
-                    described = _class_of(json.loads(line))
-                yield described
-        except Failure as failure:
-            if failure.status != WRONG_WORDS:
-                raise
-            yield from _classes_of_text(self.lines("metadata", recording))
+        for line in self.lines("metadata", "--json", recording):
+            with _as_expected("metadata"):
+                described = _class_of(json.loads(line))
+            yield described
 
     def events(self, recording: str, depth: int) -> Iterator[bytes]:
         """A line of JSON for each event, with the constants up to this many references deep."""
@@ -179,46 +168,3 @@ def find() -> Program:
             if os.access(os.path.join(out, name), os.X_OK):
                 return Program(os.path.join(out, name))
     return Program(path)
-
-
-# The readers of the texts of version 1.1.0, whose `summary` and `metadata` have no --json.
-
-
-def _summary_of_text(lines: Iterator[bytes]) -> List[TypeTotal]:
-    types = []
-    for line in list(lines)[9:]:
-        name, events, size = line.decode("utf-8", "replace").rstrip("\n").rsplit(" ", 2)
-        types.append(TypeTotal(name, int(events), int(size)))
-    return types
-
-
-_CLASS = re.compile(r"(.*) id \d+(?: super (.*))?", re.DOTALL)
-_CATEGORY = "  category "
-
-
-def _classes_of_text(lines: Iterator[bytes]) -> Iterator[Class]:
-    chunk = 0
-    # What was read of a class: its name, its super type, its categories and its fields.
-    read: Optional[Tuple[str, Optional[str], Tuple[str, ...], List[Field]]] = None
-    for coded in lines:
-        line = coded.decode("utf-8", "replace").rstrip("\n")
-        if read is not None and line.startswith(_CATEGORY + '"'):
-            read = (*read[:2], tuple(json.loads(f"[{line[len(_CATEGORY):]}]")), read[3])
-        elif read is not None and line.startswith("  "):
-            read[3].append(_field_of_text(line[2:]))
-        else:
-            if read is not None:
-                yield Class(chunk, *read[:3], tuple(read[3]))
-            found = _CLASS.fullmatch(line)
-            read = (found[1], found[2], (), []) if found else None
-            chunk += line == f"chunk {chunk + 1}"
-    if read is not None:
-        yield Class(chunk, *read[:3], tuple(read[3]))
-
-
-def _field_of_text(line: str) -> Field:
-    name, _, class_name = line.partition(": ")
-    constant = class_name.endswith(" constant")
-    class_name = class_name[: -len(" constant")] if constant else class_name
-    array = class_name.endswith("[]")
-    return Field(name, class_name[:-2] if array else class_name, constant, array)

@@ -84,6 +84,13 @@ def program() -> str:
         return path if file.read(2) != b"#!" else os.path.join(TOP, "crates", "jfr", "out", "jfr")
 
 
+def in_memory() -> Optional[str]:
+    """A folder in memory in which programs may run, if there is one; a recipe waits for a disk."""
+    folder = "/dev/shm"
+    usable = os.path.isdir(folder) and os.access(folder, os.W_OK) and not os.statvfs(folder).f_flag & os.ST_NOEXEC
+    return folder if usable else None
+
+
 class Case(unittest.TestCase):
     """A test in a folder with send/jfr, which may be another program, and send/recipes; it is the current folder."""
 
@@ -96,7 +103,7 @@ class Case(unittest.TestCase):
 
     def setUp(self) -> None:
         before = os.getcwd()
-        work = tempfile.mkdtemp(prefix="recipes-")
+        work = tempfile.mkdtemp(prefix="recipes-", dir=in_memory())
         self.addCleanup(shutil.rmtree, work)
         self.addCleanup(os.chdir, before)
         os.chdir(work)

@@ -13,18 +13,18 @@ class Install(Case):
         return Run(done.returncode, done.stdout.decode(), done.stderr.decode())
 
     def test_completion(self) -> None:
-        script = os.path.join(TOP, "completions", "jfr.bash")
-        for line, expected in (
-            ("s", "strict strangers"),
-            ("vendor --l", "--last"),
-            ("vendor --last 10m x", ""),
-            ("many --resume v", "vendor"),
-            ("left --", "--exact --help"),
-        ):
-            words = ["kijorafe", *line.split(" ")]
-            bash = '. "$0"; COMP_WORDS=("$@"); COMP_CWORD=$(($# - 1)); _kijorafe; echo "${COMPREPLY[*]}"'
-            done = subprocess.run(["bash", "-c", bash, script, *words], stdout=subprocess.PIPE, check=True)
-            self.assertEqual(done.stdout.decode(), f"{expected}\n", line)
+        cases = {
+            "s": "strict strangers",
+            "vendor --l": "--last",
+            "vendor --last 10m x": "",
+            "many --resume v": "vendor",
+            "left --": "--exact --help",
+        }
+        bash = '. "$0"; for line; do read -ra COMP_WORDS <<<"kijorafe $line"; COMP_CWORD=$((${#COMP_WORDS[@]} - 1));'
+        bash += ' _kijorafe; echo "${COMPREPLY[*]}"; done'
+        words = ["bash", "-c", bash, os.path.join(TOP, "completions", "jfr.bash"), *cases]
+        done = subprocess.run(words, stdout=subprocess.PIPE, check=True)
+        self.assertEqual(done.stdout.decode().split("\n")[:-1], list(cases.values()))
 
     def names(self) -> List[str]:
         """The files and links below the folder, without what is in lib/kijorafe."""

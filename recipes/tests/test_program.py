@@ -49,12 +49,6 @@ class Data(Case):
         self.assertEqual(classes["jdk.types.StackTrace"].fields[1], Field("frames", "long", False, True))
         self.assertEqual((classes["t.A"].chunk, classes["t.A"].is_event, classes["long"].is_event), (1, True, False))
 
-    def test_categories_of_the_text(self) -> None:
-        lines = [b"chunk 1\n", b"t.A id 8 super jdk.jfr.Event\n", b'  category "a, b", "c \\u001b"\n', b"  n: long\n"]
-        (event,) = program._classes_of_text(iter(lines))
-        self.assertEqual(event.categories, ("a, b", "c \x1b"))
-        self.assertEqual(event.fields, (Field("n", "long", False, False),))
-
     def test_failures(self) -> None:
         real = Program(self.program)
         with self.assertRaises(program.Failure) as raised:
