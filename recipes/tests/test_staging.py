@@ -25,13 +25,23 @@ esac
 """
 
 
+def take_signals() -> None:
+    """Signals act in this process even if whoever started the tests ignores them, as nohup does."""
+    for number in signal.SIGINT, signal.SIGTERM, signal.SIGHUP:
+        signal.signal(number, signal.SIG_DFL)
+
+
 class Interrupted(Case):
     def begin(self, *words: str) -> "subprocess.Popen[bytes]":
         """Starts a recipe, and waits until its output is begun."""
         self.fake_program(SLOW)
         self.write("in.jfr", "FLR\0")
         process = subprocess.Popen(
-            self.command(*words), stderr=subprocess.PIPE, stdin=subprocess.DEVNULL, start_new_session=True
+            self.command(*words),
+            stderr=subprocess.PIPE,
+            stdin=subprocess.DEVNULL,
+            start_new_session=True,
+            preexec_fn=take_signals,
         )
         until = time.monotonic() + 10
         while not os.path.exists("begun") and time.monotonic() < until:
