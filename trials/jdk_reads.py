@@ -178,11 +178,7 @@ def main():
                     system = sum(one != other for one, other in zip(wanted, found)) if not wrong else "?"
                     views = "-"
                     if jdk in views_of:
-                        # A view of JDK 25 once differed, and never when it was shown again, so it is asked again.
-                        for _ in range(3):
-                            views, differences = compare_views(jdk, views_of[jdk], file, described, set(kept))
-                            if not differences:
-                                break
+                        views, differences = compare_views(jdk, views_of[jdk], file, described, set(kept))
                         wrong += differences
                     bad += bool(wrong)
                     without = len(shown_events(jdk, plain))
