@@ -30,4 +30,5 @@ pub mod TreeLaws
 pub mod VisitLaws
 pub mod WalkLaws
 mod ChildrenLaws
+mod NextLeaf
 mod ReferenceLaws
