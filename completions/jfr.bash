@@ -1,3 +1,4 @@
+# shellcheck shell=bash
 # Completion of jfr and kijorafe for bash, 4.3 or later: `. completions/jfr.bash`, or a copy named `jfr` in the folder
 # ~/.local/share/bash-completion/completions. It serves `jfr` under any path, so `./jfr`, and
 # the JDK's `jfr`, too, which has other options.
