@@ -44,6 +44,7 @@ class Install(Case):
             "lib/kijorafe",
             "share/bash-completion/completions/kijorafe",
             "share/bash-completion/completions/kjfr",
+            "share/man/man1/kijorafe.1",
             "share/man/man1/kjfr.1",
             "share/zsh/site-functions/_kjfr",
         ]
