@@ -1,5 +1,5 @@
 #!/usr/bin/env bash
-# Tries the scripts jfr and dist/make with a made-up toolchain: trials/script.sh
+# Tries the scripts jfr, dist/make and dist/packages with a made-up toolchain: trials/script.sh
 #
 # In a copy of the repository's files, `rt` is a script that writes a program which says its number. Prints a line for
 # each case that is wrong, and at the end how many there were; the status is 0 if none was wrong.
@@ -7,8 +7,9 @@ set -u
 # shellcheck source=common.sh
 . "$(dirname "$(readlink -f -- "$0")")/common.sh"
 mkdir -p "$work/copy/dist" "$work/bin"
-cp -r -- "$top"/{jfr,crates.txt,README.md,CHANGELOG.md,docs} "$work/copy/" || exit 1
-cp -- "$top"/dist/{make,sources} "$work/copy/dist/" || exit 1
+cp -r -- "$top"/{jfr,kijorafe,install,crates.txt,README.md,CHANGELOG.md,SECURITY.md,docs,recipes,completions} \
+    "$work/copy/" || exit 1
+cp -- "$top"/dist/{make,packages,sources} "$work/copy/dist/" || exit 1
 (cd "$top" && find crates -path '*/src/*' -type f -print0 | xargs -0 cp --parents -t "$work/copy") || exit 1
 cat >"$work/bin/rt" <<'END'
 #!/bin/bash
@@ -64,6 +65,25 @@ check 'packing it without a second build' 0 'dist/jfr-1.' "${with[@]}" NUMBER=on
 rm -rf crates/jfr/out
 check 'packing' 0 'dist/jfr-1.' "${with[@]}" NUMBER=one dist/make
 check 'its check' 0 '' "${without[@]}" dist/make --check
+packages=(dist/kijorafe-*.tar.xz dist/kijorafe_*.deb)
+cp -- "${packages[@]}" "$work/"
+check 'the packages again' 0 '' "${without[@]}" dist/make --packages
+for package in "${packages[@]}"; do
+    check 'they are the same' 0 '' cmp "$package" "$work/${package#dist/}"
+done
+cp README.md "$work/"
+echo more >>README.md
+check 'another document' 0 'were made of other' "${without[@]}" dist/make --check
+check 'the packages with it' 0 '' "${without[@]}" dist/make --packages
+check 'their check' 0 '' "${without[@]}" dist/make --check
+if [ -e "${packages[1]}" ]; then
+    cp -- "$work/${packages[1]#dist/}" dist/
+    check 'one package with it' 1 'have other files' "${without[@]}" dist/make --check
+fi
+echo more >"${packages[0]}"
+check 'a package that is damaged' 1 "isn't whole" "${without[@]}" dist/make --check
+cp "$work/README.md" .
+check 'the packages once more' 0 '' "${without[@]}" dist/make --packages
 check 'its sums' 0 '' sha256sum --quiet --strict -c dist/SHA256SUMS
 rm -rf crates/jfr/out
 check 'unpacking' 0 'one summary x' "${without[@]}" ./jfr summary x
