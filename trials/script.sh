@@ -17,7 +17,16 @@ cat >"$work/bin/rt" <<'END'
 sleep "${SLOW-0}"
 [ -z "${FAIL-}" ] || exit 1
 mkdir -p out
-printf '#!/bin/bash\n# %s\necho "%s $*"\n[ $# != 0 ] && [ "$1" != wrong ]\n' "${WHERE+$PWD}" "$NUMBER" >out/jfr
+printf '#!/bin/bash\n# %s\necho "%s $*"\n' "${WHERE+$PWD}" "$NUMBER" >out/jfr
+cat >>out/jfr <<'PROGRAM'
+case ${1-wrong} in
+    wrong) exit 1 ;;
+    refused) echo "chunk 1 offset 64: Unfinished" >&2; exit 2 ;;
+    doubted) echo "chunk 2: EventsDiffer" >&2; exit 7 ;;
+    unread) echo "read fault" >&2; exit 3 ;;
+    slow) exec 7<"$2"; head -c 100 <&7 >/dev/null; exec sh -c "sleep 2; echo end >&2" ;;
+esac
+PROGRAM
 chmod +x out/jfr
 END
 chmod +x "$work/bin/rt"
@@ -44,6 +53,17 @@ check 'version before a build' 0 'jfr 1.' "${without[@]}" ./jfr --version
 check 'the first build' 0 'one summary x' "${with[@]}" NUMBER=one ./jfr summary x
 check 'a run' 0 'one summary x' "${without[@]}" ./jfr summary x
 check 'wrong words' 1 'see: ./jfr help' "${without[@]}" ./jfr wrong
+check 'a refusal' 2 $'offset 64: Unfinished\nUnfinished: the recording is still being written' "${without[@]}" ./jfr refused
+check 'a doubt' 7 $'2: EventsDiffer\nEventsDiffer: the output' "${without[@]}" ./jfr doubted
+check 'another failure' 3 'read fault' "${without[@]}" ./jfr unread
+check 'no output stream' 2 'Unfinished: ' "${without[@]}" bash -c './jfr refused >&-'
+check 'no error stream' 2 'one refused' "${without[@]}" bash -c './jfr refused 2>&-'
+head -c 200 README.md >input
+on_terminal=("${without[@]}" script -qec)
+check 'progress' 0 '50 % of 200 bytes read' "${on_terminal[@]}" './jfr slow input >/dev/null' /dev/null
+check 'progress, erased' 0 $'\e[Kend' "${on_terminal[@]}" './jfr slow input >/dev/null' /dev/null
+check 'no progress after output' 0 $'one slow input\r\nend' "${on_terminal[@]}" './jfr slow input' /dev/null
+rm input
 find crates -name '*.rt' -exec touch {} +
 check 'sources with other times' 0 'one summary x' "${with[@]}" NUMBER=two ./jfr summary x
 cp -r . ../second
