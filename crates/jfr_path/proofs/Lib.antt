@@ -1,6 +1,7 @@
 pub mod ChosenLaws
 pub mod EventLaws
 pub mod FollowLaws
+pub mod LeadingLaws
 pub mod ListLaws
 pub mod NameLaws
 pub mod StepLaws
