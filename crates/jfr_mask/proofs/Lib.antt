@@ -1,0 +1,4 @@
+pub mod KnownLaws
+pub mod MapLaws
+pub mod NumberLaws
+pub mod ShownLaws

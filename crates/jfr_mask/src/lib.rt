@@ -1,0 +1,11 @@
+//! Pseudonyms for the texts of chosen fields.
+#![tactic(auto)]
+
+mod dictionary;
+mod known;
+pub mod laws;
+mod shown;
+
+pub use dictionary::Dictionary;
+pub use known::Known;
+pub use shown::Shown;
