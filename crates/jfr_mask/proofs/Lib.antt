@@ -1,3 +1,4 @@
+pub mod FieldLaws
 pub mod KnownLaws
 pub mod MapLaws
 pub mod NumberLaws

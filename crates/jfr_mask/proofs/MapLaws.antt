@@ -1,10 +1,10 @@
 -- A dictionary's map after a text is added.
-use Rattle.std.specs.Prelude.{◌≡◌, ℕ, ◌+◌, ◌||◌, Bool, true, false, cond, List, [], ◌∷◌, ◌++◌, length, Option, Some, None, IsUtf8, if◌then◌else◌}
+use Rattle.std.specs.Prelude.{◌≡◌, ℕ, ◌+◌, Bool, true, false, cond, List, [], ◌∷◌, ◌++◌, length, Some, None, IsUtf8, if◌then◌else◌}
 use Rattle.std.specs.BTreeMap.{BTreeMap, UpdatesBy, is_at}
 use Rattle.std.specs.Cmp.{eq_by_cmp_equiv}
 use Rattle.std.specs.Cmp.Lexicographic.{slice_cmp, nat_list_cmp_total, nat_list_eq_equiv}
 use Rattle.std.specs.Map.{KeepsOthers}
-use Rattle.std.specs.Ordering.{is_eq, eq_by_cmp, nat_cmp}
+use Rattle.std.specs.Ordering.{is_eq, nat_cmp}
 use Rattle.std.specs.Rc.{rc_str_bytes}
 use Rattle.std.specs.Str.{bytes_eq, chars}
 use Rattle.std.specs.declared.cmp.Ordering.{Ordering}
@@ -18,7 +18,7 @@ use Rattle.std.proofs.lemmas.Str.{encodes-chars}
 use lib.Utf8.{encodes}
 use Rattle.jfr_mask.specs.Kept.{AreNumbersOf, number_under, texts_in}
 use Rattle.jfr_mask.specs.Pseudonyms.{has_text, number_of}
-use Rattle.jfr_mask.proofs.NumberLaws.{eq_is, eq_self, has_last, has_other, number_last, number_old}
+use Rattle.jfr_mask.proofs.NumberLaws.{eq_is, has_last, has_other, number_last, number_old}
 
 abbrev key_cmp : RcStr Global → RcStr Global → Ordering
 key_cmp x y = slice_cmp nat_cmp (rc_str_bytes x) (rc_str_bytes y)

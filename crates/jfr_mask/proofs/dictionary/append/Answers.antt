@@ -1,8 +1,8 @@
-use Rattle.std.proofs.Common.{ap, arith, rules, refl, sym, subst, ◌∙◌, ◌≡◌, ◌+◌, ◌∷◌, ◌++◌, [], length}
+use Rattle.std.proofs.Common.{ap, rules, sym, subst, ◌∙◌, ◌≡◌, ◌+◌, ◌∷◌, ◌++◌, [], length}
 use Rattle.std.specs.Rc.{rc_str_bytes}
 use Rattle.std.specs.Str.{chars}
 use Rattle.jfr_mask.specs.Kept.{AreNumbersOf, texts_in}
-use Rattle.jfr_mask.specs.Pseudonyms.{has_text, number_of}
+use Rattle.jfr_mask.specs.Pseudonyms.{number_of}
 use Rattle.jfr_mask.proofs.MapLaws.{length-texts_in, numbers_added, texts_added}
 use Rattle.jfr_mask.proofs.NumberLaws.{number_last}
 use Rattle.jfr_mask.proofs.dictionary.append.Goals as goal

@@ -4,7 +4,7 @@ use Rattle.std.proofs.Common.{ap, sym, ◌∙◌}
 use Rattle.std.proofs.lemmas.Str.{IsUtf8-string_bytes}
 use Rattle.bstr.specs.Utf8.{lossy_chars}
 use Rattle.jfr_mask.specs.Kept.{texts_of}
-use Rattle.jfr_mask.specs.Pseudonyms.{has_text, is_known, is_pseudonym}
+use Rattle.jfr_mask.specs.Pseudonyms.{has_text, is_pseudonym}
 use Rattle.jfr_mask.proofs.KnownLaws.{line_known, line_unknown, lossy_text, or_false, text_updated}
 use Rattle.jfr_mask.proofs.known.add_line.Goals as goal
 

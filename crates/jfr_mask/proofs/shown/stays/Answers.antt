@@ -1,4 +1,3 @@
-use Rattle.std.specs.Str.{chars}
 use Rattle.std.proofs.Common.{rules, sym, ◌∙◌}
 use Rattle.std.proofs.lemmas.Bool.{eqb-true}
 use Rattle.jfr_mask.specs.Pseudonyms.{has_text}

@@ -1,5 +1,5 @@
 use Rattle.std.specs.Str.{chars}
-use Rattle.std.proofs.Common.{arith, rules, sym, ◌∙◌}
+use Rattle.std.proofs.Common.{arith, sym, ◌∙◌}
 use Rattle.jfr_mask.specs.Pseudonyms.{has_text}
 use Rattle.jfr_mask.proofs.ShownLaws.{pseudonym_shown, text_shown}
 use Rattle.jfr_mask.proofs.shown.Shown.of.Goals as goal
