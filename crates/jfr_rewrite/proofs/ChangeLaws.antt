@@ -34,7 +34,7 @@ module _ (ch : Change) where
     mutual
       pub changed_fits : (x : Option Holder) (v : Value) → Fits k v → Fits k (changed ch x v)
       changed_fits x (Single s kind b key) f = keeps x s (plain kind b key) f
-      changed_fits x (Group s h vs) f = (subst (IsHead k s h) (sym (changed_shapes (part_holder x s) vs)) f.0, changed_fit (part_holder x s) vs f.1)
+      changed_fits x (Group s h vs) f = (subst (IsHead k s h) (sym (changed_shapes (part_holder s x) vs)) f.0, changed_fit (part_holder s x) vs f.1)
 
       pub changed_fit : (g : ℕ → Option Holder) (vs : Values) → AllFit k vs → AllFit k (changed_all ch g vs)
       changed_fit g Nil f = tt
@@ -48,20 +48,20 @@ module _ (ch : Change) where
 
   -- The context of what a step leads to.
   abbrev pub stepped : Option Holder → Shape → Step → Option Holder
-  stepped x s (steps.Field i) = part_holder x s i
-  stepped x s (steps.Item i) = part_holder x s i
+  stepped x s (steps.Field i) = part_holder s x i
+  stepped x s (steps.Item i) = part_holder s x i
   stepped x s steps.Follow = x
 
   group_part : (x : Option Holder) (s : Shape) (h : List ℕ) (vs : Values) (st : Step) → part (changed ch x (Group s h vs)) st ≡ option_map (changed ch (stepped x s st)) (part (Group s h vs) st)
   group_part x s h vs (steps.Field i) = by_mark s.array
     where
-      by_mark : (t : Bool) → (if t then None else slice_get (list_of (changed_all ch (part_holder x s) vs)) i) ≡ option_map (changed ch (part_holder x s i)) (if t then None else slice_get (list_of vs) i)
+      by_mark : (t : Bool) → (if t then None else slice_get (list_of (changed_all ch (part_holder s x) vs)) i) ≡ option_map (changed ch (part_holder s x i)) (if t then None else slice_get (list_of vs) i)
       by_mark true = refl
-      by_mark false = changed_get (part_holder x s) vs i
+      by_mark false = changed_get (part_holder s x) vs i
   group_part x s h vs (steps.Item i) = by_mark s.array
     where
-      by_mark : (t : Bool) → (if t then slice_get (list_of (changed_all ch (part_holder x s) vs)) i else None) ≡ option_map (changed ch (part_holder x s i)) (if t then slice_get (list_of vs) i else None)
-      by_mark true = changed_get (part_holder x s) vs i
+      by_mark : (t : Bool) → (if t then slice_get (list_of (changed_all ch (part_holder s x) vs)) i else None) ≡ option_map (changed ch (part_holder s x i)) (if t then slice_get (list_of vs) i else None)
+      by_mark true = changed_get (part_holder s x) vs i
       by_mark false = refl
   group_part x s h vs steps.Follow = refl
 
@@ -103,10 +103,10 @@ module _ (ch : Change) where
             subst (λ z. content_of s.class (ch x s (plain z b key)) ≡ changed_leaf ch x (record { kind = z; class = s.class; at = at; spelled = b })) e
             (λ j. content_of s.class (ch x (record { class = s.class; constant = i.1 j; array = i.0 j }) (plain (leaf_kinds.Base (kind_of i.2.name)) b (sym (base_key (kind_of i.2.name) b key i.5) j))))
 
-    head_told : (to : ℕ) (s : Shape) (h : List ℕ)
+    head_content : (to : ℕ) (s : Shape) (h : List ℕ)
         → map content (if s.array then record { kind = leaf_kinds.Count (worth_within 8 h); class = s.class; at = to; spelled = h } ∷ [] else [])
         ≡ (if s.array then record { kind = leaf_kinds.Count (worth_within 8 h); class = s.class; spelled = h } ∷ [] else [])
-    head_told to s h = by_mark s.array
+    head_content to s h = by_mark s.array
       where
         by_mark : (t : Bool)
             → map content (if t then record { kind = leaf_kinds.Count (worth_within 8 h); class = s.class; at = to; spelled = h } ∷ [] else [])
@@ -118,9 +118,9 @@ module _ (ch : Change) where
       pub changed_leaves : (x : Option Holder) (v : Value) (at to : ℕ) → Fits k v → map content (leaves_at to (changed ch x v)) ≡ leaves_changed ch x at v
       changed_leaves x (Single s kind b key) at to f = ap (λ z. z ∷ []) (single_leaf x at s kind b key f)
       changed_leaves x (Group s h vs) at to f =
-          map-append content (if s.array then record { kind = leaf_kinds.Count (worth_within 8 h); class = s.class; at = to; spelled = h } ∷ [] else []) (leaves_from (to + length h) (changed_all ch (part_holder x s) vs))
-          ∙ (ap (λ z. z ++ map content (leaves_from (to + length h) (changed_all ch (part_holder x s) vs))) (head_told to s h)
-          ∙ ap (λ z. (if s.array then record { kind = leaf_kinds.Count (worth_within 8 h); class = s.class; spelled = h } ∷ [] else []) ++ z) (changed_from (part_holder x s) vs (at + length h) (to + length h) f.1))
+          map-append content (if s.array then record { kind = leaf_kinds.Count (worth_within 8 h); class = s.class; at = to; spelled = h } ∷ [] else []) (leaves_from (to + length h) (changed_all ch (part_holder s x) vs))
+          ∙ (ap (λ z. z ++ map content (leaves_from (to + length h) (changed_all ch (part_holder s x) vs))) (head_content to s h)
+          ∙ ap (λ z. (if s.array then record { kind = leaf_kinds.Count (worth_within 8 h); class = s.class; spelled = h } ∷ [] else []) ++ z) (changed_from (part_holder s x) vs (at + length h) (to + length h) f.1))
 
       pub changed_from : (g : ℕ → Option Holder) (vs : Values) (at to : ℕ) → AllFit k vs → map content (leaves_from to (changed_all ch g vs)) ≡ leaves_changed_from ch g at vs
       changed_from g Nil at to f = refl

@@ -17,8 +17,8 @@ pub record Holder : Type 0 where
 
 -- The field that part n of a value is in: field n of a composite value's class. The items of an array are in the
 -- field that the array is in.
-abbrev pub part_holder : Option Holder → Shape → ℕ → Option Holder
-part_holder h s n = if s.array then h else Some (record { class = s.class; field = n })
+abbrev pub part_holder : Shape → Option Holder → ℕ → Option Holder
+part_holder s h = if s.array then (λ n. h) else (λ n. Some (record { class = s.class; field = n }))
 
 -- A value without parts, except for its shape.
 pub record Plain : Type 0 where
@@ -40,7 +40,7 @@ Change = Option Holder → Shape → Plain → Plain
 abbrev mutual
   pub changed : Change → Option Holder → Value → Value
   changed ch h (Single s kind b key) = single_of s (ch h s (plain kind b key))
-  changed ch h (Group s head vs) = Group s head (changed_all ch (part_holder h s) vs)
+  changed ch h (Group s head vs) = Group s head (changed_all ch (part_holder s h) vs)
 
   pub changed_all : Change → (ℕ → Option Holder) → Values → Values
   changed_all ch f Nil = Nil
@@ -91,7 +91,7 @@ abbrev mutual
   leaves_changed ch h at (Single s kind b key) = changed_leaf ch h (record { kind = kind; class = s.class; at = at; spelled = b }) ∷ []
   leaves_changed ch h at (Group s head vs) =
       (if s.array then record { kind = leaf_kinds.Count (worth_within 8 head); class = s.class; spelled = head } ∷ [] else [])
-      ++ leaves_changed_from ch (part_holder h s) (at + length head) vs
+      ++ leaves_changed_from ch (part_holder s h) (at + length head) vs
 
   pub leaves_changed_from : Change → (ℕ → Option Holder) → ℕ → Values → List Content
   leaves_changed_from ch f at Nil = []
