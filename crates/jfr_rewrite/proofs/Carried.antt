@@ -26,7 +26,8 @@ module _ (w : Rewrite) (p : Parts) (kept : List EventAt) (entries : List EntryAt
   record_carried (Rebuilt r x) at older small = tt
   record_carried (Chained i l) at older small = tail_carried l.frame (chained_tail w p entries i l at older) small
 
-  all_carried : (ss : List OutputRecord) (at : ℕ) (older : Option ℕ) → length (flat_map (bytes_by bytes) (written_by bytes at older ss)) < 2 ^ 30 → AllByRecursion Carried (written_by bytes at older ss)
+  all_carried : (ss : List OutputRecord) (at : ℕ) (older : Option ℕ) → length (flat_map (bytes_by bytes) (written_by bytes at older ss)) < 2 ^ 30
+      → AllByRecursion Carried (written_by bytes at older ss)
   all_carried [] at older small = tt
   all_carried (o ∷ ss) at older small =
       let more : List ℕ = flat_map (bytes_by bytes) (written_by bytes (at + length (bytes o at older)) (older_after o at older) ss) in

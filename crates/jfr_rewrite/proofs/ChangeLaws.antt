@@ -55,12 +55,14 @@ module _ (ch : Change) where
   group_part : (x : Option Holder) (s : Shape) (h : List ℕ) (vs : Values) (st : Step) → part (changed ch x (Group s h vs)) st ≡ option_map (changed ch (stepped x s st)) (part (Group s h vs) st)
   group_part x s h vs (steps.Field i) = by_mark s.array
     where
-      by_mark : (t : Bool) → (if t then None else slice_get (list_of (changed_all ch (part_holder s x) vs)) i) ≡ option_map (changed ch (part_holder s x i)) (if t then None else slice_get (list_of vs) i)
+      by_mark : (t : Bool)
+          → (if t then None else slice_get (list_of (changed_all ch (part_holder s x) vs)) i) ≡ option_map (changed ch (part_holder s x i)) (if t then None else slice_get (list_of vs) i)
       by_mark true = refl
       by_mark false = changed_get (part_holder s x) vs i
   group_part x s h vs (steps.Item i) = by_mark s.array
     where
-      by_mark : (t : Bool) → (if t then slice_get (list_of (changed_all ch (part_holder s x) vs)) i else None) ≡ option_map (changed ch (part_holder s x i)) (if t then slice_get (list_of vs) i else None)
+      by_mark : (t : Bool)
+          → (if t then slice_get (list_of (changed_all ch (part_holder s x) vs)) i else None) ≡ option_map (changed ch (part_holder s x i)) (if t then slice_get (list_of vs) i else None)
       by_mark true = changed_get (part_holder s x) vs i
       by_mark false = refl
   group_part x s h vs steps.Follow = refl

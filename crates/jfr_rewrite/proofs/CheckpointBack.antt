@@ -63,7 +63,8 @@ module _ (c : List ℕ) (l : Link) (delta : ℕ) (gs : List SpelledPool) where
       pub are_pools : Reads (checkpoint_format k) b (at + length whole_of) (checkpoint_of at).frame.body (placed_each bytes_of_pool pool_at (new_pools_at at width l delta (length gs)) gs) (at + length whole_of)
       pub pools_held : Holds b (at + length whole_of) (new_pools_at at width l delta (length gs)) (flat_map bytes_of_pool gs)
 
-    pub checkpoint_read : (k : Classes) (b : List ℕ) (at : ℕ) → IsLinkIn c l → AllByRecursion (IsSpelledPool k) gs → Carries width (length (tail_of c l.frame body_of)) → Holds b (length b) at whole_of → CheckpointRead k b at
+    pub checkpoint_read : (k : Classes) (b : List ℕ) (at : ℕ) → IsLinkIn c l → AllByRecursion (IsSpelledPool k) gs → Carries width (length (tail_of c l.frame body_of))
+        → Holds b (length b) at whole_of → CheckpointRead k b at
     unfolding checkpoint_format
     checkpoint_read k b at s gss carries held =
         let f : Framed = l.frame in

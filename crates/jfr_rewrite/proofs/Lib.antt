@@ -6,10 +6,11 @@ pub mod SpelledBack
 pub mod CheckpointBack
 pub mod Pools
 pub mod Made
+pub mod Rewriting
 pub mod Output
 pub mod Events
 pub mod Accepted
 pub mod InForce
 pub mod PathLaws
 pub mod MeaningLaws
-pub mod Given
+pub mod Remaining

@@ -178,7 +178,8 @@ module _ (k : Classes) (bytes : OutputRecord → ℕ → Option ℕ → List ℕ
         steps (Some z) o i = step_delta at z o i
 
     -- The entries are read.
-    pub entries_made : (ss : List OutputRecord) (j at : ℕ) (older : Option ℕ) → AllRead at older ss → Holds b (length b) at (bytes_from at older ss) → AreEntries b k j (chain_from at older ss) (entries_at j at older ss)
+    pub entries_made : (ss : List OutputRecord) (j at : ℕ) (older : Option ℕ) → AllRead at older ss → Holds b (length b) at (bytes_from at older ss)
+        → AreEntries b k j (chain_from at older ss) (entries_at j at older ss)
     entries_made [] j at older s h = refl
     entries_made (Whole r ∷ ss) j at older s h =
         let n : ℕ = length (bytes (Whole r) at older) in
@@ -211,18 +212,21 @@ module _ (k : Classes) (bytes : OutputRecord → ℕ → Option ℕ → List ℕ
       leads_here None rest at older = rw (is_eq f.at f.at refl) refl
       leads_here (Some x) rest at older = rw (is_eq f.at f.at refl) refl
 
-      found_here : (w : Option (List ℕ)) (rest : List OutputRecord) (at : ℕ) (older : Option ℕ) → Holds b (length b) at (bytes_from at older (shown w f ∷ rest)) → Found f w at (written_by bytes at older (shown w f ∷ rest))
+      found_here : (w : Option (List ℕ)) (rest : List OutputRecord) (at : ℕ) (older : Option ℕ) → Holds b (length b) at (bytes_from at older (shown w f ∷ rest))
+          → Found f w at (written_by bytes at older (shown w f ∷ rest))
       found_here w rest at older h =
           let n : ℕ = length (bytes (shown w f) at older) in
           let p = holds_parts b (length b) at (bytes (shown w f) at older) (bytes_from (at + n) (older_after (shown w f) at older) rest) h in
           record { offset = at; older = older; from = omega arith; held = p.0; leads = leads_here w (written_by bytes (at + n) (older_after (shown w f) at older) rest) at older; listed = inl refl }
 
-      found_later : (w : Option (List ℕ)) (x : OutputRecord) (ws : List Written) (at n : ℕ) (older : Option ℕ) → ((record_of x).at == f.at) ≡ false → Found f w (at + n) ws → Found f w at (record { output_record = x; at = at; older = older } ∷ ws)
+      found_later : (w : Option (List ℕ)) (x : OutputRecord) (ws : List Written) (at n : ℕ) (older : Option ℕ) → ((record_of x).at == f.at) ≡ false → Found f w (at + n) ws
+          → Found f w at (record { output_record = x; at = at; older = older } ∷ ws)
       found_later w x ws at n older t i =
           let z : at + n ≤ i.offset = i.from in
           record { offset = i.offset; older = i.older; from = omega arith; held = i.held; leads = rw t i.leads; listed = inr i.listed }
 
-      pub found_made : (rs : List Framed) (at : ℕ) (older : Option ℕ) → AllByRecursion (IsRecord c) rs → In rs f → Holds b (length b) at (bytes_from at older (RecordsAfter rs)) → Found f (new f) at (written_by bytes at older (RecordsAfter rs))
+      pub found_made : (rs : List Framed) (at : ℕ) (older : Option ℕ) → AllByRecursion (IsRecord c) rs → In rs f → Holds b (length b) at (bytes_from at older (RecordsAfter rs))
+          → Found f (new f) at (written_by bytes at older (RecordsAfter rs))
       found_made [] at older a i h = absurd i
       found_made (r ∷ rs) at older a i h = by_place (r.at == f.at) refl i (λ at older i h. found_made rs at older a.1 i h) (output_record_in all whole new r) refl h
         where

@@ -55,7 +55,8 @@ module _ (ch : Change) (key : ℕ × ℕ → ℕ) (stops : Stops) (p q : Parts) 
   also = (has_nodes q b).sound
 
   -- A node whose bytes are the changed ones is paired.
-  changed_paired : (n o : NodeAt) (v x : Value) → Agree p.classes q.classes n.shape.class → IsNode p.classes p.bytes n v → IsNode q.classes q.bytes o x → n.shape ≡ o.shape → changed_bytes ch p.classes p.bytes n ≡ node_bytes q.bytes o
+  changed_paired : (n o : NodeAt) (v x : Value) → Agree p.classes q.classes n.shape.class → IsNode p.classes p.bytes n v → IsNode q.classes q.bytes o x → n.shape ≡ o.shape
+      → changed_bytes ch p.classes p.bytes n ≡ node_bytes q.bytes o
       → Paired p q ch (root n) o
   changed_paired n o v x g i j s e =
       let y : Value = changed ch None v in
@@ -100,7 +101,8 @@ module _ (ch : Change) (key : ℕ × ℕ → ℕ) (stops : Stops) (p q : Parts) 
     paths = λ path. both_to (λ m k r. paired_leaves p q ch sound also stops key targets m k r) (leads_but stops p (root e.node) path) (leads q f.node path) (event_leads e f i j c path);
   }
 
-  each_means : (es fs : List EventAt) → ((e : EventAt) → In es e → In kept e) → ((f : EventAt) → In fs f → In others f) → OneToOne (IsChangedEvent ch p q) es fs → OneToOne (MeansChanged ch stops p q) es fs
+  each_means : (es fs : List EventAt) → ((e : EventAt) → In es e → In kept e) → ((f : EventAt) → In fs f → In others f) → OneToOne (IsChangedEvent ch p q) es fs
+      → OneToOne (MeansChanged ch stops p q) es fs
   each_means [] [] i j c = tt
   each_means [] (f ∷ fs) i j c = absurd c
   each_means (e ∷ es) [] i j c = absurd c

@@ -44,9 +44,9 @@ use Rattle.jfr_laws.proofs.Checkpoints.{have_number}
 use Rattle.jfr_laws.proofs.Entries.{each_append}
 use Rattle.jfr_laws.proofs.Output.{entries_by_number}
 use Rattle.jfr_laws.proofs.Same.{chosen_events, event_of_chunk}
-use Rattle.jfr_rewrite.specs.Changed.{KeepsFit}
 use Rattle.jfr_rewrite.specs.Rewrite.{Rewrite, resized, event_tail, event_bytes, event_there, chained_tail, whole_bytes, new_bytes, written_by}
-use Rattle.jfr_rewrite.specs.Rewritten.{CarriesTail, CarriesRecord, CarriesAll, Describes, Suits, frame_from, metadata_bytes}
+use Rattle.jfr_rewrite.specs.Rewritten.{CarriesTail, CarriesRecord, CarriesAll, frame_from, metadata_bytes}
+use Rattle.jfr_rewrite.proofs.Rewriting.{Rewriting}
 use Rattle.jfr_rewrite.proofs.RecordBack.{new_frame, tail_of, EventRead, event_read}
 use Rattle.jfr_rewrite.proofs.SpelledBack.{SpelledPool, bytes_of_pool, pool_at}
 use Rattle.jfr_rewrite.proofs.CheckpointBack.{CheckpointRead, checkpoint_read, body_of, new_pools_at}
@@ -75,7 +75,8 @@ OnChosen P whole new (Whole r) = P r × (whole r ≡ true) × (new r ≡ None)
 OnChosen P whole new (Rebuilt r x) = P r × (new r ≡ Some x)
 OnChosen P whole new (Chained i l) = ⊤
 
-on_chosen : (P : Framed → Type 0) (all : List Numbered) (whole : Framed → Bool) (new : Framed → Option (List ℕ)) (rs : List Framed) → AllByRecursion P rs → AllByRecursion (OnChosen P whole new) (output_records_in all whole new rs)
+on_chosen : (P : Framed → Type 0) (all : List Numbered) (whole : Framed → Bool) (new : Framed → Option (List ℕ)) (rs : List Framed) → AllByRecursion P rs
+    → AllByRecursion (OnChosen P whole new) (output_records_in all whole new rs)
 on_chosen P all whole new [] a = tt
 on_chosen P all whole new (r ∷ rs) a = one (numbered_at all r.at) (whole r) refl (new r) refl (on_chosen P all whole new rs a.1)
   where
@@ -121,18 +122,30 @@ module _ (all : List Numbered) (whole : Framed → Bool) (new : Framed → Optio
       one None true (Some x) a f = (tt, f a.1)
       one None false z a f = f a
 
-module _ (w : Rewrite) (p : Parts) (a : AreParts p) (keeps : KeepsFit p.classes w.change) (flags fm : List Bool) (m : Classes) (d : Describes (metadata_bytes w.metadata p a.metadata_record) m) (suits : Suits p (kept_by p flags) (marked fm p.entries) m) where
+module _ (given : Rewriting) where
+  abbrev w : Rewrite
+  w = given.rewrite
+
+  abbrev p : Parts
+  p = given.parts
+
+  abbrev a : AreParts p
+  a = given.accepted
+
+  abbrev m : Classes
+  m = given.classes
+
   abbrev pub kept : List EventAt
-  kept = kept_by p flags
+  kept = kept_by p given.flags
 
   abbrev pub remaining : List EntryAt
-  remaining = marked fm p.entries
+  remaining = marked given.marks p.entries
 
   abbrev pub sound : Sound p.classes
   sound = (has_nodes p a).sound
 
   pub suits_kept : laws.Suits p kept m
-  suits_kept = record { sound = suits.sound; agree = suits.agree; before = suits.before; event = λ e i. suits.event e (in_contains kept e i) }
+  suits_kept = record { sound = given.suits.sound; agree = given.suits.agree; before = given.suits.before; event = λ e i. given.suits.event e (in_contains kept e i) }
 
   abbrev pub bytes : OutputRecord → ℕ → Option ℕ → List ℕ
   bytes = new_bytes w p kept remaining
@@ -140,18 +153,18 @@ module _ (w : Rewrite) (p : Parts) (a : AreParts p) (keeps : KeepsFit p.classes 
   -- Where the type and the body of a record are, after its start.
   abbrev pub whole_after : Framed → Option EventAt → ℕ × ℕ
   whole_after r (Some e) = (w.width e.record_of (length (event_tail w p e)), w.width e.record_of (length (event_tail w p e)) + (r.body - r.type_at))
-  whole_after r None = (d.type_after, d.body_after)
+  whole_after r None = (given.describes.type_after, given.describes.body_after)
 
   abbrev pub after : OutputRecord → ℕ × ℕ
   after (Whole r) = whole_after r (event_there kept r)
-  after (Rebuilt r x) = (d.type_after, d.body_after)
+  after (Rebuilt r x) = (given.describes.type_after, given.describes.body_after)
   after (Chained i l) = (0, 0)
 
   abbrev pub width : ℕ → Link → ℕ → Option ℕ → ℕ
   width i l at older = w.width l.frame (length (chained_tail w p remaining i l at older))
 
   abbrev spelled_groups : ℕ → List SpelledPool
-  spelled_groups i = map (spelled_pool w p sound keeps) (groups_of remaining i)
+  spelled_groups i = map (spelled_pool w p sound given.keeps) (groups_of remaining i)
 
   abbrev pub pools_at : ℕ → Option ℕ → ℕ → Link → ℕ
   pools_at at older i l = new_pools_at at (width i l at older) l (distance at older) (length (spelled_groups i))
@@ -169,13 +182,13 @@ module _ (w : Rewrite) (p : Parts) (a : AreParts p) (keeps : KeepsFit p.classes 
   -- A checkpoint.
   chained_is : (i : ℕ) (l : Link) → IsOutputRecordIn p.bytes remaining p.classes (Chained i l) → (at : ℕ) (older : Option ℕ)
       → chained_tail w p remaining i l at older ≡ tail_of p.bytes l.frame (body_of p.bytes l (distance at older) (spelled_groups i))
-  chained_is i l s at older = tail_spelled w p sound keeps l (distance at older) (groups_of remaining i) s.1
+  chained_is i l s at older = tail_spelled w p sound given.keeps l (distance at older) (groups_of remaining i) s.1
 
   -- The entries of its pools are of classes on which both lists agree.
   groups_agree : (i : ℕ) → AllByRecursion (λ e. Agree p.classes m e.class) (flat_map (λ g. g.entries) (groups_of remaining i))
   groups_agree i =
       let these : List EntryAt = filter (λ e. e.checkpoint == i) remaining in
-      subst (AllByRecursion (λ e. Agree p.classes m e.class)) (sym (groups_hold these)) (filter_all (λ e. Agree p.classes m e.class) (λ e. e.checkpoint == i) remaining suits.entry)
+      subst (AllByRecursion (λ e. Agree p.classes m e.class)) (sym (groups_hold these)) (filter_all (λ e. Agree p.classes m e.class) (λ e. e.checkpoint == i) remaining given.suits.entry)
 
   -- It can be written under either list.
   record Can (o : OutputRecord) : Type 0 where
@@ -194,7 +207,7 @@ module _ (w : Rewrite) (p : Parts) (a : AreParts p) (keeps : KeepsFit p.classes 
   chained_back b i l s at older c h =
       let e = chained_is i l s.before at older in
       checkpoint_read p.bytes l (distance at older) (spelled_groups i) (width_with l (tail_spelled_of i l at older)) m b at s.before.0
-      (pools_under w p sound keeps m (groups_of remaining i) s.before.1 s.later.1 (groups_agree i)) (subst (CarriesTail w l.frame) e c) (subst (λ z. Holds b (length b) at (resized w l.frame z)) e h)
+      (pools_under w p sound given.keeps m (groups_of remaining i) s.before.1 s.later.1 (groups_agree i)) (subst (CarriesTail w l.frame) e c) (subst (λ z. Holds b (length b) at (resized w l.frame z)) e h)
 
   chained_read : (b : List ℕ) (i : ℕ) (l : Link) → Can (Chained i l) → (at : ℕ) (older : Option ℕ) → Carried (Chained i l) at older → Holds b (length b) at (bytes (Chained i l) at older)
       → ChainedRead m bytes after width pools b i l at older
@@ -221,13 +234,14 @@ module _ (w : Rewrite) (p : Parts) (a : AreParts p) (keeps : KeepsFit p.classes 
 
   -- An event, or the metadata record.
   pub event_here : (e : EventAt) → In kept e → IsEvent p e
-  event_here e i = event_of_chunk p a kept (chosen_events p flags) e i
+  event_here e i = event_of_chunk p a kept (chosen_events p given.flags) e i
 
   pub event_record : (e : EventAt) → In kept e → IsRecord p.bytes e.record_of
   event_record e i = all_in (IsRecord p.bytes) p.records e.record_of (recorded p a) (event_here e i).listed
 
-  pub event_back : (b : List ℕ) (e : EventAt) (i : In kept e) (at : ℕ) → CarriesTail w e.record_of (event_tail w p e) → Holds b (length b) at (event_bytes w p e) → EventRead w p sound keeps e (event_here e i) (event_record e i) b at
-  event_back b e i at c h = event_read w p sound keeps e (event_here e i) (event_record e i) b at c h
+  pub event_back : (b : List ℕ) (e : EventAt) (i : In kept e) (at : ℕ) → CarriesTail w e.record_of (event_tail w p e) → Holds b (length b) at (event_bytes w p e)
+      → EventRead w p sound given.keeps e (event_here e i) (event_record e i) b at
+  event_back b e i at c h = event_read w p sound given.keeps e (event_here e i) (event_record e i) b at c h
 
   pub found_event : (r : Framed) (e : EventAt) → IsRecord p.bytes r → event_there kept r ≡ Some e → In kept e × (e.record_of ≡ r)
   found_event r e s q =
@@ -245,16 +259,17 @@ module _ (w : Rewrite) (p : Parts) (a : AreParts p) (keeps : KeepsFit p.classes 
 
   -- The bytes that are given for the metadata record are read.
   record GivenRead (b : List ℕ) (at : ℕ) (x : List ℕ) : Type 0 where
-    holds : IsRecord b (frame_from 0 d.type_after d.body_after at (length x))
+    holds : IsRecord b (frame_from 0 given.describes.type_after given.describes.body_after at (length x))
     body : Body
-    metadata : IsMetadata b (frame_from 0 d.type_after d.body_after at (length x)) body m
+    metadata : IsMetadata b (frame_from 0 given.describes.type_after given.describes.body_after at (length x)) body m
 
-  given_read : (z : Option (List ℕ)) → w.metadata ≡ z → (b : List ℕ) (at : ℕ) → Holds b (length b) at (unwrap_or z (record_bytes p.bytes a.metadata_record)) → GivenRead b at (unwrap_or z (record_bytes p.bytes a.metadata_record))
+  given_read : (z : Option (List ℕ)) → w.metadata ≡ z → (b : List ℕ) (at : ℕ) → Holds b (length b) at (unwrap_or z (record_bytes p.bytes a.metadata_record))
+      → GivenRead b at (unwrap_or z (record_bytes p.bytes a.metadata_record))
   given_read z e b at h =
       let x : List ℕ = metadata_bytes w.metadata p a.metadata_record in
       let g : Holds b (length b) at x = subst (λ y. Holds b (length b) at (unwrap_or y (record_bytes p.bytes a.metadata_record))) (sym e) h in
-      let y = d.is_metadata b at g.within g.bytes in
-      subst (λ y. GivenRead b at (unwrap_or y (record_bytes p.bytes a.metadata_record))) e (record { holds = d.is_record b at g.within g.bytes; body = y.0; metadata = y.1 })
+      let y = given.describes.is_metadata b at g.within g.bytes in
+      subst (λ y. GivenRead b at (unwrap_or y (record_bytes p.bytes a.metadata_record))) e (record { holds = given.describes.is_record b at g.within g.bytes; body = y.0; metadata = y.1 })
 
   -- The metadata record is no event.
   no_event_there : event_there kept a.metadata_record ≡ None
@@ -291,8 +306,9 @@ module _ (w : Rewrite) (p : Parts) (a : AreParts p) (keeps : KeepsFit p.classes 
     fields : is_event_class m r.type_id ≡ true → HasFields b m (frame_from r.type_id heads.0 heads.1 at size)
 
   -- What is read under the chunk's classes is read so under the output's.
-  pub read_under : (id : ℕ) (b : List ℕ) (end at : ℕ) (v : Value) (to : ℕ) → is_event_class m id ≡ true → Reads (value_format p.classes (inline id)) b end at v to → Reads (value_format m (inline id)) b end at v to
-  read_under id b end at v to t r = subst (λ (g : Format Value). Reads g b end at v to) (value_agree p.classes m (inline id) (suits.agree id t)) r
+  pub read_under : (id : ℕ) (b : List ℕ) (end at : ℕ) (v : Value) (to : ℕ) → is_event_class m id ≡ true → Reads (value_format p.classes (inline id)) b end at v to
+      → Reads (value_format m (inline id)) b end at v to
+  read_under id b end at v to t r = subst (λ (g : Format Value). Reads g b end at v to) (value_agree p.classes m (inline id) (given.suits.agree id t)) r
 
   -- What is built anew is the metadata record.
   not_anew : (r : Framed) → r ≡ a.metadata_record → written_anew w.metadata p r ≡ None → w.metadata ≡ None
@@ -312,9 +328,9 @@ module _ (w : Rewrite) (p : Parts) (a : AreParts p) (keeps : KeepsFit p.classes 
       let type : r.type_id ≡ 0 = ap (λ (z : Framed). z.type_id) f ∙ a.metadata_there.type_is in
       let no_event : is_event_class m r.type_id ≡ false = ap (is_event_class m) type ∙ no_metadata_event m in
       let x = given_read None (not_anew r f u) b at (subst (λ z. Holds b (length b) at (record_bytes p.bytes z)) f h) in
-      let y : IsRecord b (frame_from 0 d.type_after d.body_after at (length (record_bytes p.bytes r))) =
-      subst (λ z. IsRecord b (frame_from 0 d.type_after d.body_after at (length (record_bytes p.bytes z)))) (sym f) x.holds in
-      record { holds = subst (λ id. IsRecord b (frame_from id d.type_after d.body_after at (length (record_bytes p.bytes r)))) (sym type) y; fields = λ t. absurd (clash (is_event_class m r.type_id) t no_event) }
+      let y : IsRecord b (frame_from 0 given.describes.type_after given.describes.body_after at (length (record_bytes p.bytes r))) =
+      subst (λ z. IsRecord b (frame_from 0 given.describes.type_after given.describes.body_after at (length (record_bytes p.bytes z)))) (sym f) x.holds in
+      record { holds = subst (λ id. IsRecord b (frame_from id given.describes.type_after given.describes.body_after at (length (record_bytes p.bytes r)))) (sym type) y; fields = λ t. absurd (clash (is_event_class m r.type_id) t no_event) }
 
   -- One that is built anew.
   anew_here : (r : Framed) (x : List ℕ) → IsRecord p.bytes r → written_anew w.metadata p r ≡ Some x → w.metadata ≡ Some x
@@ -328,7 +344,7 @@ module _ (w : Rewrite) (p : Parts) (a : AreParts p) (keeps : KeepsFit p.classes 
   ss = output_records w.metadata p kept
 
   is_ready : Ready p remaining (output_records_in (all_links p) (is_kept_or_metadata p kept) none_anew p.records)
-  is_ready = ready p a (is_kept_or_metadata p kept) none_anew (λ r x i e. cc) fm
+  is_ready = ready p a (is_kept_or_metadata p kept) none_anew (λ r x i e. cc) given.marks
 
   pub order : chained_of ss ≡ all_links p
   order = same_chain (all_links p) (is_kept_or_metadata p kept) (written_anew w.metadata p) p.records ∙ is_ready.order
@@ -343,9 +359,10 @@ module _ (w : Rewrite) (p : Parts) (a : AreParts p) (keeps : KeepsFit p.classes 
   can_all : AllByRecursion (OnChained Can) ss
   can_all =
       let plain : List OutputRecord = output_records_in (all_links p) (is_kept_or_metadata p kept) none_anew p.records in
-      on_chained (all_links p) (is_kept_or_metadata p kept) (written_anew w.metadata p) Can p.records (can_each plain is_ready.valid (records_too p.bytes p.classes m remaining suits.entry plain is_ready.valid))
+      on_chained (all_links p) (is_kept_or_metadata p kept) (written_anew w.metadata p) Can p.records (can_each plain is_ready.valid (records_too p.bytes p.classes m remaining given.suits.entry plain is_ready.valid))
 
-  each_read : (b : List ℕ) (xs : List OutputRecord) (at : ℕ) (older : Option ℕ) → AllByRecursion (OnChained Can) xs → AllByRecursion OnEach xs → CarriedFrom at older xs → AllRead m bytes after width pools b at older xs
+  each_read : (b : List ℕ) (xs : List OutputRecord) (at : ℕ) (older : Option ℕ) → AllByRecursion (OnChained Can) xs → AllByRecursion OnEach xs → CarriedFrom at older xs
+      → AllRead m bytes after width pools b at older xs
   each_read b [] at older s t c = tt
   each_read b (Whole r ∷ xs) at older s t c =
       ((λ h. (whole_by b r t.0.0 t.0.1 t.0.2 at (event_there kept r) refl c.0 h).holds), each_read b xs (at + length (bytes (Whole r) at older)) older s.1 t.1 c.1)
@@ -367,7 +384,8 @@ module _ (w : Rewrite) (p : Parts) (a : AreParts p) (keeps : KeepsFit p.classes 
   abbrev frames : ℕ → Option ℕ → List OutputRecord → List Framed
   frames at older xs = map (frame_of m bytes after width pools) (written_by bytes at older xs)
 
-  fields_each : (b : List ℕ) (xs : List OutputRecord) (at : ℕ) (older : Option ℕ) → AllByRecursion (OnChained Can) xs → AllByRecursion OnEach xs → CarriedFrom at older xs → Holds b (length b) at (bytes_from m bytes after width pools at older xs)
+  fields_each : (b : List ℕ) (xs : List OutputRecord) (at : ℕ) (older : Option ℕ) → AllByRecursion (OnChained Can) xs → AllByRecursion OnEach xs → CarriedFrom at older xs
+      → Holds b (length b) at (bytes_from m bytes after width pools at older xs)
       → AllByRecursion (IfPasses is_event (HasFields b m)) (frames at older xs)
   fields_each b [] at older s t c h = tt
   fields_each b (Whole r ∷ xs) at older s t c h =
@@ -383,7 +401,8 @@ module _ (w : Rewrite) (p : Parts) (a : AreParts p) (keeps : KeepsFit p.classes 
       let q = holds_parts b (length b) at (bytes (Chained i l) at older) (bytes_from m bytes after width pools (at + k) (Some at) xs) h in
       ((λ e. absurd (clash (is_event_class m l.frame.type_id) e (no_checkpoint_event m l.frame s.0.before.0.is_checkpoint))), fields_each b xs (at + k) (Some at) s.1 t.1 c.1 q.1)
 
-  pub all_fields : CarriesAll w p kept remaining → (b : List ℕ) → Holds b (length b) 68 (bytes_from m bytes after width pools 68 None ss) → AllByRecursion (HasFields b m) (filter is_event (frames 68 None ss))
+  pub all_fields : CarriesAll w p kept remaining → (b : List ℕ) → Holds b (length b) 68 (bytes_from m bytes after width pools 68 None ss)
+      → AllByRecursion (HasFields b m) (filter is_event (frames 68 None ss))
   all_fields c b h = passes_all (HasFields b m) is_event (frames 68 None ss) (fields_each b ss 68 None can_all chosen_all c h)
 
   -- The entries are the remaining ones, checkpoint by checkpoint, changed.
@@ -393,8 +412,9 @@ module _ (w : Rewrite) (p : Parts) (a : AreParts p) (keeps : KeepsFit p.classes 
       heads : (x y : Numbered) (xs ys : List Numbered) → x ∷ xs ≡ y ∷ ys → x ≡ y
       heads x y xs ys e = cc
 
-  entries_each : (b : List ℕ) (xs : List OutputRecord) (ls : List Link) (j at : ℕ) (older : Option ℕ) → AllByRecursion (OnChained Can) xs → AllByRecursion OnEach xs → CarriedFrom at older xs → Holds b (length b) at (bytes_from m bytes after width pools at older xs)
-      → chained_of xs ≡ enumerate_from j ls → Each (Renewed w p sound keeps b) (entries_by_number remaining (chained_of xs)) (entries_at m bytes after width pools j at older xs)
+  entries_each : (b : List ℕ) (xs : List OutputRecord) (ls : List Link) (j at : ℕ) (older : Option ℕ) → AllByRecursion (OnChained Can) xs → AllByRecursion OnEach xs → CarriedFrom at older xs
+      → Holds b (length b) at (bytes_from m bytes after width pools at older xs)
+      → chained_of xs ≡ enumerate_from j ls → Each (Renewed w p sound given.keeps b) (entries_by_number remaining (chained_of xs)) (entries_at m bytes after width pools j at older xs)
   entries_each b [] ls j at older s t c h o = tt
   entries_each b (Whole r ∷ xs) ls j at older s t c h o =
       let k : ℕ = length (bytes (Whole r) at older) in
@@ -416,10 +436,10 @@ module _ (w : Rewrite) (p : Parts) (a : AreParts p) (keeps : KeepsFit p.classes 
       let gs : List Group = groups_of remaining i in
       let these : List EntryAt = filter (λ e. e.checkpoint == i) remaining in
       let nums : AllByRecursion (λ e. e.checkpoint ≡ j) (flat_map (λ g. g.entries) gs) = subst (AllByRecursion (λ e. e.checkpoint ≡ j)) (sym (groups_hold these)) (subst (λ z. AllByRecursion (λ e. e.checkpoint ≡ z) these) f.0 (have_number i remaining)) in
-      let g = groups_renewed w p sound keeps b (at + k) j gs 0 (pools_at at older i l) s.0.before.1 nums held in
-      each_append (Renewed w p sound keeps b) these (entries_from j 0 (pools at older i l)) (entries_by_number remaining (chained_of xs)) (entries_at m bytes after width pools (j + 1) (at + k) (Some at) xs)
-      (subst (λ z. Each (Renewed w p sound keeps b) z (entries_from j 0 (pools at older i l))) (groups_hold these) g) (entries_each b xs ls (j + 1) (at + k) (Some at) s.1 t.1 c.1 q.1 f.1)
+      let g = groups_renewed w p sound given.keeps b (at + k) j gs 0 (pools_at at older i l) s.0.before.1 nums held in
+      each_append (Renewed w p sound given.keeps b) these (entries_from j 0 (pools at older i l)) (entries_by_number remaining (chained_of xs)) (entries_at m bytes after width pools (j + 1) (at + k) (Some at) xs)
+      (subst (λ z. Each (Renewed w p sound given.keeps b) z (entries_from j 0 (pools at older i l))) (groups_hold these) g) (entries_each b xs ls (j + 1) (at + k) (Some at) s.1 t.1 c.1 q.1 f.1)
 
   pub all_entries : CarriesAll w p kept remaining → (b : List ℕ) (ls : List Link) → Holds b (length b) 68 (bytes_from m bytes after width pools 68 None ss) → chained_of ss ≡ enumerate_from 0 ls
-      → Each (Renewed w p sound keeps b) (entries_by_number remaining (chained_of ss)) (entries_at m bytes after width pools 0 68 None ss)
+      → Each (Renewed w p sound given.keeps b) (entries_by_number remaining (chained_of ss)) (entries_at m bytes after width pools 0 68 None ss)
   all_entries c b ls h o = entries_each b ss ls 0 68 None can_all chosen_all c h o

@@ -50,7 +50,8 @@ module _ (p q : Parts) (ch : Change) where
     child_by h None (Some o) None (Some w) i j e = cc
     child_by h (Some n) None (Some v) None i j e = cc
 
-    child_paired : (n : Held) (o : NodeAt) (st : Step) → Paired n o → Both (λ m k. Paired (record { holder = stepped ch n.holder n.node.shape st; node = m }) k) (child p.classes p.bytes n.node st) (child q.classes q.bytes o st)
+    child_paired : (n : Held) (o : NodeAt) (st : Step) → Paired n o
+        → Both (λ m k. Paired (record { holder = stepped ch n.holder n.node.shape st; node = m }) k) (child p.classes p.bytes n.node st) (child q.classes q.bytes o st)
     child_paired n o st r =
         child_by (stepped ch n.holder n.node.shape st) (child p.classes p.bytes n.node st) (child q.classes q.bytes o st) (part r.value st) (part (changed ch n.holder r.value) st)
         (child_is p.classes p.bytes n.node r.value sound r.before st) (child_is q.classes q.bytes o (changed ch n.holder r.value) also r.now st)
@@ -78,7 +79,8 @@ module _ (p q : Parts) (ch : Change) where
     entry_paired None (Some f) r = absurd r
     entry_paired (Some e) None r = absurd r
 
-    follow_paired : (n : Held) (o : NodeAt) → Paired n o → ((t : ℕ × ℕ) → target_but stops p n ≡ Some t → PairedEntries key t) → Both (λ m k. Paired (root m) k) (node_after stops p n steps.Follow) (follow q o)
+    follow_paired : (n : Held) (o : NodeAt) → Paired n o → ((t : ℕ × ℕ) → target_but stops p n ≡ Some t → PairedEntries key t)
+        → Both (λ m k. Paired (root m) k) (node_after stops p n steps.Follow) (follow q o)
     follow_paired n o r h =
         subst (λ z. Both R (node_after stops p n steps.Follow) (option_and_then (λ t. option_map entry_node (in_force q.entries t)) z)) (sym (target_paired n o r)) (by_target (target_but stops p n) h)
       where

@@ -77,7 +77,8 @@ module _ (w : Rewrite) (p : Parts) (sound : Sound p.classes) (keeps : KeepsFit p
         value = subst (λ z. Exactly (value_format p.classes z) (bytes_of (new_value e)) (new_value e)) shape (fits_good p.classes (new_value e) sound (changed_fits w.change p.classes keeps None v f));
       }
 
-  entries_spelled : (es : List EntryAt) (class : ℕ) → AllByRecursion (λ e. IsEntryIn p.bytes p.classes e × (e.class ≡ class)) es → flat_map (entry_bytes w p) es ≡ flat_map bytes_of_entry (map spelled es)
+  entries_spelled : (es : List EntryAt) (class : ℕ) → AllByRecursion (λ e. IsEntryIn p.bytes p.classes e × (e.class ≡ class)) es
+      → flat_map (entry_bytes w p) es ≡ flat_map bytes_of_entry (map spelled es)
   entries_spelled [] class a = refl
   entries_spelled (e ∷ es) class a = ap (λ z. z ++ flat_map (entry_bytes w p) es) (entry_spelled e a.0.0) ∙ ap (λ z. bytes_of_entry (spelled e) ++ z) (entries_spelled es class a.1)
 
@@ -105,19 +106,22 @@ module _ (w : Rewrite) (p : Parts) (sound : Sound p.classes) (keeps : KeepsFit p
           value = subst (λ (f : Format Value). Exactly f (bytes_of (spelled e).value) (spelled e).value) (value_agree p.classes m (inline e.class) g) i.value;
         }
 
-    each_under : (es : List EntryAt) (class : ℕ) → AllByRecursion (λ e. IsEntryIn p.bytes p.classes e × (e.class ≡ class)) es → AllByRecursion (λ e. IsEntryIn p.bytes m e × (e.class ≡ class)) es → AgreeEach es
+    each_under : (es : List EntryAt) (class : ℕ) → AllByRecursion (λ e. IsEntryIn p.bytes p.classes e × (e.class ≡ class)) es → AllByRecursion (λ e. IsEntryIn p.bytes m e × (e.class ≡ class)) es
+        → AgreeEach es
         → AllByRecursion (λ e. IsSpelled m e × (e.class ≡ class)) (map spelled es)
     each_under [] class a b g = tt
     each_under (e ∷ es) class a b g = ((spelled_under e a.0.0 b.0.0 g.0, a.0.1), each_under es class a.1 b.1 g.1)
 
-    pub pools_under : (gs : List Group) → AllByRecursion (IsGroupIn p.bytes p.classes) gs → AllByRecursion (IsGroupIn p.bytes m) gs → AgreeEach (flat_map (λ g. g.entries) gs) → AllByRecursion (IsSpelledPool m) (map spelled_pool gs)
+    pub pools_under : (gs : List Group) → AllByRecursion (IsGroupIn p.bytes p.classes) gs → AllByRecursion (IsGroupIn p.bytes m) gs → AgreeEach (flat_map (λ g. g.entries) gs)
+        → AllByRecursion (IsSpelledPool m) (map spelled_pool gs)
     pools_under [] a b g = tt
     pools_under (x ∷ gs) a b g =
         let h = all_parts (λ e. Agree p.classes m e.class) x.entries (flat_map (λ g. g.entries) gs) g in
         ((b.0.0, each_under x.entries x.class a.0.1 b.0.1 h.0), pools_under gs a.1 b.1 h.1)
 
   -- A checkpoint after its size.
-  pub tail_spelled : (l : Link) (delta : ℕ) (gs : List Group) → AllByRecursion (IsGroupIn p.bytes p.classes) gs → checkpoint_tail w p l delta gs ≡ tail_of p.bytes l.frame (body_of p.bytes l delta (map spelled_pool gs))
+  pub tail_spelled : (l : Link) (delta : ℕ) (gs : List Group) → AllByRecursion (IsGroupIn p.bytes p.classes) gs
+      → checkpoint_tail w p l delta gs ≡ tail_of p.bytes l.frame (body_of p.bytes l delta (map spelled_pool gs))
   tail_spelled l delta gs a =
       let tail : ℕ → List ℕ → List ℕ = λ n items. slice_range p.bytes l.frame.type_at l.frame.body ++ (slice_range p.bytes l.frame.body l.delta_at ++ (spell delta ++ (slice_range p.bytes l.delta_end (l.delta_end + 1) ++ (spell n ++ items)))) in
       ap (tail (length gs)) (groups_spelled gs a) ∙ ap (λ n. tail n (flat_map bytes_of_pool (map spelled_pool gs))) (sym (length-map gs spelled_pool))
@@ -130,7 +134,8 @@ module _ (w : Rewrite) (p : Parts) (sound : Sound p.classes) (keeps : KeepsFit p
     pub value : changed_bytes w.change p.classes p.bytes (entry_node e) ≡ node_bytes b (entry_node f)
 
   module _ (b : List ℕ) (end : ℕ) (checkpoint : ℕ) where
-    entry_renewed : (e : EntryAt) (pool class at : ℕ) → IsEntryIn p.bytes p.classes e → e.class ≡ class → e.checkpoint ≡ checkpoint → Holds b end at (bytes_of_entry (spelled e)) → Renewed b e (entry_of checkpoint pool class (constant_at at (spelled e)))
+    entry_renewed : (e : EntryAt) (pool class at : ℕ) → IsEntryIn p.bytes p.classes e → e.class ≡ class → e.checkpoint ≡ checkpoint → Holds b end at (bytes_of_entry (spelled e))
+        → Renewed b e (entry_of checkpoint pool class (constant_at at (spelled e)))
     entry_renewed e pool class at s c n h =
         let q = holds_parts b end at (spelled e).key_bytes (bytes_of (spelled e).value) h in
         let l : at + length (spelled e).key_bytes + length (bytes_of (spelled e).value) ≡ at + length (bytes_of_entry (spelled e)) = omega (arith, length-append (spelled e).key_bytes (bytes_of (spelled e).value)) in
@@ -141,7 +146,8 @@ module _ (w : Rewrite) (p : Parts) (sound : Sound p.classes) (keeps : KeepsFit p
           value = changed_here e s ∙ (sym q.1.bytes ∙ ap (slice_range b (at + length (spelled e).key_bytes)) l);
         }
 
-    entries_renewed : (es : List EntryAt) (pool class at : ℕ) → AllByRecursion (λ e. IsEntryIn p.bytes p.classes e × (e.class ≡ class)) es → AllByRecursion (λ e. e.checkpoint ≡ checkpoint) es → Holds b end at (flat_map bytes_of_entry (map spelled es))
+    entries_renewed : (es : List EntryAt) (pool class at : ℕ) → AllByRecursion (λ e. IsEntryIn p.bytes p.classes e × (e.class ≡ class)) es → AllByRecursion (λ e. e.checkpoint ≡ checkpoint) es
+        → Holds b end at (flat_map bytes_of_entry (map spelled es))
         → Each (Renewed b) es (map (entry_of checkpoint pool class) (placed_each bytes_of_entry constant_at at (map spelled es)))
     entries_renewed [] pool class at s n h = tt
     entries_renewed (e ∷ es) pool class at s n h =
@@ -149,7 +155,8 @@ module _ (w : Rewrite) (p : Parts) (sound : Sound p.classes) (keeps : KeepsFit p
         (entry_renewed e pool class at s.0.0 s.0.1 n.0 q.0, entries_renewed es pool class (at + length (bytes_of_entry (spelled e))) s.1 n.1 q.1)
 
     -- The entries of the pools that are read are those of the groups.
-    pub groups_renewed : (gs : List Group) (pool at : ℕ) → AllByRecursion (IsGroupIn p.bytes p.classes) gs → AllByRecursion (λ e. e.checkpoint ≡ checkpoint) (flat_map (λ g. g.entries) gs) → Holds b end at (flat_map bytes_of_pool (map spelled_pool gs))
+    pub groups_renewed : (gs : List Group) (pool at : ℕ) → AllByRecursion (IsGroupIn p.bytes p.classes) gs → AllByRecursion (λ e. e.checkpoint ≡ checkpoint) (flat_map (λ g. g.entries) gs)
+        → Holds b end at (flat_map bytes_of_pool (map spelled_pool gs))
         → Each (Renewed b) (flat_map (λ g. g.entries) gs) (entries_from checkpoint pool (placed_each bytes_of_pool pool_at at (map spelled_pool gs)))
     groups_renewed [] pool at s n h = tt
     groups_renewed (g ∷ gs) pool at s n h =

@@ -39,7 +39,8 @@ pub record Resized (width : ℕ) (c b : List ℕ) (r : Framed) (at : ℕ) (body 
   pub held : Holds b (at + length (sized width (tail_of c r body))) (at + (width + (r.body - r.type_at))) body
   pub whole : length (sized width (tail_of c r body)) ≡ width + (r.body - r.type_at) + length body
 
-pub record_resized : (width : ℕ) (c b : List ℕ) (r : Framed) (at : ℕ) (body : List ℕ) → Carries width (length (tail_of c r body)) → IsRecord c r → Holds b (length b) at (sized width (tail_of c r body))
+pub record_resized : (width : ℕ) (c b : List ℕ) (r : Framed) (at : ℕ) (body : List ℕ) → Carries width (length (tail_of c r body)) → IsRecord c r
+    → Holds b (length b) at (sized width (tail_of c r body))
     → Resized width c b r at body
 record_resized width c b r at body z s h =
     let a2 : r.type_at ≤ r.body = s.type_spelled.order in

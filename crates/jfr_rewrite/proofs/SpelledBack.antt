@@ -49,7 +49,8 @@ abbrev pub pool_at : ℕ → SpelledPool → PoolAt
 pool_at at g = record { class = g.class; constants = placed_each bytes_of_entry constant_at (at + length (spell g.class) + length (spell (length g.entries))) g.entries }
 
 module _ (k : Classes) (b : List ℕ) (end : ℕ) where
-  entry_reads : (e : Spelled) (class at : ℕ) → IsSpelled k e → e.class ≡ class → Holds b end at (bytes_of_entry e) → Reads (constant_format k class) b end at (constant_at at e) (at + length (bytes_of_entry e))
+  entry_reads : (e : Spelled) (class at : ℕ) → IsSpelled k e → e.class ≡ class → Holds b end at (bytes_of_entry e)
+      → Reads (constant_format k class) b end at (constant_at at e) (at + length (bytes_of_entry e))
   entry_reads e class at s w h =
       let p = holds_parts b end at e.key_bytes (bytes_of e.value) h in
       let m : ℕ = at + length e.key_bytes in

@@ -35,7 +35,7 @@ pub fn sizes_are_carried()
 
 /// The metadata record that `new_metadata` gives an output, or the chunk's if it gives none, describes the
 /// remaining classes. They suit what remains if all entries that remain are reached.
-#[tactic(auto, using(crate::proofs::Given::describes_remaining, crate::proofs::Given::suits_remaining))]
+#[tactic(auto, using(crate::proofs::Remaining::describes_remaining, crate::proofs::Remaining::suits_remaining))]
 pub fn remaining_classes_are_described()
     ensures describes { (names : Names) (p : Parts) (kept : List EventAt) → (a : AreParts p) → AreEvents p kept → Describes (metadata_bytes (new_metadata names p kept) p a.metadata_record) (remaining_classes names p kept) }
     ensures suits { (names : Names) (p : Parts) (kept : List EventAt) (marks : List Bool) → AreParts p → AreEvents p kept → ((n : ℕ) → IsMarked marks n → Reached p kept n) → Suits p kept (marked marks p.entries) (remaining_classes names p kept) }
