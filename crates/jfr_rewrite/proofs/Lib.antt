@@ -1,0 +1,16 @@
+pub mod ChangeLaws
+pub mod Sizes
+pub mod Carried
+pub mod RecordBack
+pub mod SpelledBack
+pub mod CheckpointBack
+pub mod Pools
+pub mod Made
+pub mod Rewriting
+pub mod Output
+pub mod Events
+pub mod Accepted
+pub mod InForce
+pub mod PathLaws
+pub mod MeaningLaws
+pub mod Remaining
