@@ -7,6 +7,7 @@ use Rattle.jfr_base.specs.Formats.{Exactly}
 use Rattle.jfr_base.specs.Integer.{worth_within}
 use Rattle.jfr_layout.specs.Classes.{Classes, Sound, kind_of}
 use Rattle.jfr_layout.specs.declared.shape.Shape.{Shape}
+use Rattle.jfr_value.specs.declared.leaf.Holder.{Holder}
 use Rattle.jfr_value.specs.declared.leaf.LeafKind.{LeafKind}
 use Rattle.jfr_value.specs.declared.leaf.LeafKind.TheVariants as leaf_kinds
 use Rattle.jfr_value.specs.declared.node.Step.{Step}
@@ -14,11 +15,11 @@ use Rattle.jfr_value.specs.declared.node.Step.TheVariants as steps
 use Rattle.jfr_value.specs.Values.{Value, Values, Single, Group, Nil, Cons, list_of, shape_of, shapes_of, bytes_of, IsSingle, IsHead, Fits, AllFit}
 use Rattle.jfr_value.specs.Reading.{value_format}
 use Rattle.jfr_value.specs.Nodes.{picked}
-use Rattle.jfr_value.specs.Leaves.{leaves_at, leaves_from}
+use Rattle.jfr_value.specs.Leaves.{LeafAt, leaves_at, leaves_from, part_holder}
 use Rattle.jfr_value.proofs.NodeLaws.{part}
 use Rattle.jfr_value.proofs.DepthLaws.{fits_good}
 use Rattle.jfr_value.proofs.LeafLaws.{base_key}
-use Rattle.jfr_rewrite.specs.Changed.{Holder, part_holder, plain, Change, changed, changed_all, KeepsFit, content, content_of, changed_leaf, leaves_changed, leaves_changed_from, IsReadChanged}
+use Rattle.jfr_rewrite.specs.Changed.{plain, Change, changed, changed_all, KeepsFit, content, content_of, changed_leaf, IsReadChanged}
 
 module _ (ch : Change) where
   pub changed_shape : (x : Option Holder) (v : Value) → shape_of (changed ch x v) ≡ shape_of v
@@ -89,47 +90,55 @@ module _ (ch : Change) where
       none_part s st ∙ ap (option_map (changed ch (stepped x s st))) (sym (none_part s st))
 
   module _ (k : Classes) where
-    -- A single value as a change sees it is the same as its leaf.
-    single_leaf : (x : Option Holder) (at : ℕ) (s : Shape) (kind : LeafKind) (b : List ℕ) (key : Option ℕ) → IsSingle k s kind b key
-        → content_of s.class (ch x s (plain kind b key)) ≡ changed_leaf ch x (record { kind = kind; class = s.class; at = at; spelled = b })
-    single_leaf x at s kind b key (inl i) = by_kind (sym i.4)
-      where
-        by_kind : leaf_kinds.Key i.2 ≡ kind → content_of s.class (ch x s (plain kind b key)) ≡ changed_leaf ch x (record { kind = kind; class = s.class; at = at; spelled = b })
-        by_kind e =
-            subst (λ z. content_of s.class (ch x s (plain z b key)) ≡ changed_leaf ch x (record { kind = z; class = s.class; at = at; spelled = b })) e
-            (λ j. content_of s.class (ch x (record { class = s.class; constant = i.1 j; array = i.0 j }) (plain (leaf_kinds.Key i.2) b (i.5 j))))
-    single_leaf x at s kind b key (inr i) = by_kind (sym i.4)
-      where
-        by_kind : leaf_kinds.Base (kind_of i.2.name) ≡ kind → content_of s.class (ch x s (plain kind b key)) ≡ changed_leaf ch x (record { kind = kind; class = s.class; at = at; spelled = b })
-        by_kind e =
-            subst (λ z. content_of s.class (ch x s (plain z b key)) ≡ changed_leaf ch x (record { kind = z; class = s.class; at = at; spelled = b })) e
-            (λ j. content_of s.class (ch x (record { class = s.class; constant = i.1 j; array = i.0 j }) (plain (leaf_kinds.Base (kind_of i.2.name)) b (sym (base_key (kind_of i.2.name) b key i.5) j))))
+    abbrev leaf : Option Holder → ℕ → Shape → LeafKind → List ℕ → LeafAt
+    leaf h at s kind b = record { kind = kind; class = s.class; holder = h; at = at; spelled = b }
 
-    head_content : (to : ℕ) (s : Shape) (h : List ℕ)
-        → map content (if s.array then record { kind = leaf_kinds.Count (worth_within 8 h); class = s.class; at = to; spelled = h } ∷ [] else [])
-        ≡ (if s.array then record { kind = leaf_kinds.Count (worth_within 8 h); class = s.class; spelled = h } ∷ [] else [])
-    head_content to s h = by_mark s.array
+    -- A single value as a change sees it is the same as its leaf.
+    single_leaf : (h : Option Holder) (at : ℕ) (s : Shape) (kind : LeafKind) (b : List ℕ) (key : Option ℕ) → IsSingle k s kind b key
+        → content_of s.class (ch h s (plain kind b key)) ≡ changed_leaf ch (leaf h at s kind b)
+    single_leaf h at s kind b key (inl i) = by_kind (sym i.4)
       where
-        by_mark : (t : Bool)
-            → map content (if t then record { kind = leaf_kinds.Count (worth_within 8 h); class = s.class; at = to; spelled = h } ∷ [] else [])
-            ≡ (if t then record { kind = leaf_kinds.Count (worth_within 8 h); class = s.class; spelled = h } ∷ [] else [])
+        by_kind : leaf_kinds.Key i.2 ≡ kind → content_of s.class (ch h s (plain kind b key)) ≡ changed_leaf ch (leaf h at s kind b)
+        by_kind e =
+            subst (λ z. content_of s.class (ch h s (plain z b key)) ≡ changed_leaf ch (leaf h at s z b)) e
+            (λ j. content_of s.class (ch h (record { class = s.class; constant = i.1 j; array = i.0 j }) (plain (leaf_kinds.Key i.2) b (i.5 j))))
+    single_leaf h at s kind b key (inr i) = by_kind (sym i.4)
+      where
+        by_kind : leaf_kinds.Base (kind_of i.2.name) ≡ kind → content_of s.class (ch h s (plain kind b key)) ≡ changed_leaf ch (leaf h at s kind b)
+        by_kind e =
+            subst (λ z. content_of s.class (ch h s (plain z b key)) ≡ changed_leaf ch (leaf h at s z b)) e
+            (λ j. content_of s.class (ch h (record { class = s.class; constant = i.1 j; array = i.0 j })
+            (plain (leaf_kinds.Base (kind_of i.2.name)) b (sym (base_key (kind_of i.2.name) b key i.5) j))))
+
+    -- An array's count.
+    abbrev head_leaves : Option Holder → ℕ → Shape → List ℕ → List LeafAt
+    head_leaves h at s head = if s.array then leaf h at s (leaf_kinds.Count (worth_within 8 head)) head ∷ [] else []
+
+    head_content : (h : Option Holder) (at to : ℕ) (s : Shape) (head : List ℕ) → map content (head_leaves h to s head) ≡ map (changed_leaf ch) (head_leaves h at s head)
+    head_content h at to s head = by_mark s.array
+      where
+        by_mark : (t : Bool) → map content (if t then leaf h to s (leaf_kinds.Count (worth_within 8 head)) head ∷ [] else [])
+            ≡ map (changed_leaf ch) (if t then leaf h at s (leaf_kinds.Count (worth_within 8 head)) head ∷ [] else [])
         by_mark true = refl
         by_mark false = refl
 
-    mutual
-      pub changed_leaves : (x : Option Holder) (v : Value) (at to : ℕ) → Fits k v → map content (leaves_at to (changed ch x v)) ≡ leaves_changed ch x at v
-      changed_leaves x (Single s kind b key) at to f = ap (λ z. z ∷ []) (single_leaf x at s kind b key f)
-      changed_leaves x (Group s h vs) at to f =
-          map-append content (if s.array then record { kind = leaf_kinds.Count (worth_within 8 h); class = s.class; at = to; spelled = h } ∷ [] else []) (leaves_from (to + length h) (changed_all ch (part_holder s x) vs))
-          ∙ (ap (λ z. z ++ map content (leaves_from (to + length h) (changed_all ch (part_holder s x) vs))) (head_content to s h)
-          ∙ ap (λ z. (if s.array then record { kind = leaf_kinds.Count (worth_within 8 h); class = s.class; spelled = h } ∷ [] else []) ++ z) (changed_from (part_holder s x) vs (at + length h) (to + length h) f.1))
+    both_parts : (es fs xs ys : List LeafAt) → map content es ≡ map (changed_leaf ch) fs → map content xs ≡ map (changed_leaf ch) ys → map content (es ++ xs) ≡ map (changed_leaf ch) (fs ++ ys)
+    both_parts es fs xs ys e f =
+        map-append content es xs ∙ (ap (λ z. z ++ map content xs) e ∙ (ap (λ z. map (changed_leaf ch) fs ++ z) f ∙ sym (map-append (changed_leaf ch) fs ys)))
 
-      pub changed_from : (g : ℕ → Option Holder) (vs : Values) (at to : ℕ) → AllFit k vs → map content (leaves_from to (changed_all ch g vs)) ≡ leaves_changed_from ch g at vs
+    mutual
+      pub changed_leaves : (h : Option Holder) (v : Value) (at to : ℕ) → Fits k v → map content (leaves_at h to (changed ch h v)) ≡ map (changed_leaf ch) (leaves_at h at v)
+      changed_leaves h (Single s kind b key) at to f = ap (λ z. z ∷ []) (single_leaf h at s kind b key f)
+      changed_leaves h (Group s head vs) at to f =
+          both_parts (head_leaves h to s head) (head_leaves h at s head) (leaves_from (part_holder s h) (to + length head) (changed_all ch (part_holder s h) vs)) (leaves_from (part_holder s h) (at + length head) vs)
+          (head_content h at to s head) (changed_from (part_holder s h) vs (at + length head) (to + length head) f.1)
+
+      pub changed_from : (g : ℕ → Option Holder) (vs : Values) (at to : ℕ) → AllFit k vs → map content (leaves_from g to (changed_all ch g vs)) ≡ map (changed_leaf ch) (leaves_from g at vs)
       changed_from g Nil at to f = refl
       changed_from g (Cons v vs) at to f =
-          map-append content (leaves_at to (changed ch (g zero) v)) (leaves_from (to + length (bytes_of (changed ch (g zero) v))) (changed_all ch (λ i. g (suc i)) vs))
-          ∙ (ap (λ z. z ++ map content (leaves_from (to + length (bytes_of (changed ch (g zero) v))) (changed_all ch (λ i. g (suc i)) vs))) (changed_leaves (g zero) v at to f.0)
-          ∙ ap (λ z. leaves_changed ch (g zero) at v ++ z) (changed_from (λ i. g (suc i)) vs (at + length (bytes_of v)) (to + length (bytes_of (changed ch (g zero) v))) f.1))
+          both_parts (leaves_at (g zero) to (changed ch (g zero) v)) (leaves_at (g zero) at v)
+          (leaves_from (λ n. g (suc n)) (to + length (bytes_of (changed ch (g zero) v))) (changed_all ch (λ n. g (suc n)) vs)) (leaves_from (λ n. g (suc n)) (at + length (bytes_of v)) vs)
+          (changed_leaves (g zero) v at to f.0) (changed_from (λ n. g (suc n)) vs (at + length (bytes_of v)) (to + length (bytes_of (changed ch (g zero) v))) f.1)
 
 pub read_changed : (k : Classes) (ch : Change) (x : Option Holder) (v : Value) → Sound k → KeepsFit k ch → Fits k v → IsReadChanged k ch x v
 read_changed k ch x v sound keeps f =

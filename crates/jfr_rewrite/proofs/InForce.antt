@@ -34,11 +34,11 @@ module _ (w : Rewrite) (p q : Parts) (same : (t : ℕ × ℕ) → w.key t ≡ t.
       let h : hits e t ≡ hits f t = ap (λ z. (z == t.0) && (e.key == t.1)) a.0.value.class ∙ ap (λ z. (f.class == t.0) && (z == t.1)) k in
       ap (λ z. or_later n z (last_from (n + 1) es t)) h ∙ ap (or_later n (hits f t)) (changed_last (n + 1) es fs t a.1)
 
-  changed_force : (es fs : List EntryAt) (t : ℕ × ℕ) → Entries es fs → number_in_force es t ≡ number_in_force fs t
+  pub changed_force : (es fs : List EntryAt) (t : ℕ × ℕ) → Entries es fs → number_in_force es t ≡ number_in_force fs t
   unfolding number_in_force
   changed_force es fs t a = changed_last 0 es fs t a
 
-  in_force_changed : (marks : List Bool) (t : ℕ × ℕ) → Entries (marked marks p.entries) q.entries → ((n : ℕ) → number_in_force p.entries t ≡ Some n → IsMarked marks n)
+  pub in_force_changed : (marks : List Bool) (t : ℕ × ℕ) → Entries (marked marks p.entries) q.entries → ((n : ℕ) → number_in_force p.entries t ≡ Some n → IsMarked marks n)
       → Both (HasChangedValue w.change p q) (in_force p.entries t) (in_force q.entries t)
   in_force_changed marks t a h = by_number (number_in_force p.entries t) refl
     where

@@ -1,16 +1,17 @@
+mod Accepted
+mod Carried
 pub mod ChangeLaws
-pub mod Sizes
-pub mod Carried
-pub mod RecordBack
-pub mod SpelledBack
-pub mod CheckpointBack
-pub mod Pools
-pub mod Made
-pub mod Rewriting
-pub mod Output
-pub mod Events
-pub mod Accepted
+mod CheckpointBack
+mod Events
 pub mod InForce
-pub mod PathLaws
+mod Made
 pub mod MeaningLaws
+mod Output
+pub mod PathLaws
+mod Pools
+mod RecordBack
 pub mod Remaining
+mod Rewriting
+mod Rows
+mod Sizes
+mod SpelledBack

@@ -4,14 +4,13 @@ use Rattle.std.specs.Option.{option_map_or}
 use Rattle.std.proofs.Common.{ap, refl, sym, ◌∙◌, subst, inl, inr}
 use Rattle.jfr_base.specs.Formats.{Exactly, Format}
 use Rattle.jfr_base.proofs.OnceLaws.{exact_once}
-use Rattle.jfr_layout.specs.Classes.{Classes, Sound, Agree}
+use Rattle.jfr_layout.specs.Classes.{Sound, Agree}
 use Rattle.jfr_layout.specs.declared.shape.Shape.{Shape}
 use Rattle.jfr_value.specs.declared.node.Step.{Step}
-use Rattle.jfr_value.specs.Values.{Value, shape_of, bytes_of, Fits}
+use Rattle.jfr_value.specs.Values.{Value, shape_of, bytes_of}
 use Rattle.jfr_value.specs.Reading.{value_format}
 use Rattle.jfr_value.specs.Nodes.{NodeAt, IsNode, Both, node_bytes}
 use Rattle.jfr_value.proofs.AgreeLaws.{value_agree}
-use Rattle.jfr_value.proofs.FitLaws.{good_fits}
 use Rattle.jfr_value.proofs.DepthLaws.{fits_good}
 use Rattle.jfr_value.proofs.NodeLaws.{value_is}
 use Rattle.jfr_pool.specs.declared.entry.EntryAt.{EntryAt}
@@ -30,21 +29,15 @@ use Rattle.jfr_rewrite.specs.Paths.{MeansChanged, MeetsChanged, Retargets, Stops
 use Rattle.jfr_rewrite.proofs.ChangeLaws.{changed_fits, changed_shape}
 use Rattle.jfr_rewrite.proofs.PathLaws.{Paired, PairedEntries, paths_paired, paired_leaves}
 
--- A value is the only one of its shape and its bytes.
-fits_once : (k : Classes) (v w : Value) → Sound k → Fits k v → Fits k w → shape_of v ≡ shape_of w → bytes_of v ≡ bytes_of w → v ≡ w
-fits_once k v w sound f g s b =
-    let e : Exactly (value_format k (shape_of v)) (bytes_of w) w = subst (λ z. Exactly (value_format k z) (bytes_of w) w) (sym s) (fits_good k w sound g) in
-    (exact_once (value_format k (shape_of v)) (bytes_of v) (bytes_of w) [] [] v w (fits_good k v sound f) e (ap (λ z. z ++ []) b)).value
+-- Two values that are read exactly from equal bytes are equal.
+read_once : (f : Format Value) (v w : Value) → Exactly f (bytes_of v) v → Exactly f (bytes_of w) w → bytes_of v ≡ bytes_of w → v ≡ w
+read_once f v w d e b = (exact_once f (bytes_of v) (bytes_of w) [] [] v w d e (ap (λ z. z ++ []) b)).value
 
 both_to : {A B : Type 0} {R S : A → B → Type 0} → ((a : A) (b : B) → R a b → S a b) → (x : Option A) (y : Option B) → Both R x y → Both S x y
 both_to f None None r = tt
 both_to f (Some a) (Some b) r = f a b r
 both_to f None (Some b) r = absurd r
 both_to f (Some a) None r = absurd r
-
--- What fits under a list fits under another that agrees with it on the class.
-fits_over : (k m : Classes) (v : Value) → Sound k → Agree k m (shape_of v).class → Fits k v → Fits m v
-fits_over k m v sound g f = good_fits m v (subst (λ (z : Format Value). Exactly z (bytes_of v) v) (value_agree k m (shape_of v) g) (fits_good k v sound f))
 
 module _ (ch : Change) (key : ℕ × ℕ → ℕ) (stops : Stops) (p q : Parts) (kept others : List EventAt) (a : AreParts p) (b : AreParts q) (are : AreEvents p kept) (are_too : AreEvents q others) (keeps : KeepsFit p.classes ch)
     (targets : Retargets p.classes ch stops key) (met : MeetsChanged ch key stops p q kept) where
@@ -62,8 +55,12 @@ module _ (ch : Change) (key : ℕ × ℕ → ℕ) (stops : Stops) (p q : Parts) 
       let y : Value = changed ch None v in
       let c : changed_bytes ch p.classes p.bytes n ≡ bytes_of y = ap (λ z. option_map_or (λ v. bytes_of (changed ch None v)) z []) (value_is p.classes p.bytes n v sound i) in
       let shaped : n.shape ≡ shape_of y = i.shape ∙ sym (changed_shape ch None v) in
-      let f : Fits q.classes y = fits_over p.classes q.classes y sound (subst (λ (z : Shape). Agree p.classes q.classes z.class) shaped g) (changed_fits ch p.classes keeps None v i.fits) in
-      let z : x ≡ y = fits_once q.classes x y also j.fits f (sym j.shape ∙ (sym s ∙ shaped)) (sym j.bytes ∙ (sym e ∙ c)) in
+      let same : shape_of x ≡ shape_of y = sym j.shape ∙ (sym s ∙ shaped) in
+      let first : Exactly (value_format p.classes (shape_of y)) (bytes_of y) y = fits_good p.classes y sound (changed_fits ch p.classes keeps None v i.fits) in
+      let agreed : Agree p.classes q.classes (shape_of y).class = subst (λ (z : Shape). Agree p.classes q.classes z.class) shaped g in
+      let second : Exactly (value_format q.classes (shape_of y)) (bytes_of y) y = subst (λ (f : Format Value). Exactly f (bytes_of y) y) (value_agree p.classes q.classes (shape_of y) agreed) first in
+      let there : Exactly (value_format q.classes (shape_of y)) (bytes_of x) x = subst (λ z. Exactly (value_format q.classes z) (bytes_of x) x) same (fits_good q.classes x also j.fits) in
+      let z : x ≡ y = read_once (value_format q.classes (shape_of y)) x y there second (sym j.bytes ∙ (sym e ∙ c)) in
       record { value = v; before = i; now = subst (IsNode q.classes q.bytes o) z j }
 
   -- The entries in force of all that is met are paired.
@@ -89,7 +86,7 @@ module _ (ch : Change) (key : ℕ × ℕ → ℕ) (stops : Stops) (p q : Parts) 
       let u : Agree p.classes q.classes e.node.shape.class = subst (λ (z : Shape). Agree p.classes q.classes z.class) (sym v.shape) c.agree in
       changed_paired e.node f.node v.value x.value u v.node x.node (v.shape ∙ (ap inline c.class ∙ sym x.shape)) c.fields
 
-  event_leads : (e f : EventAt) → In kept e → In others f → IsChangedEvent ch p q e f → (path : List Step) → Both (Paired p q ch) (leads_but stops p (root e.node) path) (leads q f.node path)
+  pub event_leads : (e f : EventAt) → In kept e → In others f → IsChangedEvent ch p q e f → (path : List Step) → Both (Paired p q ch) (leads_but stops p (root e.node) path) (leads q f.node path)
   event_leads e f i j c path =
       paths_paired p q ch sound also stops key targets path (root e.node) f.node (event_paired e f i j c)
       (λ way m t l r. entries_paired t (met t (record { event = e; is_kept = in_contains kept e i; path = way; node = m; leads_there = l; refers = r })))

@@ -3,18 +3,18 @@ use Rattle.std.specs.Prelude.{◌≡◌, ℕ, Bool, true, false, List, [], ◌�
 use Rattle.std.specs.Option.{option_map, option_map_or}
 use Rattle.std.proofs.Common.{ap, refl, sym, ◌∙◌, subst}
 use Rattle.jfr_layout.specs.Classes.{Sound}
+use Rattle.jfr_value.specs.declared.leaf.Holder.{Holder}
 use Rattle.jfr_value.specs.declared.node.Step.{Step}
 use Rattle.jfr_value.specs.declared.node.Step.TheVariants as steps
 use Rattle.jfr_value.specs.Values.{Value, bytes_of, own_target}
 use Rattle.jfr_value.specs.Nodes.{NodeAt, IsNode, child, target, Both}
-use Rattle.jfr_value.specs.Leaves.{leaves_at, leaves}
 use Rattle.jfr_value.proofs.NodeLaws.{part, child_is, target_is, value_is}
-use Rattle.jfr_value.proofs.TargetLaws.{leaves_are}
+use Rattle.jfr_value.proofs.TargetLaws.{leaves_in_are}
 use Rattle.jfr_pool.specs.declared.entry.EntryAt.{EntryAt}
 use Rattle.jfr_pool.specs.Entries.{in_force, entry_node}
 use Rattle.jfr_chunk.specs.Parts.{Parts}
 use Rattle.jfr_chunk.specs.Paths.{follow, step, leads}
-use Rattle.jfr_rewrite.specs.Changed.{Change, Holder, changed, content, leaves_changed}
+use Rattle.jfr_rewrite.specs.Changed.{Change, changed, changed_leaf, content}
 use Rattle.jfr_rewrite.specs.Paths.{Held, Stops, IsChangedNode, Retargets, held_after, leads_but, node_after, root, target_but, with_key}
 use Rattle.jfr_rewrite.proofs.ChangeLaws.{stepped, changed_part, changed_shape, changed_leaves}
 
@@ -114,11 +114,10 @@ module _ (p q : Parts) (ch : Change) where
     pub paired_leaves : (n : Held) (o : NodeAt) → Paired n o → IsChangedNode ch p q n o
     paired_leaves n o r =
         let h : Option Holder = n.holder in
-        let l : leaves q.classes q.bytes o ≡ leaves_at o.at (changed ch h r.value) = leaves_are q.classes also q.bytes o (changed ch h r.value) r.now in
         record {
           shape = r.before.shape ∙ (sym (changed_shape ch h r.value) ∙ sym r.now.shape);
           bytes = ap (λ z. option_map_or (λ v. bytes_of (changed ch h v)) z []) (value_is p.classes p.bytes n.node r.value sound r.before) ∙ sym r.now.bytes;
           leaves =
-              ap (map content) l ∙ (changed_leaves ch p.classes h r.value n.node.at o.at r.before.fits
-              ∙ ap (λ z. option_map_or (leaves_changed ch h n.node.at) z []) (sym (value_is p.classes p.bytes n.node r.value sound r.before)));
+              ap (map content) (leaves_in_are q.classes also q.bytes o (changed ch h r.value) r.now h) ∙ (changed_leaves ch p.classes h r.value n.node.at o.at r.before.fits
+              ∙ ap (map (changed_leaf ch)) (sym (leaves_in_are p.classes sound p.bytes n.node r.value r.before h)));
         }

@@ -4,28 +4,29 @@ use Rattle.std.specs.Option.{option_map, option_map_or}
 use Rattle.jfr_layout.specs.Classes.{Classes}
 use Rattle.jfr_layout.specs.declared.shape.Shape.{Shape}
 use Rattle.jfr_frame.specs.Records.{record_end}
+use Rattle.jfr_value.specs.declared.leaf.Holder.{Holder}
 use Rattle.jfr_value.specs.declared.node.Step.{Step}
 use Rattle.jfr_value.specs.declared.node.Step.TheVariants as steps
 use Rattle.jfr_value.specs.Values.{Value, bytes_of, own_target, Fits}
 use Rattle.jfr_value.specs.Nodes.{NodeAt, Both, child, target, node_bytes, value_of}
-use Rattle.jfr_value.specs.Leaves.{leaves}
+use Rattle.jfr_value.specs.Leaves.{leaves_in, part_holder}
 use Rattle.jfr_pool.specs.Entries.{entry_node, in_force, number_in_force}
 use Rattle.jfr_worklist.specs.Marks.{IsMarked}
 use Rattle.jfr_chunk.specs.Parts.{Parts, EventAt}
 use Rattle.jfr_chunk.specs.Paths.{leads}
-use Rattle.jfr_rewrite.specs.Changed.{Change, Holder, part_holder, changed, content, leaves_changed}
+use Rattle.jfr_rewrite.specs.Changed.{Change, changed, changed_leaf, content}
 use Rattle.jfr_rewrite.specs.Rewritten.{HasChangedValue}
 
--- A node, and the field that it is in, if it is in one.
+-- A node and its holder: the innermost field that it is in, if it is in one.
 pub record Held : Type 0 where
   pub holder : Option Holder
   pub node : NodeAt
 
--- The values at which Follow stops, given the field that they are in.
+-- Whether Follow stops at a value, given its holder.
 abbrev pub Stops : Type 0
 Stops = Option Holder → Value → Bool
 
--- The field of the node to which a step leads: that of the part, or none for the value of an entry.
+-- The holder of the node to which a step leads: that of the part, or none for the value of an entry.
 abbrev pub step_holder : Option Holder → Shape → Step → Option Holder
 step_holder h s (steps.Field i) = part_holder s h i
 step_holder h s (steps.Item i) = part_holder s h i
@@ -41,7 +42,7 @@ node_after stops p n (steps.Field i) = child p.classes p.bytes n.node (steps.Fie
 node_after stops p n (steps.Item i) = child p.classes p.bytes n.node (steps.Item i)
 node_after stops p n steps.Follow = option_and_then (λ t. option_map entry_node (in_force p.entries t)) (target_but stops p n)
 
--- A node with the field to which the step leads.
+-- The node to which a step leads, with its holder.
 abbrev pub held_after : Held → Step → NodeAt → Held
 held_after n s m = record { holder = step_holder n.holder n.node.shape s; node = m }
 
@@ -84,7 +85,7 @@ MarksMet stops p kept marks = (t : ℕ × ℕ) → Met stops p kept t → (n : �
 pub record IsChangedNode (ch : Change) (p q : Parts) (n : Held) (o : NodeAt) : Type 0 where
   pub shape : n.node.shape ≡ o.shape
   pub bytes : option_map_or (λ v. bytes_of (changed ch n.holder v)) (value_of p.classes p.bytes n.node) [] ≡ node_bytes q.bytes o
-  pub leaves : map content (leaves q.classes q.bytes o) ≡ option_map_or (leaves_changed ch n.holder n.node.at) (value_of p.classes p.bytes n.node) []
+  pub leaves : map content (leaves_in n.holder q.classes q.bytes o) ≡ map (changed_leaf ch) (leaves_in n.holder p.classes p.bytes n.node)
 
 -- Two events of the same class, with the same bytes after their fields. Each path leads, unless Follow stops on it,
 -- from the first to a node and from the second to the changed one, or from both nowhere.
