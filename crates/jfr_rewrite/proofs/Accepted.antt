@@ -171,7 +171,8 @@ module _ (given : Rewriting) where
     tiles = subst (Tiles b 68 rs) (sym l.size) (tiles_made m write heads widths pooled b outs 68 None (all_read given carries b) l.held)
 
     some_checkpoint : ls ≡ [] → ⊥
-    some_checkpoint e = some_chain p.bytes p.records (parts_of.pools_at p.bytes) p.chain a.chain (none_numbered (reverse p.chain) (sym (order given) ∙ no_chain m write heads widths pooled outs 68 None e))
+    some_checkpoint e =
+        some_chain p.bytes p.records (parts_of.pools_at p.bytes) p.chain a.chain (none_numbered (reverse p.chain) (sym (order given) ∙ no_chain m write heads widths pooled outs 68 None e))
 
     chain : IsChain b rs (parts_of.pools_at b) (reverse ls)
     chain =
@@ -275,8 +276,10 @@ module _ (given : Rewriting) where
             record {
               class = sym type;
               agree = given.suits.agree id ((suits_kept given).event e k);
-              fields = fields_are w p (sound given) given.keeps e (event_here given e k) (event_record given e k) ∙ (sym st.fields_held.bytes ∙ (ap (λ z. slice_range b z to) (sym start) ∙ ap (slice_range b f.node.at) (sym one.1)));
-              rest = sym st.rest_held.bytes ∙ (ap (λ z. slice_range b z (to + length (slice_range p.bytes e.node.end (record_end e.record_of)))) (sym one.1) ∙ ap (slice_range b f.node.end) (st.ends ∙ sym last));
+              fields =
+                  fields_are w p (sound given) given.keeps e (event_here given e k) (event_record given e k) ∙ (sym st.fields_held.bytes ∙ (ap (λ z. slice_range b z to) (sym start) ∙ ap (slice_range b f.node.at) (sym one.1)));
+              rest =
+                  sym st.rest_held.bytes ∙ (ap (λ z. slice_range b z (to + length (slice_range p.bytes e.node.end (record_end e.record_of)))) (sym one.1) ∙ ap (slice_range b f.node.end) (st.ends ∙ sym last));
             }
 
     changed_events : (xs ys : List EventAt) → ((e : EventAt) → In xs e → In these e) → ((f : EventAt) → In ys f → In (events_of parts) f)
@@ -288,11 +291,14 @@ module _ (given : Rewriting) where
 
     events_are : OneToOne (IsChangedEvent w.change p parts) these (events_of parts)
     events_are =
-        let rising : Rising 68 (event_records p.classes p.records) = rising_filter (λ r. is_event_class p.classes r.type_id) 68 p.records (rising_of p.bytes 68 68 (length p.bytes) p.records (omega arith) a.records) in
-        let chosen : filter (is_kept these) (event_records p.classes p.records) ≡ records_of these = chosen_records given.flags (events_of p) (event_records p.classes p.records) 68 (event_records_of p a) rising in
+        let rising : Rising 68 (event_records p.classes p.records) =
+        rising_filter (λ r. is_event_class p.classes r.type_id) 68 p.records (rising_of p.bytes 68 68 (length p.bytes) p.records (omega arith) a.records) in
+        let chosen : filter (is_kept these) (event_records p.classes p.records) ≡ records_of these =
+        chosen_records given.flags (events_of p) (event_records p.classes p.records) 68 (event_records_of p a) rising in
         let news : event_records m rs ≡ records_of (events_of parts) = sym (event_records_of parts valid) in
         let each = events_each given b p.records 68 None (quiet_records p a m) (recorded p a) carries l.held in
-        let same = same_both (is_kept these) (λ r. is_event_class m r.type_id) (λ r. is_event_class p.classes r.type_id) p.records (kept_is_event p a these (chosen_events p given.flags) m (suits_kept given)) in
+        let same =
+        same_both (is_kept these) (λ r. is_event_class m r.type_id) (λ r. is_event_class p.classes r.type_id) p.records (kept_is_event p a these (chosen_events p given.flags) m (suits_kept given)) in
         changed_events these (events_of parts) (λ e i. i) (λ f i. i)
         (subst (λ z. Each (NewEvent given b) z (records_of (events_of parts))) (filter_both (λ r. is_event_class m r.type_id) (is_kept these) p.records ∙ (same ∙ chosen))
         (subst (Each (NewEvent given b) _) news each))

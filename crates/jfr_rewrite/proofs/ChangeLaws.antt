@@ -130,7 +130,8 @@ module _ (ch : Change) where
       pub changed_leaves : (h : Option Holder) (v : Value) (at to : ℕ) → Fits k v → map content (leaves_at h to (changed ch h v)) ≡ map (changed_leaf ch) (leaves_at h at v)
       changed_leaves h (Single s kind b key) at to f = ap (λ z. z ∷ []) (single_leaf h at s kind b key f)
       changed_leaves h (Group s head vs) at to f =
-          both_parts (head_leaves h to s head) (head_leaves h at s head) (leaves_from (part_holder s h) (to + length head) (changed_all ch (part_holder s h) vs)) (leaves_from (part_holder s h) (at + length head) vs)
+          both_parts (head_leaves h to s head) (head_leaves h at s head) (leaves_from (part_holder s h) (to + length head) (changed_all ch (part_holder s h) vs))
+          (leaves_from (part_holder s h) (at + length head) vs)
           (head_content h at to s head) (changed_from (part_holder s h) vs (at + length head) (to + length head) f.1)
 
       pub changed_from : (g : ℕ → Option Holder) (vs : Values) (at to : ℕ) → AllFit k vs → map content (leaves_from g to (changed_all ch g vs)) ≡ map (changed_leaf ch) (leaves_from g at vs)

@@ -93,12 +93,15 @@ module _ (c : List ℕ) (l : Link) (delta : ℕ) (gs : List SpelledPool) where
         let sl : length start_bytes ≡ s.middle - f.body = range_length c f.body s.middle s.start_spelled.within in
         let kl : length kind_bytes ≡ 1 = range_length c l.delta_end (l.delta_end + 1) s.kind_within ∙ omega arith in
         let p2 = holds_parts b end body head_bytes (delta_bytes ++ (kind_bytes ++ (count_bytes ++ pool_bytes))) m.held in
-        let p3 = holds_parts b end delta_at delta_bytes (kind_bytes ++ (count_bytes ++ pool_bytes)) (holds_at b end (body + length head_bytes) delta_at (delta_bytes ++ (kind_bytes ++ (count_bytes ++ pool_bytes))) (omega arith) p2.1) in
+        let p3 =
+        holds_parts b end delta_at delta_bytes (kind_bytes ++ (count_bytes ++ pool_bytes))
+        (holds_at b end (body + length head_bytes) delta_at (delta_bytes ++ (kind_bytes ++ (count_bytes ++ pool_bytes))) (omega arith) p2.1) in
         let p4 = holds_parts b end kind_at kind_bytes (count_bytes ++ pool_bytes) p3.1 in
         let p5 = holds_parts b end count_at count_bytes pool_bytes (holds_at b end (kind_at + length kind_bytes) count_at (count_bytes ++ pool_bytes) (omega arith) p4.1) in
         let q = holds_parts b end body start_bytes duration_bytes (subst (Holds b end body) (range_split c f.body s.middle l.delta_at a3 a4) p2.0) in
         let start_int = holds_range_int c b f.body s.middle s.start end body middle s.start_spelled q.0 (omega arith) in
-        let duration_int = holds_range_int c b s.middle l.delta_at s.duration end middle delta_at s.duration_spelled (holds_at b end (body + length start_bytes) middle duration_bytes (omega arith) q.1) (omega arith) in
+        let duration_int =
+        holds_range_int c b s.middle l.delta_at s.duration end middle delta_at s.duration_spelled (holds_at b end (body + length start_bytes) middle duration_bytes (omega arith) q.1) (omega arith) in
         let delta_int : IntAt b delta_at kind_at delta = holds_int b end delta_at delta_bytes delta p3.0 (spell_spells delta) in
         let count_int : IntAt b count_at pools_start count = holds_int b end count_at count_bytes count p5.0 (spell_spells count) in
         let pools : List PoolAt = placed_each bytes_of_pool pool_at pools_start gs in
@@ -108,10 +111,12 @@ module _ (c : List ℕ) (l : Link) (delta : ℕ) (gs : List SpelledPool) where
         let e2 : pools_start ≤ end = p5.0.within in
         let ends : pools_start + length pool_bytes ≡ end = (let w = m.whole in omega arith) in
         let stopped : Reads (times count (pool_format k) >>= λ pools. Stop (Done pools)) b end pools_start pools end =
-        reads_then (times count (pool_format k)) (λ pools. Stop (Done pools)) b end pools_start pools end pools end (subst (Reads (times count (pool_format k)) b end pools_start pools) ends read) (omega arith, (refl, refl)) in
+        reads_then (times count (pool_format k)) (λ pools. Stop (Done pools)) b end pools_start pools end pools end (subst (Reads (times count (pool_format k)) b end pools_start pools) ends read)
+        (omega arith, (refl, refl)) in
         record {
           is_record = m.is_record;
           head = (middle, s.start, start_int.0, start_int.1, refl, (delta_at, s.duration, duration_int.0, duration_int.1, refl, (kind_at, delta, delta_int, e0, refl, (refl, refl))));
-          are_pools = (middle, s.start, start_int.0, start_int.1, refl, (delta_at, s.duration, duration_int.0, duration_int.1, refl, (kind_at, delta, delta_int, e0, refl, (omega arith, (pools_start, count, count_int, e2, refl, stopped)))));
+          are_pools =
+              (middle, s.start, start_int.0, start_int.1, refl, (delta_at, s.duration, duration_int.0, duration_int.1, refl, (kind_at, delta, delta_int, e0, refl, (omega arith, (pools_start, count, count_int, e2, refl, stopped)))));
           pools_held = p5.1;
         }

@@ -99,7 +99,9 @@ module _ (given : Rewriting) (b : List ℕ) where
       → Holds b (length b) at (from at older (RecordsAfter rs))
       → Each NewEvent (filter (λ r. is_event r && is_kept these r) rs) (filter is_event (frames (written_by written_bytes at older (RecordsAfter rs))))
   events_each [] at older y s c h = tt
-  events_each (r ∷ rs) at older y s c h = by_find (numbered_at (all_links p) r.at) refl (is_event_class m r.type_id) refl (is_kept these r) refl (r.at == metadata_at p.bytes) refl (anew r) refl (λ at older c h. events_each rs at older y.1 s.1 c h) c h
+  events_each (r ∷ rs) at older y s c h =
+      by_find (numbered_at (all_links p) r.at) refl (is_event_class m r.type_id) refl (is_kept these r) refl (r.at == metadata_at p.bytes) refl (anew r) refl
+      (λ at older c h. events_each rs at older y.1 s.1 c h) c h
     where
       rest : List OutputRecord
       rest = RecordsAfter rs

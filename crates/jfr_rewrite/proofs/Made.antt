@@ -240,17 +240,21 @@ module _ (k : Classes) (bytes : OutputRecord → ℕ → Option ℕ → List ℕ
               let rf : r ≡ f = record_one c r f a.0 f_is p in
               let w : output_record_in all whole new f ≡ Some (shown (new f) f) = shown_is f (numbered_at all f.at) (whole f) (new f) no_link chosen in
               let e : o ≡ Some (shown (new f) f) = sym q ∙ (ap (output_record_in all whole new) rf ∙ w) in
-              subst (λ z. Found f (new f) at (written_by bytes at older (cons_option z (RecordsAfter rs)))) (sym e) (found_here (new f) (RecordsAfter rs) at older (subst (λ z. Holds b (length b) at (bytes_from at older (cons_option z (RecordsAfter rs)))) e h))
+              subst (λ z. Found f (new f) at (written_by bytes at older (cons_option z (RecordsAfter rs)))) (sym e)
+              (found_here (new f) (RecordsAfter rs) at older (subst (λ z. Holds b (length b) at (bytes_from at older (cons_option z (RecordsAfter rs)))) e h))
           by_place false t i later None q h = later at older (after_first r f rs t i) h
           by_place false t i later (Some (Whole x)) q h =
               let n : ℕ = length (bytes (Whole x) at older) in
               let p = holds_parts b (length b) at (bytes (Whole x) at older) (bytes_from (at + n) older (RecordsAfter rs)) h in
-              found_later (new f) (Whole x) (written_by bytes (at + n) older (RecordsAfter rs)) at n older (same_test r.at f.at x.at t (output_record_place all whole new r (Whole x) q)) (later (at + n) older (after_first r f rs t i) p.1)
+              found_later (new f) (Whole x) (written_by bytes (at + n) older (RecordsAfter rs)) at n older (same_test r.at f.at x.at t (output_record_place all whole new r (Whole x) q))
+              (later (at + n) older (after_first r f rs t i) p.1)
           by_place false t i later (Some (Rebuilt x y)) q h =
               let n : ℕ = length (bytes (Rebuilt x y) at older) in
               let p = holds_parts b (length b) at (bytes (Rebuilt x y) at older) (bytes_from (at + n) older (RecordsAfter rs)) h in
-              found_later (new f) (Rebuilt x y) (written_by bytes (at + n) older (RecordsAfter rs)) at n older (same_test r.at f.at x.at t (output_record_place all whole new r (Rebuilt x y) q)) (later (at + n) older (after_first r f rs t i) p.1)
+              found_later (new f) (Rebuilt x y) (written_by bytes (at + n) older (RecordsAfter rs)) at n older (same_test r.at f.at x.at t (output_record_place all whole new r (Rebuilt x y) q))
+              (later (at + n) older (after_first r f rs t i) p.1)
           by_place false t i later (Some (Chained j l)) q h =
               let n : ℕ = length (bytes (Chained j l) at older) in
               let p = holds_parts b (length b) at (bytes (Chained j l) at older) (bytes_from (at + n) (Some at) (RecordsAfter rs)) h in
-              found_later (new f) (Chained j l) (written_by bytes (at + n) (Some at) (RecordsAfter rs)) at n older (same_test r.at f.at l.frame.at t (output_record_place all whole new r (Chained j l) q)) (later (at + n) (Some at) (after_first r f rs t i) p.1)
+              found_later (new f) (Chained j l) (written_by bytes (at + n) (Some at) (RecordsAfter rs)) at n older
+              (same_test r.at f.at l.frame.at t (output_record_place all whole new r (Chained j l) q)) (later (at + n) (Some at) (after_first r f rs t i) p.1)

@@ -207,7 +207,8 @@ module _ (given : Rewriting) where
   chained_back b i l s at older c h =
       let e = chained_is i l s.before at older in
       checkpoint_read p.bytes l (distance at older) (spelled_groups i) (width_with l (tail_spelled_of i l at older)) m b at s.before.0
-      (pools_under w p sound given.keeps m (groups_of remaining i) s.before.1 s.later.1 (groups_agree i)) (subst (CarriesTail w l.frame) e c) (subst (λ z. Holds b (length b) at (resized w l.frame z)) e h)
+      (pools_under w p sound given.keeps m (groups_of remaining i) s.before.1 s.later.1 (groups_agree i)) (subst (CarriesTail w l.frame) e c)
+      (subst (λ z. Holds b (length b) at (resized w l.frame z)) e h)
 
   chained_read : (b : List ℕ) (i : ℕ) (l : Link) → Can (Chained i l) → (at : ℕ) (older : Option ℕ) → Carried (Chained i l) at older → Holds b (length b) at (bytes (Chained i l) at older)
       → ChainedRead m bytes after width pools b i l at older
@@ -221,8 +222,11 @@ module _ (given : Rewriting) where
       let count : ℕ = length (spelled_groups i) in
       record {
         is_record = subst (λ z. IsRecord b (new_frame at (width_with l z) (length (resized w l.frame z)) l.frame)) (sym e) st.is_record;
-        head = subst (λ z. Reads head_format b (last z) (body z) (record { at = delta_at z; end = delta_at z + length (spell delta); value = cast_signed w64 delta }) (delta_at z + length (spell delta))) (sym e) st.head;
-        are_pools = subst (λ z. Reads (checkpoint_format m) b (last z) (body z) (placed_each bytes_of_pool pool_at (new_pools_at at (width_with l z) l delta count) (spelled_groups i)) (last z)) (sym e) st.are_pools;
+        head =
+            subst (λ z. Reads head_format b (last z) (body z) (record { at = delta_at z; end = delta_at z + length (spell delta); value = cast_signed w64 delta }) (delta_at z + length (spell delta))) (sym e) st.head;
+        are_pools =
+            subst (λ z. Reads (checkpoint_format m) b (last z) (body z) (placed_each bytes_of_pool pool_at (new_pools_at at (width_with l z) l delta count) (spelled_groups i)) (last z))
+            (sym e) st.are_pools;
       }
 
   pools_held : (b : List ℕ) (i : ℕ) (l : Link) → Can (Chained i l) → (at : ℕ) (older : Option ℕ) → Carried (Chained i l) at older → Holds b (length b) at (bytes (Chained i l) at older)
@@ -230,7 +234,8 @@ module _ (given : Rewriting) where
   pools_held b i l s at older c h =
       let e = chained_is i l s.before at older in
       let st = chained_back b i l s at older c h in
-      subst (λ z. Holds b (at + length (resized w l.frame z)) (new_pools_at at (width_with l z) l (distance at older) (length (spelled_groups i))) (flat_map bytes_of_pool (spelled_groups i))) (sym e) st.pools_held
+      subst (λ z. Holds b (at + length (resized w l.frame z)) (new_pools_at at (width_with l z) l (distance at older) (length (spelled_groups i))) (flat_map bytes_of_pool (spelled_groups i)))
+      (sym e) st.pools_held
 
   -- An event, or the metadata record.
   pub event_here : (e : EventAt) → In kept e → IsEvent p e
@@ -359,7 +364,8 @@ module _ (given : Rewriting) where
   can_all : AllByRecursion (OnChained Can) ss
   can_all =
       let plain : List OutputRecord = output_records_in (all_links p) (is_kept_or_metadata p kept) none_anew p.records in
-      on_chained (all_links p) (is_kept_or_metadata p kept) (written_anew w.metadata p) Can p.records (can_each plain is_ready.valid (records_too p.bytes p.classes m remaining given.suits.entry plain is_ready.valid))
+      on_chained (all_links p) (is_kept_or_metadata p kept) (written_anew w.metadata p) Can p.records
+      (can_each plain is_ready.valid (records_too p.bytes p.classes m remaining given.suits.entry plain is_ready.valid))
 
   each_read : (b : List ℕ) (xs : List OutputRecord) (at : ℕ) (older : Option ℕ) → AllByRecursion (OnChained Can) xs → AllByRecursion OnEach xs → CarriedFrom at older xs
       → AllRead m bytes after width pools b at older xs
@@ -435,9 +441,11 @@ module _ (given : Rewriting) where
       let f = first_equal i j l x (chained_of xs) (enumerate_from (j + 1) ls) o in
       let gs : List Group = groups_of remaining i in
       let these : List EntryAt = filter (λ e. e.checkpoint == i) remaining in
-      let nums : AllByRecursion (λ e. e.checkpoint ≡ j) (flat_map (λ g. g.entries) gs) = subst (AllByRecursion (λ e. e.checkpoint ≡ j)) (sym (groups_hold these)) (subst (λ z. AllByRecursion (λ e. e.checkpoint ≡ z) these) f.0 (have_number i remaining)) in
+      let nums : AllByRecursion (λ e. e.checkpoint ≡ j) (flat_map (λ g. g.entries) gs) =
+      subst (AllByRecursion (λ e. e.checkpoint ≡ j)) (sym (groups_hold these)) (subst (λ z. AllByRecursion (λ e. e.checkpoint ≡ z) these) f.0 (have_number i remaining)) in
       let g = groups_renewed w p sound given.keeps b (at + k) j gs 0 (pools_at at older i l) s.0.before.1 nums held in
-      each_append (Renewed w p sound given.keeps b) these (entries_from j 0 (pools at older i l)) (entries_by_number remaining (chained_of xs)) (entries_at m bytes after width pools (j + 1) (at + k) (Some at) xs)
+      each_append (Renewed w p sound given.keeps b) these (entries_from j 0 (pools at older i l)) (entries_by_number remaining (chained_of xs))
+      (entries_at m bytes after width pools (j + 1) (at + k) (Some at) xs)
       (subst (λ z. Each (Renewed w p sound given.keeps b) z (entries_from j 0 (pools at older i l))) (groups_hold these) g) (entries_each b xs ls (j + 1) (at + k) (Some at) s.1 t.1 c.1 q.1 f.1)
 
   pub all_entries : CarriesAll w p kept remaining → (b : List ℕ) (ls : List Link) → Holds b (length b) 68 (bytes_from m bytes after width pools 68 None ss) → chained_of ss ≡ enumerate_from 0 ls

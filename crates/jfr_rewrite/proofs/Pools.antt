@@ -50,7 +50,8 @@ module _ (w : Rewrite) (p : Parts) (sound : Sound p.classes) (keeps : KeepsFit p
   entry_is e s =
       let o : e.value_at ≤ e.end = s.order in
       let h : e.end ≤ length p.bytes = s.within in
-      let r : Reads (value_format p.classes (inline e.class)) p.bytes e.end e.value_at s.value e.end = exact_reads (value_format p.classes (inline e.class)) p.bytes e.end e.value_at e.end (slice_range p.bytes e.value_at e.end) s.value s.exact (record { order = o; within = h; bytes = refl }) (omega arith) h in
+      let r : Reads (value_format p.classes (inline e.class)) p.bytes e.end e.value_at s.value e.end =
+      exact_reads (value_format p.classes (inline e.class)) p.bytes e.end e.value_at e.end (slice_range p.bytes e.value_at e.end) s.value s.exact (record { order = o; within = h; bytes = refl }) (omega arith) h in
       (read_node p.classes (inline e.class) p.bytes e.end e.value_at e.end s.value h o r).0
 
   value_here : (e : EntryAt) → (s : IsEntryIn p.bytes p.classes e) → value_in p.bytes p.classes e ≡ s.value
@@ -123,7 +124,9 @@ module _ (w : Rewrite) (p : Parts) (sound : Sound p.classes) (keeps : KeepsFit p
   pub tail_spelled : (l : Link) (delta : ℕ) (gs : List Group) → AllByRecursion (IsGroupIn p.bytes p.classes) gs
       → checkpoint_tail w p l delta gs ≡ tail_of p.bytes l.frame (body_of p.bytes l delta (map spelled_pool gs))
   tail_spelled l delta gs a =
-      let tail : ℕ → List ℕ → List ℕ = λ n items. slice_range p.bytes l.frame.type_at l.frame.body ++ (slice_range p.bytes l.frame.body l.delta_at ++ (spell delta ++ (slice_range p.bytes l.delta_end (l.delta_end + 1) ++ (spell n ++ items)))) in
+      let tail : ℕ → List ℕ → List ℕ =
+      λ n items. slice_range p.bytes l.frame.type_at l.frame.body ++
+      (slice_range p.bytes l.frame.body l.delta_at ++ (spell delta ++ (slice_range p.bytes l.delta_end (l.delta_end + 1) ++ (spell n ++ items)))) in
       ap (tail (length gs)) (groups_spelled gs a) ∙ ap (λ n. tail n (flat_map bytes_of_pool (map spelled_pool gs))) (sym (length-map gs spelled_pool))
 
   -- An entry, and the changed one that is read of the output.
@@ -138,7 +141,8 @@ module _ (w : Rewrite) (p : Parts) (sound : Sound p.classes) (keeps : KeepsFit p
         → Renewed b e (entry_of checkpoint pool class (constant_at at (spelled e)))
     entry_renewed e pool class at s c n h =
         let q = holds_parts b end at (spelled e).key_bytes (bytes_of (spelled e).value) h in
-        let l : at + length (spelled e).key_bytes + length (bytes_of (spelled e).value) ≡ at + length (bytes_of_entry (spelled e)) = omega (arith, length-append (spelled e).key_bytes (bytes_of (spelled e).value)) in
+        let l : at + length (spelled e).key_bytes + length (bytes_of (spelled e).value) ≡ at + length (bytes_of_entry (spelled e)) =
+        omega (arith, length-append (spelled e).key_bytes (bytes_of (spelled e).value)) in
         record {
           class = c;
           key = refl;

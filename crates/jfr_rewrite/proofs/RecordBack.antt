@@ -108,7 +108,8 @@ module _ (w : Rewrite) (p : Parts) (sound : Sound p.classes) (keeps : KeepsFit p
       let shape : shape_of new_value ≡ inline r0.type_id = changed_shape w.change None i.value ∙ (sym i.node.shape ∙ i.shape) in
       let exact : Exactly (value_format p.classes (inline r0.type_id)) (bytes_of new_value) new_value =
       subst (λ s. Exactly (value_format p.classes s) (bytes_of new_value) new_value) shape (fits_good p.classes new_value sound (changed_fits w.change p.classes keeps None i.value i.node.fits)) in
-      let holds : Stands b body (body + length (bytes_of new_value)) (bytes_of new_value) = record { order = omega arith; within = (let y = x.0.within in let z = x.0.inside in omega arith); bytes = x.0.bytes } in
+      let holds : Stands b body (body + length (bytes_of new_value)) (bytes_of new_value) =
+      record { order = omega arith; within = (let y = x.0.within in let z = x.0.inside in omega arith); bytes = x.0.bytes } in
       let read = exact_reads (value_format p.classes (inline r0.type_id)) b end body (body + length (bytes_of new_value)) (bytes_of new_value) new_value exact holds x.0.within x.0.inside in
       let here : List ℕ → ℕ = λ z. at + (w.width r0 (length z) + (r0.body - r0.type_at)) in
       record {

@@ -56,7 +56,9 @@ module _ (names : Names) (p : Parts) (a : AreParts p) (kept : List EventAt) (are
       record {
         type_after = r.type_at - r.at;
         body_after = r.body - r.at;
-        is_record = λ b at i q. subst (λ id. IsRecord b (frame_from id (r.type_at - r.at) (r.body - r.at) at (length (record_bytes p.bytes r)))) a.metadata_there.type_is (record_copied p.bytes b r at (metadata_stands p a) (held (record_bytes p.bytes r) b at i q));
+        is_record =
+            λ b at i q. subst (λ id. IsRecord b (frame_from id (r.type_at - r.at) (r.body - r.at) at (length (record_bytes p.bytes r)))) a.metadata_there.type_is
+            (record_copied p.bytes b r at (metadata_stands p a) (held (record_bytes p.bytes r) b at i q));
         is_metadata = λ b at i q.
             (let y = reads b at (held (record_bytes p.bytes r) b at i q) in
             (y.0, subst (λ id. IsMetadata b (frame_from id (r.type_at - r.at) (r.body - r.at) at (length (record_bytes p.bytes r))) y.0 n.classes) a.metadata_there.type_is y.1));

@@ -57,7 +57,8 @@ module _ (k : Classes) (b : List ℕ) (end : ℕ) where
       let to : ℕ = at + length (bytes_of_entry e) in
       let l : m + length (bytes_of e.value) ≡ to = omega (arith, length-append e.key_bytes (bytes_of e.value)) in
       let key : IntAt b at m e.key = holds_int b end at e.key_bytes e.key p.0 s.key in
-      let holds : Stands b m to (bytes_of e.value) = record { order = omega arith; within = (let x = p.1.within in let y = h.inside in omega arith); bytes = subst (λ z. slice_range b m z ≡ bytes_of e.value) l p.1.bytes } in
+      let holds : Stands b m to (bytes_of e.value) =
+      record { order = omega arith; within = (let x = p.1.within in let y = h.inside in omega arith); bytes = subst (λ z. slice_range b m z ≡ bytes_of e.value) l p.1.bytes } in
       let read : Reads (value_format k (inline e.class)) b end m e.value to = exact_reads (value_format k (inline e.class)) b end m to (bytes_of e.value) e.value s.value holds h.within h.inside in
       subst (λ d. Reads (constant_format k d) b end at (constant_at at e) to) w (
         m,
