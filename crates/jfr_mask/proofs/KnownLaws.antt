@@ -17,8 +17,8 @@ use Rattle.std.proofs.lemmas.Str.{IsUtf8-string_bytes, chars_from_encodes}
 use Rattle.std.specs.Str.Lossy.{utf8_lossy}
 use Rattle.bstr.specs.Utf8.{lossy_chars}
 use Rattle.bstr.proofs.lemmas.LossyLemmas.{lossy_chars-utf8_lossy}
-use Rattle.jfr_mask.specs.Kept.{texts_of}
-use Rattle.jfr_mask.specs.Pseudonyms.{has_text, is_known, is_pseudonym}
+use Rattle.jfr_mask.specs.Held.{texts_of}
+use Rattle.jfr_mask.specs.Pseudonyms.{has_text, is_known, is_like_pseudonym}
 use Rattle.jfr_mask.proofs.MapLaws.{chars_apart}
 use Rattle.jfr_mask.proofs.NumberLaws.{eq_is}
 
@@ -44,7 +44,7 @@ has_by_bytes (k ∷ ks) bytes u =
 
 -- Lines one after another.
 pub known_append : (xs ys : List (List ℕ)) (t : List ℕ) → is_known (xs ++ ys) t ≡ (is_known xs t || is_known ys t)
-known_append xs ys t = ap (λ b. b && not (is_pseudonym t)) (list_any-append (λ u. bytes_eq u t) xs ys) ∙ by_cases (has_text xs t) (has_text ys t) (not (is_pseudonym t))
+known_append xs ys t = ap (λ b. b && not (is_like_pseudonym t)) (list_any-append (λ u. bytes_eq u t) xs ys) ∙ by_cases (has_text xs t) (has_text ys t) (not (is_like_pseudonym t))
   where
     by_cases : (a b c : Bool) → ((a || b) && c) ≡ ((a && c) || (b && c))
     by_cases true b true = refl
@@ -88,18 +88,18 @@ text_updated old new key u t = by_eq (bytes_eq (chars (string_bytes key)) t) ref
         any_map (k ∷ ks) = ap (λ b. bytes_eq (chars (string_bytes k)) t || b) (any_map ks)
 
 -- What a line adds to the known texts.
-pub line_known : (line t : List ℕ) → is_pseudonym line ≡ false → is_known (line ∷ []) t ≡ bytes_eq line t
+pub line_known : (line t : List ℕ) → is_like_pseudonym line ≡ false → is_known (line ∷ []) t ≡ bytes_eq line t
 line_known line t h = by_eq (bytes_eq line t) refl
   where
-    by_eq : (b : Bool) → bytes_eq line t ≡ b → ((b || false) && not (is_pseudonym t)) ≡ b
-    by_eq true e = ap (λ z. not (is_pseudonym z)) (sym (eq_is line t e)) ∙ ap not h
+    by_eq : (b : Bool) → bytes_eq line t ≡ b → ((b || false) && not (is_like_pseudonym t)) ≡ b
+    by_eq true e = ap (λ z. not (is_like_pseudonym z)) (sym (eq_is line t e)) ∙ ap not h
     by_eq false e = refl
 
-pub line_unknown : (line t : List ℕ) → is_pseudonym line ≡ true → is_known (line ∷ []) t ≡ false
+pub line_unknown : (line t : List ℕ) → is_like_pseudonym line ≡ true → is_known (line ∷ []) t ≡ false
 line_unknown line t h = by_eq (bytes_eq line t) refl
   where
-    by_eq : (b : Bool) → bytes_eq line t ≡ b → ((b || false) && not (is_pseudonym t)) ≡ false
-    by_eq true e = ap (λ z. not (is_pseudonym z)) (sym (eq_is line t e)) ∙ ap not h
+    by_eq : (b : Bool) → bytes_eq line t ≡ b → ((b || false) && not (is_like_pseudonym t)) ≡ false
+    by_eq true e = ap (λ z. not (is_like_pseudonym z)) (sym (eq_is line t e)) ∙ ap not h
     by_eq false e = refl
 
 -- The characters of a line's text.

@@ -1,5 +1,5 @@
 -- A dictionary's map after a text is added.
-use Rattle.std.specs.Prelude.{◌≡◌, ℕ, ◌+◌, Bool, true, false, cond, List, [], ◌∷◌, ◌++◌, length, Some, None, IsUtf8, if◌then◌else◌}
+use Rattle.std.specs.Prelude.{◌≡◌, ℕ, ◌+◌, Bool, true, false, cond, List, [], ◌∷◌, ◌++◌, length, option_map, slice_get, Option, Some, None, IsUtf8, if◌then◌else◌}
 use Rattle.std.specs.BTreeMap.{BTreeMap, UpdatesBy, is_at}
 use Rattle.std.specs.Cmp.{eq_by_cmp_equiv}
 use Rattle.std.specs.Cmp.Lexicographic.{slice_cmp, nat_list_cmp_total, nat_list_eq_equiv}
@@ -13,12 +13,13 @@ use Rattle.std.specs.declared.rc.RcStr.{RcStr}
 use Rattle.std.proofs.Common.{ap, refl, sym, subst, ◌∙◌}
 use Rattle.std.proofs.lemmas.List.{length-map, map-append}
 use Rattle.std.proofs.lemmas.Map.Text.{is_eq-slice_cmp}
+use Rattle.std.proofs.lemmas.Option.{slice_get-map}
 use Rattle.std.proofs.lemmas.Slice.Eq.{bytes_eq-Decides}
 use Rattle.std.proofs.lemmas.Str.{encodes-chars}
 use lib.Utf8.{encodes}
-use Rattle.jfr_mask.specs.Kept.{AreNumbersOf, number_under, texts_in}
+use Rattle.jfr_mask.specs.Held.{AreNumbersOf, number_under, texts_in}
 use Rattle.jfr_mask.specs.Pseudonyms.{has_text, number_of}
-use Rattle.jfr_mask.proofs.NumberLaws.{eq_is, has_last, has_other, number_last, number_old}
+use Rattle.jfr_mask.proofs.NumberLaws.{distinct_added, eq_is, has_last, has_other, number_last, number_old}
 
 abbrev key_cmp : RcStr Global → RcStr Global → Ordering
 key_cmp x y = slice_cmp nat_cmp (rc_str_bytes x) (rc_str_bytes y)
@@ -54,6 +55,7 @@ pub numbers_added : (d : List (List ℕ)) (m n : BTreeMap (RcStr Global) ℕ) (k
     → AreNumbersOf d m → has_text d (chars text) ≡ false → rc_str_bytes key ≡ text → IsUtf8 text → v ≡ length d + 1
     → UpdatesBy key_cmp (key_cmp key) m n (Some v) → AreNumbersOf (d ++ chars text ∷ []) n
 numbers_added d m n key text v old absent is utf8 next u = record {
+  distinct = distinct_added d (chars text) old.distinct absent;
   each = λ bytes b. number_updated m n key v u bytes ∙ (ap (λ z. cond (bytes_eq z bytes) (Some v) (number_under m bytes)) is ∙ by_eq bytes b (bytes_eq text bytes) refl);
 }
   where
@@ -77,3 +79,7 @@ texts_added old new shared text e is = ap texts_in e ∙ (map-append (λ t. char
 
 pub length-texts_in : (texts : List (RcStr Global)) → length (texts_in texts) ≡ length texts
 length-texts_in texts = length-map texts (λ t. chars (rc_str_bytes t))
+
+-- The text with an index.
+pub text_got : (texts : List (RcStr Global)) (d : List (List ℕ)) (i : ℕ) (got : Option (RcStr Global)) → texts_in texts ≡ d → got ≡ slice_get texts i → option_map (λ t. chars (rc_str_bytes t)) got ≡ slice_get d i
+text_got texts d i got view is = ap (option_map (λ t. chars (rc_str_bytes t))) is ∙ (sym (slice_get-map (λ t. chars (rc_str_bytes t)) texts i) ∙ ap (λ z. slice_get z i) view)

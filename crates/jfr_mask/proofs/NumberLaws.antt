@@ -1,12 +1,12 @@
 -- Numbers of texts: each text has one, it stays, and no other text has it.
-use Rattle.std.specs.Prelude.{◌≡◌, ℕ, suc, ◌+◌, ◌-◌, ◌≤◌, ◌||◌, not, Bool, true, false, cond, List, [], ◌∷◌, ◌++◌, length, slice_get, Some, None, if◌then◌else◌}
+use Rattle.std.specs.Prelude.{◌≡◌, ℕ, zero, suc, ◌+◌, ◌-◌, ◌≤◌, ◌||◌, not, Bool, true, false, cond, List, [], ◌∷◌, ◌++◌, length, slice_get, Some, None, if◌then◌else◌}
 use Rattle.std.specs.List.{AllByRecursion, position_or_len}
 use Rattle.std.specs.Str.{bytes_eq}
-use Rattle.std.proofs.Common.{ap, arith, refl, sym, ◌∙◌, subst, append-nil, append_assoc}
+use Rattle.std.proofs.Common.{◌⊎◌, inl, inr, ap, arith, refl, sym, ◌∙◌, subst, append-nil, append_assoc}
 use Rattle.std.proofs.lemmas.List.Folds.{list_any-append}
 use Rattle.std.proofs.lemmas.Slice.Eq.{bytes_eq-Decides}
 use Rattle.jfr_mask.specs.Laws.{AreNumbered}
-use Rattle.jfr_mask.specs.Pseudonyms.{has_text, number_of, with_text, with_texts}
+use Rattle.jfr_mask.specs.Pseudonyms.{IsDictionary, has_text, number_of, with_text, with_texts}
 
 pub eq_self : (t : List ℕ) → bytes_eq t t ≡ true
 eq_self t = (bytes_eq-Decides t t).1 refl
@@ -92,26 +92,6 @@ has_each : (d ts : List (List ℕ)) → AllByRecursion (λ t. has_text (with_tex
 has_each d [] = tt
 has_each d (t ∷ ts) = (has_kept (with_text d t) ts t (has_one d t), has_each (with_text d t) ts)
 
-at_number : (d : List (List ℕ)) (t : List ℕ) → has_text d t ≡ true → slice_get d (number_of d t - 1) ≡ Some t
-at_number d t h = let e : number_of d t - 1 ≡ index_of d t = omega arith in rw e (at_index d t h)
-
-pub are_numbered : (d ts : List (List ℕ)) → AreNumbered d ts
-are_numbered d ts = record {
-  there = has_each d ts;
-  kept = has_kept d ts;
-  at_number = at_number (with_texts d ts);
-  stable = number_kept d ts;
-  distinct = number_one d;
-}
-
-pub number_most : (d : List (List ℕ)) (t : List ℕ) → number_of d t ≤ length d + 1
-number_most [] t = omega arith
-number_most (u ∷ us) t = by_eq (bytes_eq u t) (number_most us t)
-  where
-    by_eq : (b : Bool) → index_of us t + 1 ≤ length us + 1 → cond (not b) (1 + index_of us t) 0 + 1 ≤ length (u ∷ us) + 1
-    by_eq true h = omega arith
-    by_eq false h = omega arith
-
 -- A text that isn't there is added with the next number; the others keep theirs.
 index_last : (d : List (List ℕ)) (t : List ℕ) → has_text d t ≡ false → index_of (d ++ t ∷ []) t ≡ length d
 index_last [] t h = ap (λ b. cond (not b) (1 + 0) 0) (eq_self t)
@@ -160,3 +140,62 @@ absent_found d t e = by_there (has_text d t) e
     by_there : (b : Bool) → None ≡ (if b then Some (number_of d t) else None) → b ≡ false
     by_there true e = cc
     by_there false e = refl
+
+-- A text at an index is there.
+has_at : (d : List (List ℕ)) (i : ℕ) (t : List ℕ) → slice_get d i ≡ Some t → has_text d t ≡ true
+has_at [] i t e = cc
+has_at (u ∷ us) zero t e = let h : u ≡ t = cc in or_true (bytes_eq u t) (has_text us t) (ap (λ z. bytes_eq z t) h ∙ eq_self t)
+has_at (u ∷ us) (suc i) t e = true_or (bytes_eq u t) (has_text us t) (has_at us i t e)
+
+-- What is at an index after a text is added at the end.
+at_added : (d : List (List ℕ)) (t u : List ℕ) (i : ℕ) → slice_get (d ++ t ∷ []) i ≡ Some u → (slice_get d i ≡ Some u) ⊎ ((i ≡ length d) × (t ≡ u))
+at_added [] t u zero e = let h : t ≡ u = cc in inr (refl, h)
+at_added [] t u (suc i) e = cc
+at_added (v ∷ vs) t u zero e = inl e
+at_added (v ∷ vs) t u (suc i) e = by_part (at_added vs t u i e)
+  where
+    by_part : ((slice_get vs i ≡ Some u) ⊎ ((i ≡ length vs) × (t ≡ u))) → (slice_get vs i ≡ Some u) ⊎ ((suc i ≡ suc (length vs)) × (t ≡ u))
+    by_part (inl h) = inl h
+    by_part (inr h) = inr (ap suc h.0, h.1)
+
+pub distinct_added : (d : List (List ℕ)) (t : List ℕ) → IsDictionary d → has_text d t ≡ false → IsDictionary (d ++ t ∷ [])
+distinct_added d t old absent = record { each = λ i u e. by_part i u (at_added d t u i e) }
+  where
+    by_part : (i : ℕ) (u : List ℕ) → ((slice_get d i ≡ Some u) ⊎ ((i ≡ length d) × (t ≡ u))) → number_of (d ++ t ∷ []) u ≡ i + 1
+    by_part i u (inl h) = number_old d t u (has_at d i u h) ∙ old.each i u h
+    by_part i u (inr h) = ap (number_of (d ++ t ∷ [])) (sym h.1) ∙ (number_last d t absent ∙ ap (λ n. n + 1) (sym h.0))
+
+distinct_with : (d : List (List ℕ)) (t : List ℕ) → IsDictionary d → IsDictionary (with_text d t)
+distinct_with d t old = by_there (has_text d t) refl
+  where
+    by_there : (b : Bool) → has_text d t ≡ b → IsDictionary (if b then d else d ++ t ∷ [])
+    by_there true e = old
+    by_there false e = distinct_added d t old e
+
+distinct_all : (d ts : List (List ℕ)) → IsDictionary d → IsDictionary (with_texts d ts)
+distinct_all d [] old = old
+distinct_all d (t ∷ ts) old = distinct_all (with_text d t) ts (distinct_with d t old)
+
+pub distinct_nil : IsDictionary []
+distinct_nil = record { each = λ i t e. cc }
+
+at_number : (d : List (List ℕ)) (t : List ℕ) → has_text d t ≡ true → slice_get d (number_of d t - 1) ≡ Some t
+at_number d t h = let e : number_of d t - 1 ≡ index_of d t = omega arith in rw e (at_index d t h)
+
+pub are_numbered : (d ts : List (List ℕ)) → AreNumbered d ts
+are_numbered d ts = record {
+  distinct = distinct_all d ts;
+  there = has_each d ts;
+  kept = has_kept d ts;
+  at_number = at_number d;
+  stable = number_kept d ts;
+  one = number_one d;
+}
+
+pub number_most : (d : List (List ℕ)) (t : List ℕ) → number_of d t ≤ length d + 1
+number_most [] t = omega arith
+number_most (u ∷ us) t = by_eq (bytes_eq u t) (number_most us t)
+  where
+    by_eq : (b : Bool) → index_of us t + 1 ≤ length us + 1 → cond (not b) (1 + index_of us t) 0 + 1 ≤ length (u ∷ us) + 1
+    by_eq true h = omega arith
+    by_eq false h = omega arith

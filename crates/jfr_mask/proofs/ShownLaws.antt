@@ -8,7 +8,7 @@ use Rattle.std.proofs.lemmas.Str.{encodes-IsAscii, encodes-append, encodes-chars
 use lib.Utf8.{encode, encodes}
 use Rattle.jfr_filter.specs.Patterns.{glob, some_suffix}
 use Rattle.jfr_mask.specs.Laws.{AreDistinct}
-use Rattle.jfr_mask.specs.Pseudonyms.{has_text, number_of, is_descriptor, is_known, is_pseudonym, pseudonym, shown, stays}
+use Rattle.jfr_mask.specs.Pseudonyms.{has_text, number_of, is_descriptor, is_known, is_like_pseudonym, pseudonym, shown, stays}
 use Rattle.jfr_mask.proofs.NumberLaws.{number_most, number_one}
 
 abbrev first : List ℕ → ℕ
@@ -32,7 +32,7 @@ star_matches [] = refl
 star_matches (c ∷ cs) = star_matches cs
 
 -- A pseudonym begins as one.
-pseudonym_begins : (a : Bool) (n : ℕ) → is_pseudonym (pseudonym a n) ≡ true
+pseudonym_begins : (a : Bool) (n : ℕ) → is_like_pseudonym (pseudonym a n) ≡ true
 unfolding glob
 pseudonym_begins true n = star_matches (decimal n)
 pseudonym_begins false n = ap (λ b. b || glob (codes "()masked-*") (pseudonym false n)) (star_matches (decimal n))

@@ -1,5 +1,5 @@
 pub mod Fields
-pub mod Kept
+pub mod Held
 pub mod Laws
 pub mod Pseudonyms
 pub mod Written

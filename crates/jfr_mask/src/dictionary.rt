@@ -1,8 +1,8 @@
 //! The dictionary of masked texts.
-ghost use Rattle.std.specs.Prelude.{◌≡◌, ◌+◌, ◌-◌, ◌∷◌, ◌++◌, ◌↔◌, [], length, IfOk, IsTrue, OnErr, OnOk, None, Some, false, slice_get, if◌then◌else◌};
+ghost use Rattle.std.specs.Prelude.{◌≡◌, ◌+◌, ◌-◌, ◌∷◌, ◌++◌, ◌↔◌, [], length, IfOk, IfSome, IsTrue, OnErr, OnOk, None, Some, false, slice_get, if◌then◌else◌};
 ghost use Rattle.std.specs.Str.{chars};
 ghost use Rattle.jfr_base.specs.Texts.{text_in};
-ghost use Rattle.jfr_mask.specs.Kept.{AreNumbersOf, texts_in};
+ghost use Rattle.jfr_mask.specs.Held.{AreNumbersOf, texts_in};
 ghost use Rattle.jfr_mask.specs.Pseudonyms.{has_text, number_of, with_text};
 
 use jfr_base::NoMemory;
@@ -22,7 +22,7 @@ pub struct Dictionary {
 
 impl Model for Dictionary {
     ghost use Rattle.std.specs.Prelude.{ℕ, List};
-    ghost use Rattle.jfr_mask.specs.Kept.{AreNumbersOf, texts_in};
+    ghost use Rattle.jfr_mask.specs.Held.{AreNumbersOf, texts_in};
 
     ghost Value = { List (List ℕ) };
 
@@ -89,12 +89,12 @@ impl Dictionary {
 
     /// The text with this index, from 0, if there is one. Its number is one more.
     pub fn get(&self, at: usize) -> Option<&str>
-        ensures { text_in result ≡ slice_get self.now at }
+        ensures text { text_in result ≡ slice_get self.now at }
+        ensures number { IfSome result (λ text. number_of self.now (chars text.now) ≡ at + 1) }
     {
-        if at < self.texts.len() {
-            Some(self.texts[at].as_str())
-        } else {
-            None
+        match self.texts.get(at) {
+            Some(text) => Some(text.as_str()),
+            None => None,
         }
     }
 }

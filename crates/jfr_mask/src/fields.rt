@@ -38,7 +38,7 @@ impl MaskedFields {
     ) -> Result<MaskedFields, NoMemory>
         ensures ok { IfOk result (λ masked. masked ≡ masks_of strings.now except.now classes.now) }
     {
-        let chosen = Chosen {
+        let selector = Selector {
             strings,
             except,
             classes,
@@ -47,7 +47,7 @@ impl MaskedFields {
         let mut constants = false;
         for index in 0..classes.len() {
             let class = classes.class_at(index);
-            let masked = chosen.class_masks(alloc, class)?;
+            let masked = selector.class_masks(alloc, class)?;
             constants |= has_constant(class, &masked);
             fields.push(masked)?;
         }
@@ -84,13 +84,13 @@ fn flag_at(flags: &[bool], at: usize) -> bool
 
 // The patterns of fields that are masked and of those that aren't, and the classes.
 #[derive(Clone, Copy)]
-struct Chosen<'c> {
+struct Selector<'c> {
     strings: &'c Words,
     except: &'c Words,
     classes: &'c Classes,
 }
 
-impl<'c> Chosen<'c> {
+impl<'c> Selector<'c> {
     // For each field of a class, whether it is masked.
     fn class_masks(&self, alloc: Global, class: &ClassInfo) -> Result<Vec<bool>, NoMemory>
         ensures ok { IfOk result (λ masked. masked.items ≡ map (is_masked self.now.strings.now self.now.except.now self.now.classes.now class.now) class.now.fields) }

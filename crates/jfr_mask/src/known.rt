@@ -2,8 +2,8 @@
 ghost use Rattle.std.specs.Prelude.{◌≡◌, ◌||◌, ◌∷◌, ◌&&◌, ℕ, List, [], IfOk, OnOk, not};
 ghost use Rattle.std.specs.Str.{chars};
 ghost use Rattle.bstr.specs.Utf8.{lossy_chars};
-ghost use Rattle.jfr_mask.specs.Kept.{texts_of};
-ghost use Rattle.jfr_mask.specs.Pseudonyms.{has_text, is_known, is_pseudonym, lines_of};
+ghost use Rattle.jfr_mask.specs.Held.{texts_of};
+ghost use Rattle.jfr_mask.specs.Pseudonyms.{has_text, is_known, is_like_pseudonym, lines_of};
 
 use jfr_base::NoMemory;
 use jfr_filter::glob;
@@ -19,7 +19,7 @@ pub struct Known {
 
 impl Model for Known {
     ghost use Rattle.std.specs.Prelude.{ℕ, List};
-    ghost use Rattle.jfr_mask.specs.Kept.{texts_of};
+    ghost use Rattle.jfr_mask.specs.Held.{texts_of};
 
     ghost Value = { List (List ℕ) };
 
@@ -61,7 +61,7 @@ fn add_line(alloc: Global, texts: &mut BTreeSet<String>, line: &[u8]) -> Result<
     ensures ok { OnOk result ((t : List ℕ) → has_text (texts_of texts.new) t ≡ (has_text (texts_of texts.old) t || is_known (lossy_chars line.now ∷ []) t)) }
 {
     let text = String::from_utf8_lossy(alloc, line)?;
-    if is_pseudonym(text.as_str()) {
+    if is_like_pseudonym(text.as_str()) {
         return Ok(());
     }
     texts.insert(text)?;
@@ -69,8 +69,8 @@ fn add_line(alloc: Global, texts: &mut BTreeSet<String>, line: &[u8]) -> Result<
 }
 
 // Whether the text begins as a pseudonym does.
-fn is_pseudonym(text: &str) -> bool
-    ensures { result ≡ is_pseudonym (chars text.now) }
+fn is_like_pseudonym(text: &str) -> bool
+    ensures { result ≡ is_like_pseudonym (chars text.now) }
 {
     glob("masked-*", text) || glob("()masked-*", text)
 }

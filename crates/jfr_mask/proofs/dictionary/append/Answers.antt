@@ -1,7 +1,7 @@
 use Rattle.std.proofs.Common.{ap, rules, sym, subst, ◌∙◌, ◌≡◌, ◌+◌, ◌∷◌, ◌++◌, [], length}
 use Rattle.std.specs.Rc.{rc_str_bytes}
 use Rattle.std.specs.Str.{chars}
-use Rattle.jfr_mask.specs.Kept.{AreNumbersOf, texts_in}
+use Rattle.jfr_mask.specs.Held.{AreNumbersOf, texts_in}
 use Rattle.jfr_mask.specs.Pseudonyms.{number_of}
 use Rattle.jfr_mask.proofs.MapLaws.{length-texts_in, numbers_added, texts_added}
 use Rattle.jfr_mask.proofs.NumberLaws.{number_last}

@@ -3,15 +3,15 @@ use Rattle.std.specs.Str.{bytes_eq, chars}
 use Rattle.std.proofs.Common.{ap, sym, ◌∙◌}
 use Rattle.std.proofs.lemmas.Str.{IsUtf8-string_bytes}
 use Rattle.bstr.specs.Utf8.{lossy_chars}
-use Rattle.jfr_mask.specs.Kept.{texts_of}
-use Rattle.jfr_mask.specs.Pseudonyms.{has_text, is_pseudonym}
+use Rattle.jfr_mask.specs.Held.{texts_of}
+use Rattle.jfr_mask.specs.Pseudonyms.{has_text, is_like_pseudonym}
 use Rattle.jfr_mask.proofs.KnownLaws.{line_known, line_unknown, lossy_text, or_false, text_updated}
 use Rattle.jfr_mask.proofs.known.add_line.Goals as goal
 
-pub returns-then-is_pseudonym : goal.returns-then-is_pseudonym
-returns-then-is_pseudonym c =
+pub returns-then-is_like_pseudonym : goal.returns-then-is_like_pseudonym
+returns-then-is_like_pseudonym c =
     let text : chars (string_bytes c.in_ok-text.text) ≡ lossy_chars c.args.line.now = lossy_text (string_bytes c.in_ok-text.text) c.args.line.now (IsUtf8-string_bytes c.in_ok-text.text) c.in_ok-text.ensures.lossy in
-    let begins : is_pseudonym (lossy_chars c.args.line.now) ≡ true = ap is_pseudonym (sym text) ∙ (ap (λ z. is_pseudonym (chars z)) (sym c.as_str.ensures.value) ∙ (sym c.is_pseudonym.ensures ∙ c.if-is_pseudonym.true)) in
+    let begins : is_like_pseudonym (lossy_chars c.args.line.now) ≡ true = ap is_like_pseudonym (sym text) ∙ (ap (λ z. is_like_pseudonym (chars z)) (sym c.as_str.ensures.value) ∙ (sym c.is_like_pseudonym.ensures ∙ c.if-is_like_pseudonym.true)) in
     record {
       ok = λ t.
           let had = has_text (texts_of c.args.texts.now) t in
@@ -21,7 +21,7 @@ returns-then-is_pseudonym c =
 pub returns : goal.returns
 returns c =
     let text : chars (string_bytes c.in_ok-text.text) ≡ lossy_chars c.args.line.now = lossy_text (string_bytes c.in_ok-text.text) c.args.line.now (IsUtf8-string_bytes c.in_ok-text.text) c.in_ok-text.ensures.lossy in
-    let begins : is_pseudonym (lossy_chars c.args.line.now) ≡ false = ap is_pseudonym (sym text) ∙ (ap (λ z. is_pseudonym (chars z)) (sym c.as_str.ensures.value) ∙ (sym c.is_pseudonym.ensures ∙ c.if-is_pseudonym.false)) in
+    let begins : is_like_pseudonym (lossy_chars c.args.line.now) ≡ false = ap is_like_pseudonym (sym text) ∙ (ap (λ z. is_like_pseudonym (chars z)) (sym c.as_str.ensures.value) ∙ (sym c.is_like_pseudonym.ensures ∙ c.if-is_like_pseudonym.false)) in
     record {
       ok = λ t.
           let had = has_text (texts_of c.args.texts.now) t in

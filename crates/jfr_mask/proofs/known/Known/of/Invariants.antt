@@ -1,6 +1,6 @@
 use Rattle.std.specs.Prelude.{◌≡◌, ℕ, List, map}
 use Rattle.bstr.specs.Utf8.{lossy_chars}
-use Rattle.jfr_mask.specs.Kept.{texts_of}
+use Rattle.jfr_mask.specs.Held.{texts_of}
 use Rattle.jfr_mask.specs.Pseudonyms.{has_text, is_known}
 use Rattle.jfr_mask.proofs.known.Known.of.Given as goal
 

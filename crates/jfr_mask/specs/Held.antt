@@ -8,7 +8,7 @@ use Rattle.std.specs.Rc.{rc_str_bytes}
 use Rattle.std.specs.declared.rc.RcStr.{RcStr}
 use Rattle.std.specs.Str.{chars}
 use Rattle.std.specs.declared.alloc.Global.{Global}
-use Rattle.jfr_mask.specs.Pseudonyms.{has_text, number_of}
+use Rattle.jfr_mask.specs.Pseudonyms.{IsDictionary, has_text, number_of}
 
 -- The texts of a list.
 abbrev pub texts_in : List (RcStr Global) → List (List ℕ)
@@ -18,8 +18,9 @@ texts_in texts = map (λ t. chars (rc_str_bytes t)) texts
 abbrev pub number_under : BTreeMap (RcStr Global) ℕ → List ℕ → Option ℕ
 number_under numbers bytes = get_by (λ k. slice_cmp nat_cmp bytes (rc_str_bytes k)) numbers
 
--- The map has the number of each text of the list, and nothing else.
+-- The list is a dictionary. The map has the number of each text of the list, and nothing else.
 pub record AreNumbersOf (texts : List (List ℕ)) (numbers : BTreeMap (RcStr Global) ℕ) : Type 0 where
+  pub distinct : IsDictionary texts
   pub each : (bytes : List ℕ) → IsUtf8 bytes → number_under numbers bytes ≡ (if has_text texts (chars bytes) then Some (number_of texts (chars bytes)) else None)
 
 -- The texts of a set, in the order of their bytes.

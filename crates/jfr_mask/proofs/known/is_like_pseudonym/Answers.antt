@@ -1,6 +1,6 @@
 use Rattle.std.specs.Str.{chars}
 use Rattle.jfr_mask.proofs.KnownLaws.{or_first, or_second}
-use Rattle.jfr_mask.proofs.known.is_pseudonym.Goals as goal
+use Rattle.jfr_mask.proofs.known.is_like_pseudonym.Goals as goal
 
 pub returns-then-glob : goal.returns-then-glob
 unfolding chars

@@ -1,12 +1,12 @@
 use Rattle.std.proofs.Common.{◌≡◌, ◌++◌, ◌∷◌, [], ap, map, rules, take, sym, ◌∙◌}
 use Rattle.jfr_layout.proofs.Lists.{map_next}
 use Rattle.jfr_mask.specs.Fields.{is_masked}
-use Rattle.jfr_mask.proofs.fields.Chosen.class_masks.Goals as goal
+use Rattle.jfr_mask.proofs.fields.Selector.class_masks.Goals as goal
 
 pub loop-number-preserved : goal.loop-number-preserved
 loop-number-preserved c =
-    let chosen = c.args.self.now in
-    let test = is_masked chosen.strings.now chosen.except.now chosen.classes.now c.args.class.now in
+    let selector = c.args.self.now in
+    let test = is_masked selector.strings.now selector.except.now selector.classes.now c.args.class.now in
     let pushed : c.push.new.self.items ≡ c.loop-number.masked.items ++ c.in_ok-is_masked.is_masked ∷ [] = search rules in
     pushed
     ∙ (ap (λ z. z ++ c.in_ok-is_masked.is_masked ∷ []) c.loop-number.invariant
