@@ -1,65 +1,99 @@
--- The text of a frame is that of each frame with the same method.
-use Rattle.std.specs.Prelude.{◌≡◌, ◌<◌, ℕ, zero, suc, Bool, false, true, List, [], ◌∷◌, ◌++◌, codes, flat_map, length, Option, None, Some, option_and_then, replicate, slice_get, slice_set, String, string_bytes, if◌then◌else◌}
+-- The text of a value in a role is that of each reference to the same entry, and is made from its fields.
+use Rattle.std.specs.Prelude.{◌≡◌, ◌<◌, ◌-◌, ◌+◌, ℕ, zero, suc, Bool, false, true, List, [], ◌∷◌, ◌++◌, codes, flat_map, length, Option, None, Some, Result, Ok, Err, OnErr, option_and_then, replicate, slice_get, slice_set, String, string_bytes, if◌then◌else◌}
 use Rattle.std.specs.declared.alloc.Global.{Global}
 use Rattle.std.specs.Option.{option_map, option_map_or}
 use Rattle.std.proofs.Common.{ap, arith, refl, subst, sym, ◌∙◌}
-use Rattle.std.proofs.lemmas.List.{length-replicate, length-set, map-set}
+use Rattle.std.proofs.lemmas.List.{length-append, length-map, length-replicate, map-append, map-set}
 use Rattle.jfr_value.specs.Nodes.{NodeAt}
 use Rattle.jfr_pool.specs.Entries.{entry_node}
-use Rattle.jfr_pool.specs.declared.entry.EntryAt.{EntryAt}
 use Rattle.jfr_chunk.specs.Parts.{Parts}
 use Rattle.jfr_chunk.specs.Paths.{is_reference, named_field, named_node, text_of}
 use Rattle.jfr_path.proofs.FollowLaws.{followed}
 use Rattle.jfr_stacks.specs.Frames.{after_references, entry_number}
-use Rattle.jfr_stacks.specs.Cached.{AreIndices, text_at, texts_at}
-use Rattle.jfr_stacks.specs.Methods.{AreMethodTexts, IsMethodText, method_of}
-use Rattle.jfr_stacks.specs.Texts.{escaped, frame_text, method_names, name_text, type_names}
+use Rattle.jfr_stacks.specs.Cached.{AreIndices, sized, text_at, texts_at}
+use Rattle.jfr_stacks.specs.declared.role.Role.{Role}
+use Rattle.jfr_stacks.specs.declared.role.Role.TheVariants.{Frame, Method, Class, Name}
+use Rattle.jfr_stacks.specs.declared.texts.RoleTexts.{RoleTexts}
+use Rattle.jfr_stacks.specs.Roles.{AreEntryTexts, AreRoleTexts, IsEntryText, of_role, own_name, referred, role_text, type_name}
+use Rattle.jfr_stacks.specs.Texts.{escaped, frame_text, name_text}
 use Rattle.jfr_stacks.proofs.TextLaws.{entry_followed, leads_to, there}
 
--- The method of a frame: the value of its field, which refers to this entry.
-record Method (p : Parts) (frame : NodeAt) (number : ℕ) : Type 0 where
-  node : NodeAt
-  field : named_field p (codes "method") (after_references 16 p frame) ≡ Some node
-  reference : is_reference node ≡ true
-  entry : entry_number p node ≡ Some number
+-- How many roles may follow.
+abbrev pub rank : Role → ℕ
+rank Frame = 3
+rank Method = 2
+rank Class = 1
+rank Name = 0
 
-method_in : (p : Parts) (frame : NodeAt) (number : ℕ) → method_of p frame ≡ Some number → Method p frame number
-method_in p frame number e = by_field (named_field p (codes "method") (after_references 16 p frame)) refl e
+-- A value that refers to an entry is a reference to it.
+record Reference (p : Parts) (n : NodeAt) (number : ℕ) : Type 0 where
+  reference : is_reference n ≡ true
+  entry : entry_number p n ≡ Some number
+
+reference_in : (p : Parts) (n : NodeAt) (number : ℕ) → referred p n ≡ Some number → Reference p n number
+reference_in p n number e = by_test (is_reference n) refl e
   where
-    by_test : (m : NodeAt) (b : Bool) → named_field p (codes "method") (after_references 16 p frame) ≡ Some m → is_reference m ≡ b → (if b then entry_number p m else None) ≡ Some number → Method p frame number
-    by_test m true f t e = record { node = m; field = f; reference = t; entry = e }
-    by_test m false f t e = cc
-
-    by_field : (o : Option NodeAt) → named_field p (codes "method") (after_references 16 p frame) ≡ o → option_and_then (λ m. if is_reference m then entry_number p m else None) o ≡ Some number → Method p frame number
-    by_field None f e = cc
-    by_field (Some m) f e = by_test m (is_reference m) f refl e
-
--- The text to which names lead from a method, of which this is the value after following references.
-abbrev text_from : Parts → NodeAt → List ℕ → List (List ℕ) → Option (List ℕ)
-text_from p holder name names = option_and_then (text_of p) (option_map (after_references 16 p) (option_and_then (λ m. named_node p m names) (named_field p name holder)))
+    by_test : (b : Bool) → is_reference n ≡ b → (if b then entry_number p n else None) ≡ Some number → Reference p n number
+    by_test true t e = record { reference = t; entry = e }
+    by_test false t e = cc
 
 module _ (p : Parts) where
-  text_found : (frame : NodeAt) (number : ℕ) (x : EntryAt) → Method p frame number → slice_get p.entries number ≡ Some x → (name : List ℕ) (names : List (List ℕ)) → name_text p frame (codes "method" ∷ name ∷ names) ≡ option_map_or (flat_map escaped) (text_from p (after_references 15 p (entry_node x)) name names) (codes "?")
+  -- The text to which names lead depends on the value after following references.
+  text_from : NodeAt → List ℕ → List (List ℕ) → List ℕ
+  text_from holder name names = option_map_or (flat_map escaped) (option_and_then (text_of p) (option_map (after_references 16 p) (option_and_then (λ m. named_node p m names) (named_field p name holder)))) (codes "?")
+
+  -- References to the same entry lead to the same value.
+  same_value : (m n : NodeAt) (number : ℕ) → referred p m ≡ Some number → referred p n ≡ Some number → after_references 16 p m ≡ after_references 16 p n
+  same_value m n number e h =
+      let r = reference_in p m number e in
+      let s = reference_in p n number h in
+      let x = there p.entries number (leads_to p m number r.reference r.entry).within in
+      followed is_reference p 15 m (entry_node x.0) r.reference (entry_followed p m number x.0 r.entry x.1)
+      ∙ sym (followed is_reference p 15 n (entry_node x.0) s.reference (entry_followed p n number x.0 s.entry x.1))
+
+  same_name : (m n : NodeAt) (name : List ℕ) (names : List (List ℕ)) → after_references 16 p m ≡ after_references 16 p n → name_text p m (name ∷ names) ≡ name_text p n (name ∷ names)
   unfolding name_text
-  text_found frame number x m g name names =
-      ap (λ o. option_map_or (flat_map escaped) (option_and_then (text_of p) (option_map (after_references 16 p) (option_and_then (λ n. named_node p n (name ∷ names)) o))) (codes "?")) m.field
-      ∙ ap (λ h. option_map_or (flat_map escaped) (text_from p h name names) (codes "?")) (followed is_reference p 15 m.node (entry_node x) m.reference (entry_followed p m.node number x m.entry g))
+  same_name m n name names e = ap (λ h. option_map_or (flat_map escaped) (option_and_then (text_of p) (option_map (after_references 16 p) (option_and_then (λ m. named_node p m names) (named_field p name h)))) (codes "?")) e
 
-  -- Frames whose method is the same entry have the same text.
-  same_method : (f g : NodeAt) (number : ℕ) → method_of p f ≡ Some number → method_of p g ≡ Some number → frame_text p f ≡ frame_text p g
-  same_method f g number e h =
-      let m = method_in p f number e in
-      let n = method_in p g number h in
-      let x = there p.entries number (leads_to p m.node number m.reference m.entry).within in
-      let a : name_text p f type_names ≡ name_text p g type_names = text_found f number x.0 m x.1 (codes "type") (codes "name" ∷ codes "string" ∷ []) ∙ sym (text_found g number x.0 n x.1 (codes "type") (codes "name" ∷ codes "string" ∷ [])) in
-      let b : name_text p f method_names ≡ name_text p g method_names = text_found f number x.0 m x.1 (codes "name") (codes "string" ∷ []) ∙ sym (text_found g number x.0 n x.1 (codes "name") (codes "string" ∷ [])) in
-      ap (λ z. z ++ codes "." ++ name_text p f method_names) a ∙ ap (λ z. name_text p g type_names ++ codes "." ++ z) b
+  same_text : (role : Role) (m n : NodeAt) → after_references 16 p m ≡ after_references 16 p n → role_text p role m ≡ role_text p role n
+  same_text Frame m n e =
+      ap (λ z. z ++ codes "." ++ name_text p m (codes "method" ∷ codes "name" ∷ codes "string" ∷ [])) (same_name m n (codes "method") (codes "type" ∷ codes "name" ∷ codes "string" ∷ []) e)
+      ∙ ap (λ z. name_text p n (codes "method" ∷ codes "type" ∷ codes "name" ∷ codes "string" ∷ []) ++ codes "." ++ z) (same_name m n (codes "method") (codes "name" ∷ codes "string" ∷ []) e)
+  same_text Method m n e =
+      ap (λ z. z ++ codes "." ++ own_name p m) (same_name m n (codes "type") (codes "name" ∷ codes "string" ∷ []) e)
+      ∙ ap (λ z. type_name p n ++ codes "." ++ z) (same_name m n (codes "name") (codes "string" ∷ []) e)
+  same_text Class m n e = same_name m n (codes "name") (codes "string" ∷ []) e
+  same_text Name m n e = same_name m n (codes "string") [] e
 
-  -- The text of one frame is that of each frame with this method.
-  pub text_of_method : (frame : NodeAt) (number : ℕ) (text : List ℕ) → method_of p frame ≡ Some number → text ≡ frame_text p frame → IsMethodText p number text
-  text_of_method frame number text e t = record { each = λ g h. same_method g frame number h e ∙ sym t }
+  -- The text of one reference is that of each reference to the same entry.
+  pub text_of_entry : (role : Role) (n : NodeAt) (number : ℕ) (text : List ℕ) → referred p n ≡ Some number → text ≡ role_text p role n → IsEntryText p role number text
+  text_of_entry role n number text e t = record { each = λ m h. same_text role m n (same_value m n number h e) ∙ sym t }
 
--- The texts of methods and the indices of texts, in a cache with one more text.
+  -- The entry to which a value refers exists.
+  pub entry_within : (n : NodeAt) (number : ℕ) → referred p n ≡ Some number → number < length p.entries
+  entry_within n number e = let r = reference_in p n number e in (leads_to p n number r.reference r.entry).within
+
+  -- The text to which names lead is that of the first name's field.
+  pub name_found : (n m : NodeAt) (name : List ℕ) (names : List (List ℕ)) → Some m ≡ named_field p name (after_references 16 p n) → name_text p n (name ∷ names) ≡ name_text p m names
+  unfolding name_text
+  name_found n m name names e = ap (λ o. option_map_or (flat_map escaped) (option_and_then (text_of p) (option_map (after_references 16 p) (option_and_then (λ m. named_node p m names) o))) (codes "?")) (sym e)
+
+  pub name_missing : (n : NodeAt) (name : List ℕ) (names : List (List ℕ)) → None ≡ named_field p name (after_references 16 p n) → name_text p n (name ∷ names) ≡ codes "?"
+  unfolding name_text
+  name_missing n name names e = ap (λ o. option_map_or (flat_map escaped) (option_and_then (text_of p) (option_map (after_references 16 p) (option_and_then (λ m. named_node p m names) o))) (codes "?")) (sym e)
+
+  -- The text of a frame is that of its method.
+  pub method_found : (n m : NodeAt) → Some m ≡ named_field p (codes "method") (after_references 16 p n) → frame_text p n ≡ role_text p Method m
+  method_found n m e =
+      ap (λ z. z ++ codes "." ++ name_text p n (codes "method" ∷ codes "name" ∷ codes "string" ∷ [])) (name_found n m (codes "method") (codes "type" ∷ codes "name" ∷ codes "string" ∷ []) e)
+      ∙ ap (λ z. type_name p m ++ codes "." ++ z) (name_found n m (codes "method") (codes "name" ∷ codes "string" ∷ []) e)
+
+  pub method_missing : (n : NodeAt) → None ≡ named_field p (codes "method") (after_references 16 p n) → frame_text p n ≡ codes "?.?"
+  method_missing n e =
+      ap (λ z. z ++ codes "." ++ name_text p n (codes "method" ∷ codes "name" ∷ codes "string" ∷ [])) (name_missing n (codes "method") (codes "type" ∷ codes "name" ∷ codes "string" ∷ []) e)
+      ∙ ap (λ z. codes "?" ++ codes "." ++ z) (name_missing n (codes "method") (codes "name" ∷ codes "string" ∷ []) e)
+
+-- A list with one more text.
 get_front : {X : Type 0} (xs ys : List X) (i : ℕ) → i < length xs → slice_get (xs ++ ys) i ≡ slice_get xs i
 get_front [] ys i h = absurd (omega arith)
 get_front (x ∷ xs) ys zero h = refl
@@ -69,7 +103,7 @@ get_end : {X : Type 0} (xs : List X) (x : X) → slice_get (xs ++ x ∷ []) (len
 get_end [] x = refl
 get_end (y ∷ xs) x = get_end xs x
 
-pub get_set : {X : Type 0} (xs : List X) (i : ℕ) (x : X) → i < length xs → slice_get (slice_set xs i x) i ≡ Some x
+get_set : {X : Type 0} (xs : List X) (i : ℕ) (x : X) → i < length xs → slice_get (slice_set xs i x) i ≡ Some x
 get_set [] i x h = absurd (omega arith)
 get_set (y ∷ xs) zero x h = refl
 get_set (y ∷ xs) (suc i) x h = get_set xs i x (omega arith)
@@ -83,46 +117,82 @@ set_each P (o ∷ xs) zero x h a (suc n) y e = a (suc n) y e
 set_each P (o ∷ xs) (suc j) x h a zero y e = a zero y e
 set_each P (o ∷ xs) (suc j) x h a (suc n) y e = set_each (λ n. P (suc n)) xs j x h (λ n. a (suc n)) n y e
 
+-- What is filled up has no value.
+no_value : {X : Type 0} (n i : ℕ) (x : X) → slice_get {X = Option X} (replicate n None) i ≡ Some (Some x) → ⊥
+no_value zero i x e = cc
+no_value (suc n) zero x e = cc
+no_value (suc n) (suc i) x e = no_value n i x e
+
+filled : {X : Type 0} (xs : List (Option X)) (n i : ℕ) (x : X) → slice_get (xs ++ replicate n None) i ≡ Some (Some x) → slice_get xs i ≡ Some (Some x)
+filled [] n i x e = absurd (no_value n i x e)
+filled (o ∷ xs) n zero x e = e
+filled (o ∷ xs) n (suc i) x e = filled xs n i x e
+
+length_sized : {X : Type 0} (xs : List (Option X)) (n : ℕ) → length (xs ++ replicate n None) ≡ length xs + n
+length_sized xs n = length-append xs (replicate n None) ∙ ap (λ z. length xs + z) (length-replicate n None)
+
 module _ (texts : List (String Global)) (t : String Global) where
-  same_texts : (indices : List (Option ℕ)) → ((n i : ℕ) → slice_get indices n ≡ Some (Some i) → i < length texts) → texts_at (texts ++ t ∷ []) indices ≡ texts_at texts indices
+  -- A text at the end changes none of the indices' texts.
+  pub same_texts : (indices : List (Option ℕ)) → ((n i : ℕ) → slice_get indices n ≡ Some (Some i) → i < length texts) → texts_at (texts ++ t ∷ []) indices ≡ texts_at texts indices
   same_texts [] h = refl
   same_texts (None ∷ indices) h = ap (λ (z : List (Option (List ℕ))). None ∷ z) (same_texts indices (λ n. h (suc n)))
   same_texts (Some i ∷ indices) h =
       ap (λ (z : List (Option (List ℕ))). text_at (texts ++ t ∷ []) (Some i) ∷ z) (same_texts indices (λ n. h (suc n)))
       ∙ ap (λ o. option_map string_bytes o ∷ texts_at texts indices) (get_front texts (t ∷ []) i (h 0 i refl))
 
-  pub texts_kept : (indices : List (Option ℕ)) (number : ℕ) → AreIndices texts indices → texts_at (texts ++ t ∷ []) (slice_set indices number (Some (length texts))) ≡ slice_set (texts_at texts indices) number (Some (string_bytes t))
-  texts_kept indices number a =
-      map-set (text_at (texts ++ t ∷ [])) indices number (Some (length texts))
-      ∙ (ap (λ o. slice_set (texts_at (texts ++ t ∷ []) indices) number (option_map string_bytes o)) (get_end texts t)
-      ∙ ap (λ z. slice_set z number (Some (string_bytes t))) (same_texts indices a.each))
-
--- Without indices there are no texts.
-pub texts_at-replicate : (texts : List (String Global)) (n : ℕ) → texts_at texts (replicate n None) ≡ replicate n None
+texts_at-replicate : (texts : List (String Global)) (n : ℕ) → texts_at texts (replicate n None) ≡ replicate n None
 texts_at-replicate texts zero = refl
 texts_at-replicate texts (suc n) = ap (λ (z : List (Option (List ℕ))). None ∷ z) (texts_at-replicate texts n)
 
-module _ (p : Parts) where
-  -- A cache without texts.
-  pub no_texts : (n : ℕ) → n ≡ length p.entries → AreMethodTexts p (replicate n None)
-  no_texts n e = record { each_entry = length-replicate n None ∙ e; each = λ number text is. absurd (none n number text is) }
-    where
-      none : (n number : ℕ) (text : List ℕ) → slice_get {X = Option (List ℕ)} (replicate n None) number ≡ Some (Some text) → ⊥
-      none zero number text is = cc
-      none (suc n) zero text is = cc
-      none (suc n) (suc number) text is = none n number text is
+-- With more indices.
+sized_texts : (texts : List (String Global)) (indices : List (Option ℕ)) (n : ℕ) → texts_at texts (indices ++ replicate (n - length indices) None) ≡ sized n (texts_at texts indices)
+sized_texts texts indices n =
+    map-append (text_at texts) indices (replicate (n - length indices) None)
+    ∙ (ap (λ z. texts_at texts indices ++ z) (texts_at-replicate texts (n - length indices))
+    ∙ ap (λ z. texts_at texts indices ++ replicate (n - z) None) (sym (length-map indices (text_at texts))))
 
-  pub text_added : (texts : List (Option (List ℕ))) (number : ℕ) (text : List ℕ) → IsMethodText p number text → AreMethodTexts p texts → AreMethodTexts p (slice_set texts number (Some text))
-  text_added texts number text t a = record { each_entry = length-set texts number (Some text) ∙ a.each_entry; each = set_each (IsMethodText p) texts number text t a.each }
+-- A text is kept.
+pub texts_kept : (texts : List (String Global)) (t : String Global) (indices : List (Option ℕ)) (entries number : ℕ) → AreIndices texts indices → texts_at (texts ++ t ∷ []) (slice_set (indices ++ replicate (entries - length indices) None) number (Some (length texts))) ≡ slice_set (sized entries (texts_at texts indices)) number (Some (string_bytes t))
+texts_kept texts t indices entries number a =
+    let all : List (Option ℕ) = indices ++ replicate (entries - length indices) None in
+    map-set (text_at (texts ++ t ∷ [])) all number (Some (length texts))
+    ∙ (ap (λ o. slice_set (texts_at (texts ++ t ∷ []) all) number (option_map string_bytes o)) (get_end texts t)
+    ∙ ap (λ z. slice_set z number (Some (string_bytes t))) (sized_texts (texts ++ t ∷ []) indices entries ∙ ap (sized entries) (same_texts texts t indices a.each)))
+
+-- The indices are those of texts, also with one more.
+pub indices_kept : (texts : List (String Global)) (t : String Global) (indices : List (Option ℕ)) (n number : ℕ) → AreIndices texts indices → AreIndices (texts ++ t ∷ []) (slice_set (indices ++ replicate n None) number (Some (length texts)))
+indices_kept texts t indices n number a =
+    let l : length (texts ++ t ∷ []) ≡ length texts + 1 = length-append texts (t ∷ []) in
+    record { each = set_each (λ n i. i < length (texts ++ t ∷ [])) (indices ++ replicate n None) number (length texts) (omega arith) (λ k i e. let h = a.each k i (filled indices n k i e) in omega arith) }
+
+-- The text that was kept.
+pub text_kept : (texts : List (Option (List ℕ))) (entries number : ℕ) (text : List ℕ) → number < entries → slice_get (slice_set (sized entries texts) number (Some text)) number ≡ Some (Some text)
+text_kept texts entries number text h = let l = length_sized texts (entries - length texts) in get_set (sized entries texts) number (Some text) (omega arith)
+
+module _ (p : Parts) (role : Role) where
+  -- A cache without texts.
+  pub no_texts : AreEntryTexts p role []
+  no_texts = record { each = λ number text is. cc }
+
+  -- A cache with one more text.
+  pub text_added : (texts : List (Option (List ℕ))) (entries number : ℕ) (text : List ℕ) → IsEntryText p role number text → AreEntryTexts p role texts → AreEntryTexts p role (slice_set (sized entries texts) number (Some text))
+  text_added texts entries number text t a = record { each = set_each (IsEntryText p role) (sized entries texts) number text t (λ n y e. a.each n y (filled texts (entries - length texts) n y e)) }
 
   -- The text that a cache has for an entry.
-  pub text_there : (texts : List (Option (List ℕ))) (number : ℕ) (text : List ℕ) → AreMethodTexts p texts → Some text ≡ option_and_then (λ x. x) (slice_get texts number) → IsMethodText p number text
+  pub text_there : (texts : List (Option (List ℕ))) (number : ℕ) (text : List ℕ) → AreEntryTexts p role texts → Some text ≡ option_and_then (λ x. x) (slice_get texts number) → IsEntryText p role number text
   text_there texts number text a e = a.each number text (by_slot (slice_get texts number) e)
     where
       by_slot : (o : Option (Option (List ℕ))) → Some text ≡ option_and_then (λ x. x) o → o ≡ Some (Some text)
       by_slot None e = cc
       by_slot (Some o) e = ap Some (sym e)
 
-  -- The entry that is the method of a frame exists.
-  pub method_within : (frame : NodeAt) (number : ℕ) → method_of p frame ≡ Some number → number < length p.entries
-  method_within frame number e = let m = method_in p frame number e in (leads_to p m.node number m.reference m.entry).within
+-- The texts in each role.
+pub in_role : (p : Parts) (texts : RoleTexts) (role : Role) → AreRoleTexts p texts → AreEntryTexts p role (of_role texts role)
+in_role p texts Frame a = a.frames
+in_role p texts Method a = a.methods
+in_role p texts Class a = a.classes
+in_role p texts Name a = a.names
+
+pub on_err : {T E : Type 0} (r : Result T E) (P : Type 0) → P → OnErr r P
+on_err (Ok x) P h = tt
+on_err (Err e) P h = h

@@ -1,32 +1,28 @@
-//! A cache of the texts of frames, for one chunk.
+//! Caches of the texts of entries, for one chunk.
 //!
-//! Many frames refer to the same few methods. The text of a frame depends only on the chunk and on the value of
-//! its field `method`. So all frames that refer to the same entry have the same text, which is made only once.
-ghost use Rattle.std.specs.Prelude.{◌≡◌, ◌<◌, IfOk, OnErr, OnOk, codes, length, option_and_then, replicate, slice_get, slice_set, string_bytes};
+//! Many values refer to the same few entries, and their text depends only on the entry and on their role. So a
+//! text is made once for each entry in each role. Otherwise each reference would cost a walk over the fields of
+//! its entry, and a few entries with many fields could make this take hours.
+ghost use Rattle.std.specs.Prelude.{◌≡◌, ◌++◌, ◌-◌, ◌<◌, [], None, OnErr, OnOk, Some, length, option_and_then, replicate, slice_get, slice_set, string_bytes};
 ghost use Rattle.std.specs.Option.{option_copied};
-ghost use Rattle.jfr_value.specs.Nodes.{node_of};
-ghost use Rattle.jfr_stacks.specs.Frames.{IsChunkValue, field_numbers};
-ghost use Rattle.jfr_stacks.specs.Methods.{method_of};
+ghost use Rattle.jfr_chunk.specs.Parts.{Parts};
+ghost use Rattle.jfr_stacks.specs.Cached.{sized};
+ghost use Rattle.jfr_stacks.specs.Roles.{AreRoleTexts, IsEntryText, of_role};
 
-use crate::entry::entry_number;
-use crate::fields::FieldNumbers;
+use crate::role::Role;
 use jfr_base::NoMemory;
-use jfr_chunk::Chunk;
-use jfr_path::is_reference;
-use jfr_value::Node;
 use std::alloc::Global;
 use std::marker::Model;
 
-/// The texts of the frames of one chunk, by the number of the entry that is their method. Contracts see, for
-/// each entry, its text if the cache has it.
+/// The texts of entries in one role. Contracts see a list that has, for an entry, its text if the cache has it.
 #[derive(Drop)]
-pub(crate) struct MethodTexts {
-    // For each entry, the index of its text, if it has one.
+pub(crate) struct EntryTexts {
+    // Empty without texts; then for each entry the index of its text, if it has one.
     indices: Vec<Option<usize>>,
     texts: Vec<String>,
 }
 
-impl Model for MethodTexts {
+impl Model for EntryTexts {
     ghost use Rattle.std.specs.Prelude.{ℕ, List, Option};
     ghost use Rattle.jfr_stacks.specs.Cached.{AreIndices, texts_at};
 
@@ -37,53 +33,101 @@ impl Model for MethodTexts {
     ghost invariant = { λ m. AreIndices m.texts.items m.indices.items };
 }
 
-impl MethodTexts {
-    /// A cache without texts, for a chunk with this number of entries.
-    pub(crate) fn new(alloc: Global, entries: usize) -> Result<MethodTexts, NoMemory>
-        ensures { IfOk result (λ texts. texts ≡ replicate entries None) }
+impl EntryTexts {
+    /// A cache without texts. It allocates nothing.
+    fn new(alloc: Global) -> EntryTexts
+        ensures { result ≡ [] }
     {
-        let indices = vec![in alloc; None; entries]?;
-        Ok(MethodTexts {
-            indices,
+        EntryTexts {
+            indices: Vec::new(alloc),
             texts: Vec::new(alloc),
-        })
+        }
     }
 
     /// The text for the entry with this number, if the cache has it.
-    pub(crate) fn get(&self, number: usize) -> Option<&str>
+    fn get(&self, number: usize) -> Option<&str>
         ensures { option_copied result ≡ option_and_then (λ text. text) (slice_get self.now number) }
     {
         let index = (*self.indices.get(number)?)?;
         Some(self.texts.get(index)?.as_str())
     }
 
-    /// Keeps the text for the entry with this number.
-    pub(crate) fn keep(&mut self, number: usize, text: String) -> Result<(), NoMemory>
-        requires { number < length self.old }
-        ensures ok { OnOk result (self.new ≡ slice_set self.old number (Some (string_bytes text))) }
+    /// Keeps the text for the entry with this number, of this many entries.
+    fn keep(&mut self, entries: usize, number: usize, text: String) -> Result<(), NoMemory>
+        requires { number < entries }
+        ensures ok { OnOk result (self.new ≡ slice_set (sized entries self.old) number (Some (string_bytes text))) }
         ensures unchanged { OnErr result (self.new ≡ self.old) }
     {
         let index = self.texts.len();
         self.texts.push(text)?;
+        grow(&mut self.indices, entries)?;
         self.indices[number] = Some(index);
         Ok(())
     }
 }
 
-/// The number of the entry to which the method of a frame refers, given the numbers of the fields `method`;
-/// `None` exactly if there is no such entry.
-pub(crate) fn method_of<'a>(
-    chunk: &Chunk<'a>,
-    fields: &FieldNumbers,
-    frame: &Node<'a>,
-) -> Option<usize>
-    requires fields { fields.now ≡ field_numbers (codes "method") chunk.now.classes }
-    requires frame { IsChunkValue chunk.now frame.now }
-    ensures { result ≡ method_of chunk.now (node_of frame.now) }
+/// Fills the list up to this length.
+fn grow(indices: &mut Vec<Option<usize>>, entries: usize) -> Result<(), NoMemory>
+    ensures ok { OnOk result (indices.new.items ≡ indices.old.items ++ replicate (entries - length indices.old.items) None) }
+    ensures unchanged { OnErr result (indices.new.items ≡ indices.old.items) }
 {
-    let method = fields.find(chunk, frame)?;
-    if !is_reference(&method) {
-        return None;
+    if indices.len() < entries {
+        indices.resize(entries, None)?;
     }
-    entry_number(chunk, &method)
+    Ok(())
+}
+
+/// The texts of entries in each role.
+#[derive(Drop)]
+pub(crate) struct RoleTexts {
+    pub(crate) frames: EntryTexts,
+    pub(crate) methods: EntryTexts,
+    pub(crate) classes: EntryTexts,
+    pub(crate) names: EntryTexts,
+}
+
+impl RoleTexts {
+    /// A cache without texts. It allocates nothing.
+    pub(crate) fn new(alloc: Global) -> RoleTexts
+        ensures { (p : Parts) → AreRoleTexts p result }
+    {
+        RoleTexts {
+            frames: EntryTexts::new(alloc),
+            methods: EntryTexts::new(alloc),
+            classes: EntryTexts::new(alloc),
+            names: EntryTexts::new(alloc),
+        }
+    }
+
+    /// The text of the entry with this number in this role, if the cache has it.
+    pub(crate) fn get(&self, role: Role, number: usize) -> Option<&str>
+        ensures { option_copied result ≡ option_and_then (λ text. text) (slice_get (of_role self.now role) number) }
+    {
+        match role {
+            Role::Frame => self.frames.get(number),
+            Role::Method => self.methods.get(number),
+            Role::Class => self.classes.get(number),
+            Role::Name => self.names.get(number),
+        }
+    }
+
+    /// Keeps the text of the entry with this number in this role, of this many entries.
+    pub(crate) fn keep(
+        &mut self,
+        role: Role,
+        entries: usize,
+        number: usize,
+        text: String,
+    ) -> Result<(), NoMemory>
+        requires { number < entries }
+        ensures kept { OnOk result (slice_get (of_role self.new role) number ≡ Some (Some (string_bytes text))) }
+        ensures right { OnOk result ((p : Parts) → IsEntryText p role number (string_bytes text) → AreRoleTexts p self.old → AreRoleTexts p self.new) }
+    {
+        match role {
+            Role::Frame => self.frames.keep(entries, number, text),
+            Role::Method => self.methods.keep(entries, number, text),
+            Role::Class => self.classes.keep(entries, number, text),
+            Role::Name => self.names.keep(entries, number, text),
+        }
+    }
 }
