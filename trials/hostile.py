@@ -509,6 +509,50 @@ def frame_ring(size):
     ]))
 
 
+def late(of, name, to, size):
+    """Many fields, and then one with this name."""
+    return [field(of, "f%d" % n, BYTE) for n in range(count(50000, size))] + [field(of, name, to, constant=True)]
+
+
+def late_names(size):
+    """A stack of 200,000 methods of a class whose name comes after 50,000 fields, as does the string of each name."""
+    many = count(200000, size)
+    described = metadata(lambda of: [
+        class_(of, "t.Trace", TRACE, [field(of, "frames", FRAME, array=True)]),
+        class_(of, "t.Frame", FRAME, [field(of, "method", METHOD, constant=True)]),
+        class_(of, "t.Method", METHOD, [field(of, "type", TYPE, constant=True), field(of, "name", SYMBOL, constant=True)]),
+        class_(of, "t.Type", TYPE, late(of, "name", SYMBOL, size)),
+        class_(of, "t.Symbol", SYMBOL, late(of, "string", STRING, size)),
+        class_(of, "t.E", EVENT, [field(of, "stackTrace", TRACE, constant=True)], event=True),
+    ])
+    first = b"\0" * count(50000, size)
+    return chunk(described, record(EVENT, b"\0"), checkpoint([
+        pool(TRACE, [(0, integer(many) + b"".join(integer(n) for n in range(many)))]),
+        pool(METHOD, [(n, b"\0\0") for n in range(many)]),
+        pool(TYPE, [(0, first + b"\0")]),
+        pool(SYMBOL, [(0, first + b"\0")]),
+        pool(STRING, [(0, text("m"))]),
+    ]))
+
+
+def late_method(size):
+    """A stack of 200,000 references to one frame, whose method comes after 50,000 fields."""
+    many = count(200000, size)
+    described = metadata(lambda of: [
+        class_(of, "t.Trace", TRACE, [field(of, "frames", FRAME, constant=True, array=True)]),
+        class_(of, "t.Frame", FRAME, late(of, "method", METHOD, size)),
+        class_(of, "t.Method", METHOD, [field(of, "type", TYPE, constant=True), field(of, "name", SYMBOL, constant=True)]),
+        class_(of, "t.Type", TYPE, [field(of, "name", SYMBOL, constant=True)]),
+        class_(of, "t.Symbol", SYMBOL, [field(of, "string", STRING)]),
+        class_(of, "t.E", EVENT, [field(of, "stackTrace", TRACE, constant=True)], event=True),
+    ])
+    return chunk(described, record(EVENT, b"\0"), checkpoint([
+        pool(TRACE, [(0, integer(many) + b"\0" * many)]),
+        pool(FRAME, [(0, b"\0" * count(50000, size) + b"\0")]),
+        pool(METHOD, [(0, b"\0\0")]),
+    ]))
+
+
 # Constants that all are used, for new keys.
 
 
@@ -758,7 +802,7 @@ KINDS = {make.__name__: make for make in (
     references, array, array_short, strings, elements, attributes, long_key, long_names, alike_fields, classes,
     same_names, fields, categories, long_categories, long_class_names, alike_classes, inline_32, inline_33,
     inline_wide, inline_array, ring, string_ring, fan, chain, thread_name, shared_name, shared_text,
-    stacks, long_stack, long_methods, frame_ring, equal_constants, alike_constants, equal_megabytes, alike_megabytes,
+    stacks, long_stack, long_methods, frame_ring, late_names, late_method, equal_constants, alike_constants, equal_megabytes, alike_megabytes,
     chunks,
     delta_self, delta_forward, delta_amid,
 )}

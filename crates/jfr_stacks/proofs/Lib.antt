@@ -4,7 +4,7 @@ mod EventLaws
 mod FoldLaws
 mod ItemLaws
 mod MapLaws
-mod MethodLaws
 mod PendingLaws
+mod RoleLaws
 mod Rows
 mod TextLaws

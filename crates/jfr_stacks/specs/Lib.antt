@@ -2,7 +2,7 @@ pub mod Frames
 pub mod Texts
 pub mod Trace
 pub mod Cached
-pub mod Methods
+pub mod Roles
 pub mod Folded
 pub mod Held
 pub mod Adding

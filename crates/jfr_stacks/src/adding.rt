@@ -5,7 +5,7 @@ ghost use Rattle.jfr_value.specs.Nodes.{IsValue, node_of};
 ghost use Rattle.jfr_stacks.specs.Adding.{AddsText, AddsTexts, AreAtMost, AreBelow, Fits, HasPending, most_counted, most_events};
 ghost use Rattle.jfr_stacks.specs.Folded.{Counts};
 ghost use Rattle.jfr_stacks.specs.Held.{counts_in};
-ghost use Rattle.jfr_stacks.specs.Methods.{WritesFor};
+ghost use Rattle.jfr_stacks.specs.Roles.{WritesFor};
 ghost use Rattle.jfr_stacks.specs.Texts.{entry_text, trace_text};
 
 use crate::counts::{CountMap, add_count};

@@ -8,7 +8,7 @@ ghost use Rattle.jfr_stacks.specs.Adding.{AddsTexts, AreAtMost, AreBelow, Fits, 
 ghost use Rattle.jfr_stacks.specs.Folded.{Counts, texts_of};
 ghost use Rattle.jfr_stacks.specs.Frames.{after_references, field_numbers, trace_of};
 ghost use Rattle.jfr_stacks.specs.Held.{counts_in};
-ghost use Rattle.jfr_stacks.specs.Methods.{WritesFor};
+ghost use Rattle.jfr_stacks.specs.Roles.{WritesFor};
 ghost use Rattle.jfr_stacks.specs.Texts.{entry_text, stack_of, trace_text};
 
 use crate::adding::{add_entries, add_trace};

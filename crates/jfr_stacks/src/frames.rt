@@ -1,31 +1,34 @@
 //! The frames of a stack trace.
-ghost use Rattle.std.specs.Prelude.{◌≡◌, ℕ, ◌≤◌, true, false, length, map, IfOk, IfSome, IsSome, Some, option_map};
+ghost use Rattle.std.specs.Prelude.{◌≡◌, ℕ, ◌≤◌, true, false, codes, length, map, IfOk, IfSome, IsSome, Some, option_map};
 ghost use Rattle.std.specs.List.{AllByRecursion};
 ghost use Rattle.jfr_base.specs.Formats.{int_at};
 ghost use Rattle.jfr_layout.specs.Classes.{Sound};
 ghost use Rattle.jfr_value.specs.Nodes.{EndsAt, IsValue, children, node_of};
-ghost use Rattle.jfr_stacks.specs.Frames.{IsChunkValue, frames_in};
+ghost use Rattle.jfr_stacks.specs.Frames.{IsChunkValue, field_numbers, frames_in};
 
+use crate::fields::FieldNumbers;
 use jfr_base::{NoMemory, Var, read_within};
 use jfr_chunk::Chunk;
 use jfr_layout::Shape;
-use jfr_path::{MOST_FOLLOWED, follow_references, named_field};
+use jfr_path::{MOST_FOLLOWED, follow_references};
 use jfr_value::{Node, children_are_parts, end_of};
 use std::alloc::Global;
 
-/// The frames of a stack trace, from the innermost call to the outermost; `None` exactly if they aren't an
-/// array.
+/// The frames of a stack trace, from the innermost call to the outermost, given the numbers of the fields
+/// `frames`; `None` exactly if they aren't an array.
 pub(crate) fn frames_in<'a>(
     alloc: Global,
     chunk: &Chunk<'a>,
+    fields: &FieldNumbers,
     trace: &Node<'a>,
 ) -> Result<Option<Vec<Node<'a>>>, NoMemory>
+    requires fields { fields.now ≡ field_numbers (codes "frames") chunk.now.classes }
     requires value { IsValue chunk.now.classes trace.now }
     requires of_chunk { trace.now.bytes.now ≡ chunk.now.bytes }
     ensures ok { IfOk result (λ frames. option_map (λ f. map node_of f.items) frames ≡ frames_in chunk.now (node_of trace.now)) }
     ensures values { IfOk result (λ frames. IfSome frames (λ f. AllByRecursion (IsChunkValue chunk.now) f.items)) }
 {
-    let Some(field) = named_field(chunk, trace, "frames") else {
+    let Some(field) = fields.field(chunk, trace) else {
         return Ok(None);
     };
     let array = follow_references(chunk, &field, MOST_FOLLOWED);

@@ -22,9 +22,10 @@ mod entry;
 mod fields;
 mod frame_writer;
 mod frames;
-mod methods;
 mod names;
+mod role;
 mod stacks;
+mod texts;
 mod trace;
 mod writer;
 

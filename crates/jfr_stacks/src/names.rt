@@ -1,78 +1,41 @@
-//! The names of classes and methods in frames.
-ghost use Rattle.std.specs.Prelude.{◌≡◌, ◌<◌, ◌++◌, IfOk, OnOk, flat_map, string_bytes, option_and_then};
+//! The names of classes and methods, as they are written.
+ghost use Rattle.std.specs.Prelude.{◌≡◌, ◌<◌, [], ◌++◌, OnOk, codes, flat_map, string_bytes};
 ghost use Rattle.std.specs.Char.{digit_char};
 ghost use Rattle.std.specs.Str.{chars};
-ghost use Rattle.jfr_chunk.specs.Paths.{text_of};
-ghost use Rattle.jfr_value.specs.Nodes.{IsValue, node_of};
-ghost use Rattle.jfr_path.specs.Places.{node_at};
-ghost use Rattle.jfr_stacks.specs.Texts.{escaped, method_names, name_text, type_names};
+ghost use Rattle.jfr_value.specs.Nodes.{node_of};
+ghost use Rattle.jfr_stacks.specs.Frames.{IsChunkValue};
+ghost use Rattle.jfr_stacks.specs.Texts.{escaped, name_text};
 
-use jfr_base::{NoMemory, Text, Words};
+use jfr_base::NoMemory;
 use jfr_chunk::Chunk;
-use jfr_path::{node_at, text_at};
+use jfr_path::{MOST_FOLLOWED, follow_references, text_at};
 use jfr_value::Node;
 use std::alloc::Global;
 
-/// The names of the fields that lead from a frame to the name of the method's class.
-pub(crate) fn type_names(alloc: Global) -> Result<Words, NoMemory>
-    ensures { IfOk result (λ names. names ≡ type_names) }
-{
-    let mut names = Words::new(alloc);
-    names.push("method")?;
-    names.push("type")?;
-    names.push("name")?;
-    names.push("string")?;
-    Ok(names)
-}
-
-/// The names of the fields that lead from a frame to the method's name.
-pub(crate) fn method_names(alloc: Global) -> Result<Words, NoMemory>
-    ensures { IfOk result (λ names. names ≡ method_names) }
-{
-    let mut names = Words::new(alloc);
-    names.push("method")?;
-    names.push("name")?;
-    names.push("string")?;
-    Ok(names)
-}
-
-/// Adds the name at these fields of a frame, escaped, or `?` if there is none.
+/// Adds the text of a string, escaped, or `?` if it has none.
 #[tactic(auto, unfolding(crate::specs::Texts::name_text))]
-pub(crate) fn push_name(
+pub(crate) fn push_text(
     alloc: Global,
     chunk: &Chunk<'_>,
-    frame: &Node<'_>,
-    names: &Words,
+    string: &Node<'_>,
     out: &mut String,
 ) -> Result<(), NoMemory>
-    requires value { IsValue chunk.now.classes frame.now }
-    requires of_chunk { frame.now.bytes.now ≡ chunk.now.bytes }
-    ensures ok { OnOk result (string_bytes out.new ≡ string_bytes out.old ++ name_text chunk.now (node_of frame.now) names.now) }
+    requires { IsChunkValue chunk.now string.now }
+    ensures ok { OnOk result (string_bytes out.new ≡ string_bytes out.old ++ name_text chunk.now (node_of string.now) []) }
 {
-    match text_at_names(alloc, chunk, frame, names)? {
+    let value = follow_references(chunk, string, MOST_FOLLOWED);
+    match text_at(alloc, chunk, &value)? {
         Some(text) => push_escaped(text.as_str(), out),
-        None => {
-            out.push_str("?")?;
-            Ok(())
-        }
+        None => push_missing(out),
     }
 }
 
-/// The text at these fields of a frame, if there is one.
-fn text_at_names(
-    alloc: Global,
-    chunk: &Chunk<'_>,
-    frame: &Node<'_>,
-    names: &Words,
-) -> Result<Option<Text>, NoMemory>
-    requires value { IsValue chunk.now.classes frame.now }
-    requires of_chunk { frame.now.bytes.now ≡ chunk.now.bytes }
-    ensures ok { IfOk result (λ text. text ≡ option_and_then (text_of chunk.now) (node_at chunk.now (node_of frame.now) names.now)) }
+/// Adds what is written for a missing name.
+pub(crate) fn push_missing(out: &mut String) -> Result<(), NoMemory>
+    ensures ok { OnOk result (string_bytes out.new ≡ string_bytes out.old ++ codes "?") }
 {
-    match node_at(chunk, frame, names) {
-        Some(place) => text_at(alloc, chunk, &place),
-        None => Ok(None),
-    }
+    out.push_str("?")?;
+    Ok(())
 }
 
 /// Adds a text with its special characters escaped.

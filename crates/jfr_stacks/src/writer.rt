@@ -3,7 +3,7 @@ ghost use Rattle.std.specs.Prelude.{◌≡◌, ◌++◌, IfOk, OnOk, map, string
 ghost use Rattle.std.specs.List.{AllByRecursion};
 ghost use Rattle.jfr_value.specs.Nodes.{IsValue, node_of};
 ghost use Rattle.jfr_stacks.specs.Frames.{IsChunkValue};
-ghost use Rattle.jfr_stacks.specs.Methods.{WritesFor};
+ghost use Rattle.jfr_stacks.specs.Roles.{WritesFor};
 ghost use Rattle.jfr_stacks.specs.Texts.{stack_text, trace_text, written};
 
 use crate::frame_writer::FrameWriter;
@@ -60,7 +60,8 @@ impl StackWriter {
         ensures ready { OnOk result (WritesFor chunk.now self.new.frames) }
     {
         self.text.clear();
-        let Some(mut frames) = frames_in(self.alloc, chunk, trace)? else {
+        let Some(mut frames) = frames_in(self.alloc, chunk, &self.frames.fields.frames, trace)?
+        else {
             return Ok(false);
         };
         self.push_stack(chunk, &mut frames)?;

@@ -2,7 +2,7 @@ use Rattle.std.specs.Prelude.{ℕ, List, drop}
 use Rattle.jfr_stacks.specs.Adding.{HasPending}
 use Rattle.jfr_stacks.specs.Folded.{Counts}
 use Rattle.jfr_stacks.specs.Held.{counts_in}
-use Rattle.jfr_stacks.specs.Methods.{WritesFor}
+use Rattle.jfr_stacks.specs.Roles.{WritesFor}
 use Rattle.jfr_stacks.specs.Texts.{entry_text}
 use Rattle.jfr_stacks.proofs.adding.add_entries.Given as goal
 

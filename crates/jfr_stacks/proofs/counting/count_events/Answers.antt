@@ -9,7 +9,7 @@ use Rattle.jfr_value.specs.Nodes.{node_of}
 use Rattle.jfr_stacks.specs.Adding.{AreAtMost, AreBelow, HasPending, kept_at, most_counted, most_events}
 use Rattle.jfr_stacks.specs.Frames.{after_references, field_numbers}
 use Rattle.jfr_stacks.specs.Held.{counts_in}
-use Rattle.jfr_stacks.specs.Methods.{WritesFor}
+use Rattle.jfr_stacks.specs.Roles.{WritesFor}
 use Rattle.jfr_stacks.specs.declared.writer.StackWriter.{StackWriter}
 use Rattle.jfr_stacks.specs.Texts.{entry_text, stack_of, trace_text}
 use Rattle.jfr_stacks.proofs.CountLaws.{below_fits, below_more}

@@ -3,7 +3,7 @@ use Rattle.std.specs.List.{filter_map}
 use Rattle.jfr_chunk.specs.Reach.{kept_by}
 use Rattle.jfr_stacks.specs.Adding.{AreAtMost, HasPending}
 use Rattle.jfr_stacks.specs.Held.{counts_in}
-use Rattle.jfr_stacks.specs.Methods.{WritesFor}
+use Rattle.jfr_stacks.specs.Roles.{WritesFor}
 use Rattle.jfr_stacks.specs.Texts.{entry_text, stack_of}
 use Rattle.jfr_stacks.proofs.EventLaws.{left}
 use Rattle.jfr_stacks.proofs.counting.count_events.Given as goal

@@ -2,7 +2,7 @@ use Rattle.std.proofs.Common.{◌≡◌, ◌++◌, vec_len}
 use Rattle.std.specs.List.{AllByRecursion}
 use Rattle.std.specs.Prelude.{string_bytes}
 use Rattle.jfr_stacks.specs.Frames.{IsChunkValue}
-use Rattle.jfr_stacks.specs.Methods.{WritesFor}
+use Rattle.jfr_stacks.specs.Roles.{WritesFor}
 use Rattle.jfr_stacks.proofs.TextLaws.{rest_text}
 use Rattle.jfr_stacks.proofs.writer.StackWriter.push_stack.Given as goal
 
