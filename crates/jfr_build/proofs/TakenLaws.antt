@@ -1,5 +1,5 @@
 -- A value is taken from words exactly if they are those of its leaves.
-use Rattle.std.specs.Prelude.{◌≡◌, ℕ, List, []}
+use Rattle.std.specs.Prelude.{◌≡◌, ℕ, List, [], None}
 use Rattle.std.proofs.Common.{ap, sym, ◌∙◌, subst}
 use Rattle.std.proofs.lemmas.List.{append-nil}
 use Rattle.jfr_base.specs.Formats.{Exactly}
@@ -19,7 +19,7 @@ pub taken_exactly : (k : Classes) (s : Shape) (words : List (List ℕ)) (v : Val
 taken_exactly k s words v sound = (
   λ e. (let t = value_sound k s words (record { value = v; rest = [] }) e in
       let q : words ≡ t.front = t.split ∙ append-nil t.front in
-      record { fits = t.fits; shape = t.shape; leaves = λ at. subst (λ z. AreWordsOf z (leaves_at at v)) (sym q) (t.words at) }),
+      record { fits = t.fits; shape = t.shape; leaves = λ at. subst (λ z. AreWordsOf z (leaves_at None at v)) (sym q) (t.words None at) }),
   λ h. ap (λ z. value_taken k z words) (sym h.shape) ∙ (ap (λ z. value_taken k (shape_of v) z) (sym (append-nil words)) ∙ value_all k sound v h.fits words [] (h.leaves 0)),
 )
 

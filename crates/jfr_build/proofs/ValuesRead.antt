@@ -33,7 +33,7 @@ all_took (Some t) v e = by_rest t.value t.rest e
 -- The words of a class spell this value: it is read from its bytes, and its leaves have these words.
 pub record Spelled (k : Classes) (class : ℕ) (words : List (List ℕ)) (v : Value) : Type 0 where
   pub exact : Exactly (value_format k (inline class)) (bytes_of v) v
-  pub words_are : (at : ℕ) → AreWordsOf words (leaves_at at v)
+  pub words_are : (at : ℕ) → AreWordsOf words (leaves_at None at v)
 
 -- The words that are taken as a value spell it.
 pub spelled : (k : Classes) (class : ℕ) (words : List (List ℕ)) (v : Value) → Sound k → spelled_value k class words ≡ Some v → Spelled k class words v
@@ -59,5 +59,5 @@ value_there p class words v end at s h =
     record {
       reads = exact_reads (value_format p.classes (inline class)) p.bytes end at to (bytes_of v) v s.exact holds w i;
       runs = exact_run p.bytes end i (value_format p.classes (inline class)) at to (bytes_of v) v s.exact holds w;
-      has = record { shape = refl; leaves = subst (λ o. AreWordsOf words (option_map_or (leaves_at at) o [])) (sym found) (s.words_are at) };
+      has = record { shape = refl; leaves = subst (λ o. AreWordsOf words (option_map_or (leaves_at None at) o [])) (sym found) (s.words_are at) };
     }

@@ -1,5 +1,5 @@
 -- Laws of quoted texts, words and values.
-use Rattle.std.specs.Prelude.{◌≡◌, ◌↔◌, ℕ, ◌/◌, ◌%◌, ◌==◌, ◌||◌, List, [], ◌∷◌, ◌++◌, Some, if◌then◌else◌}
+use Rattle.std.specs.Prelude.{◌≡◌, ◌↔◌, ℕ, ◌/◌, ◌%◌, ◌==◌, ◌||◌, List, [], ◌∷◌, ◌++◌, Some, None, if◌then◌else◌}
 use Rattle.std.specs.Char.{digit_char}
 use Rattle.std.specs.List.{flat_map}
 use Rattle.jfr_base.specs.Formats.{Exactly}
@@ -31,7 +31,7 @@ UnquotesExactly word text = (unquoted word ≡ Some text) ↔ (word ≡ quoted t
 pub record SpellValue (k : Classes) (s : Shape) (words : List (List ℕ)) (v : Value) : Type 0 where
   pub fits : Fits k v
   pub shape : shape_of v ≡ s
-  pub leaves : (at : ℕ) → AreWordsOf words (leaves_at at v)
+  pub leaves : (at : ℕ) → AreWordsOf words (leaves_at None at v)
 
 -- A value is taken from the words, and none is left, exactly if the words are those of its leaves.
 abbrev pub TakesExactly : Classes → Shape → List (List ℕ) → Value → Type 0
