@@ -32,6 +32,7 @@ END
 chmod +x "$work/bin/rt"
 cd "$work/copy" || exit 1
 system=/usr/bin:/bin
+unset JFR_BUILD
 
 # check NAME STATUS TEXT COMMAND..: the command's status, and a text in what it writes to either stream.
 check() {

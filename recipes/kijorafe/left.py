@@ -11,9 +11,10 @@ from kijorafe.known import known_types
 from kijorafe.messages import Fault, say
 from kijorafe.metadata import is_of_jdk
 from kijorafe.program import Failure, Program, find
+from kijorafe.progress import Progress
 from kijorafe.shown import file_name, quoted, shown
 from kijorafe.spellings import Search, base64_of
-from kijorafe.strings import METADATA, Progress, Strings, strings_in, types_of
+from kijorafe.strings import METADATA, Strings, strings_in, types_of
 
 # The words to look for, by the number of their lines; and a find, which is the number and a place.
 Words = Dict[int, str]
@@ -107,8 +108,8 @@ def _in_bytes(words: Words, search: Search, recording: str) -> Iterator[Find]:
     spellings = {number: search.spellings(word) for number, word in words.items()}
     pieces = {number: {piece.encode() for piece in base64_of(word)} for number, word in words.items()}
     overlap = max(len(each) for every in (*spellings.values(), *pieces.values()) for each in every) - 1
-    progress, start, rest = Progress(os.path.getsize(recording)), 0, b""
-    with open(recording, "rb") as file:
+    start, rest = 0, b""
+    with open(recording, "rb") as file, Progress(os.path.getsize(recording)) as progress:
         while spellings:
             block = file.read(BLOCK)
             if not block:

@@ -25,6 +25,11 @@ def speak_as(name: str) -> None:
     _speaker = name
 
 
+def speaker() -> str:
+    """The name at the beginning of each message."""
+    return _speaker
+
+
 def say(message: str) -> None:
     """Writes a message to the error stream, if somebody reads it."""
     write(f"{_speaker}: {message}\n")

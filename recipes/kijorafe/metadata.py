@@ -9,7 +9,7 @@ from kijorafe.values import BITS, RAW, string_at
 # What every metadata has: the names of elements and attributes, and values that are no texts of somebody's.
 STRUCTURE = re.compile(
     "root|metadata|region|class|field|annotation|setting|name|id|superType|simpleType|constantPool|dimension|defaultValue"
-    "|value(-[0-9]+)?|locale|gmtOffset|true|false|[0-9]*"
+    "|value(-[0-9]+)?|locale|gmtOffset|dst|true|false|[0-9]*"
     r"|jdk\.jfr\.Event|jdk\.jfr\.SettingControl|java\.lang\.annotation\.Annotation"
 )
 NO_CLASS = "(no class)"

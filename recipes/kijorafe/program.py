@@ -7,6 +7,7 @@ from contextlib import contextmanager
 from typing import Any, Dict, Iterator, List, NamedTuple, Optional, Tuple
 
 from kijorafe.messages import Fault
+from kijorafe.progress import SECOND, Progress, is_on_terminal
 from kijorafe.shown import file_name
 
 # The folder that the program is in, beside the folder of the recipes.
@@ -84,7 +85,7 @@ class Program:
         finally:
             os.umask(mask)
         try:
-            _, said = process.communicate()
+            said = _said_by(process, words[0])
         finally:
             _end(process)
         _check(process, words, said)
@@ -157,6 +158,16 @@ def _class_of(described: Dict[str, Any]) -> Class:
     )
     categories = tuple(described["categories"])
     return Class(described["chunk"], described["name"], described["id"], described["super"], categories, fields)
+
+
+def _said_by(process: "subprocess.Popen[bytes]", command: str) -> bytes:
+    """What a process writes to its error stream; on a terminal it is shown meanwhile how much it has read."""
+    with Progress() as progress:
+        while True:
+            try:
+                return process.communicate(timeout=SECOND if is_on_terminal() else None)[1]
+            except subprocess.TimeoutExpired:
+                progress.of_process(process.pid, command)
 
 
 def _end(process: "subprocess.Popen[bytes]") -> None:

@@ -1,7 +1,6 @@
 """The strings of a recording, and the numbers that are looked for; how often events lead to each, or the metadata has it."""
 
 import os
-import time
 from collections import Counter, defaultdict
 from mmap import ACCESS_READ, mmap
 from typing import BinaryIO, Counter as Counts, DefaultDict, Dict, Iterator, List, Set, Tuple
@@ -9,9 +8,10 @@ from typing import BinaryIO, Counter as Counts, DefaultDict, Dict, Iterator, Lis
 from kijorafe.headers import NO_RECORDING, Header, checkpoints_of, headers_of, record_at
 from kijorafe.inputs import chunk_of
 from kijorafe.integers import integer_at
-from kijorafe.messages import Fault, say
+from kijorafe.messages import Fault
 from kijorafe.metadata import texts_in
 from kijorafe.program import Program
+from kijorafe.progress import Progress
 from kijorafe.shown import file_name
 from kijorafe.values import Leaf, Reader, Reference, entries_in
 
@@ -23,7 +23,6 @@ METADATA = "(metadata)"
 # Where there are more paths than this, a path is only that from the last constant.
 PATHS = 1_000_000
 ANY = "*"
-LARGE = 50_000_000
 HEADER_BYTES = 68
 
 Path = str
@@ -34,31 +33,19 @@ Referred = Counts[Tuple[str, Path, Reference]]
 Constants = Dict[Reference, List[Leaf]]
 
 
-class Progress:
-    """Says on the error stream how much was read, every two seconds, for large recordings only."""
-
-    def __init__(self, total: int) -> None:
-        self.total, self.said = total, time.monotonic()
-
-    def at(self, done: int, what: str) -> None:
-        if self.total > LARGE and time.monotonic() - self.said > 2:
-            self.said = time.monotonic()
-            say(f"{what}: {100 * done // self.total} %")
-
-
 def strings_in(program: Program, recording: str, numbers: Set[int]) -> Strings:
     """The strings of a recording, and these numbers."""
     strings: Strings = defaultdict(Counter)
-    progress = Progress(os.path.getsize(recording))
     with open(recording, "rb") as file:
         try:
             headers = list(headers_of(file))
         except NO_RECORDING as fault:
             raise Fault(2, f"{file_name(recording)} isn't a recording that jfr accepts") from fault
-    for header in headers:
-        with chunk_of(recording, header) as chunk:
-            _add_chunk(Reader(program.classes(chunk), numbers), chunk, strings)
-        progress.at(header.at + header.size, "strings")
+    with Progress(os.path.getsize(recording)) as progress:
+        for header in headers:
+            with chunk_of(recording, header) as chunk:
+                _add_chunk(Reader(program.classes(chunk), numbers), chunk, strings)
+            progress.at(header.at + header.size, "strings")
     return strings
 
 

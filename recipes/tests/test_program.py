@@ -1,5 +1,9 @@
 """What the program writes, as data: the JSON, and the texts of 1.1.0."""
 
+import io
+from contextlib import redirect_stderr
+from unittest import mock
+
 from kijorafe import program
 from kijorafe.program import Class, Field, Program, TypeTotal
 from tests.support import Case
@@ -64,3 +68,15 @@ class Data(Case):
         run = self.recipe("vendor", "in.jfr", "out.jfr")
         self.assert_run(run, 69, "glibc 2.34")
         self.assert_only("in.jfr")
+
+    def test_progress(self) -> None:
+        self.replace("kijorafe.program.SECOND", 0.05)
+        self.replace("kijorafe.progress.SECOND", 0.05)
+        self.write("input", "x" * 200)
+        self.fake_program('exec 7<"$2"; head -c 50 <&7 >/dev/null; exec sleep 1\n')
+        for is_terminal in False, True:
+            said = io.StringIO()
+            with mock.patch.object(said, "isatty", lambda: is_terminal), redirect_stderr(said):
+                Program("send/jfr").run("scrub", "input")
+            self.assertEqual(": scrub: 25 % of 200 bytes" in said.getvalue(), is_terminal, said.getvalue())
+            self.assertEqual(said.getvalue().endswith("\r\x1b[K"), is_terminal)
