@@ -11,8 +11,8 @@ use jfr_pool::Pools;
 use jfr_value::Steps;
 use jfr_worklist::Worklist;
 use std::alloc::Global;
-use std::marker::Model;
-use std::sync::ledger::Ledger;
+use std::marker::{Brand, Model};
+use std::sync::ledger::{Blank, Ledger};
 
 /// The entries of a chunk that are reached: a flag for each entry, in the order of the file.
 #[derive(Drop)]
@@ -49,6 +49,37 @@ impl Marks {
         ensures cost { steps.new ≤ steps.old + length chunk.now.bytes }
     {
         put_reached(&mut self.list, chunk, kept, steps);
+    }
+
+    /// The entries that paths from the kept events reach.
+    pub fn of(alloc: Global, chunk: &Chunk<'_>, kept: &Kept) -> Result<Marks, NoMemory>
+        requires { length kept.now ≡ length (events_of chunk.now) }
+        ensures exact { IfOk result (λ marks. marks ≡ reached_marks chunk.now (kept_by chunk.now kept.now)) }
+        ensures size { IfOk result (λ marks. length marks ≡ length chunk.now.entries) }
+        ensures reached { IfOk result (λ marks. (number : ℕ) → IsMarked marks number ↔ Reached chunk.now (kept_by chunk.now kept.now) number) }
+    {
+        Marks::with_ledger::<Brand>(alloc, chunk, kept, Blank::new(1))
+    }
+
+    /// As `of`, with a ledger for the steps.
+    fn with_ledger<L: Ledger>(
+        alloc: Global,
+        chunk: &Chunk<'_>,
+        kept: &Kept,
+        blank: Blank,
+    ) -> Result<Marks, NoMemory>
+        requires kept { length kept.now ≡ length (events_of chunk.now) }
+        requires name { blank.name ≡ L.name }
+        requires parts { blank.parts ≡ L.parts }
+        requires some { 0 < blank.parts }
+        ensures exact { IfOk result (λ marks. marks ≡ reached_marks chunk.now (kept_by chunk.now kept.now)) }
+        ensures size { IfOk result (λ marks. length marks ≡ length chunk.now.entries) }
+        ensures reached { IfOk result (λ marks. (number : ℕ) → IsMarked marks number ↔ Reached chunk.now (kept_by chunk.now kept.now) number) }
+    {
+        let mut steps: Steps<L> = Steps::new(blank);
+        let mut marks = Marks::make(alloc, chunk.pools())?;
+        marks.mark(chunk, kept, &mut steps);
+        Ok(marks)
     }
 
     /// Whether the entry with this number is reached.

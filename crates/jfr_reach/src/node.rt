@@ -7,7 +7,7 @@ ghost use Rattle.jfr_worklist.specs.Putting.{Puts};
 
 use jfr_layout::Classes;
 use jfr_pool::Pools;
-use jfr_value::{Node, Steps, visit_targets};
+use jfr_value::{Node, Steps, visit_and_count};
 use jfr_worklist::Worklist;
 use std::sync::ledger::Ledger;
 
@@ -24,5 +24,5 @@ pub(crate) fn put_node<L: Ledger>(
     ensures puts { Puts (node_entries pools.now classes.now node.entry.bytes.now (node_of node.entry)) list.old list.new }
     ensures cost { steps.new ≡ steps.old + length (leaves classes.now node.entry.bytes.now (node_of node.entry)) }
 {
-    visit_targets(classes, node, list, pools, steps);
+    visit_and_count(classes, node, list, pools, steps);
 }

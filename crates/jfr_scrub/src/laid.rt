@@ -21,10 +21,8 @@ use jfr_output::{output_header, remaining_entries, slim_metadata};
 use jfr_outside::NoMemory;
 use jfr_path::choose;
 use jfr_reach::Marks;
-use jfr_value::Steps;
 use std::alloc::Global;
-use std::marker::{Brand, Model};
-use std::sync::ledger::{Blank, Ledger};
+use std::marker::Model;
 
 /// The output of an accepted chunk, as pieces, and how many events and entries are kept.
 #[derive(Drop)]
@@ -58,7 +56,7 @@ impl<'a> LaidOut<'a> {
         ensures settled { IfOk result (λ s. IsSettled filter.now chunk.now) }
     {
         let kept = choose(alloc, chunk, filter)?;
-        let marks = marks_of::<Brand>(alloc, Blank::new(1), chunk, &kept)?;
+        let marks = Marks::of(alloc, chunk, &kept)?;
         let slim = slim_metadata(alloc, chunk, &kept, filter)?;
         lay_out(alloc, chunk, &kept, &marks, slim.as_deref())
     }
@@ -129,23 +127,4 @@ fn lay_out<'a>(
         kept_events: kept.kept_count(),
         kept_entries: remaining.len(),
     })
-}
-
-// The entries that the kept events reach.
-fn marks_of<L: Ledger>(
-    alloc: Global,
-    blank: Blank,
-    chunk: &Chunk<'_>,
-    kept: &Kept,
-) -> Result<Marks, NoMemory>
-    requires name { blank.name ≡ L.name }
-    requires parts { blank.parts ≡ L.parts }
-    requires some { 0 < blank.parts }
-    requires kept { length kept.now ≡ length (events_of chunk.now) }
-    ensures { IfOk result (λ marks. marks ≡ reached_marks chunk.now (kept_by chunk.now kept.now)) }
-{
-    let mut steps: Steps<L> = Steps::new(blank);
-    let mut marks = Marks::make(alloc, chunk.pools())?;
-    marks.mark(chunk, kept, &mut steps);
-    Ok(marks)
 }

@@ -1,5 +1,5 @@
 -- Laws of values and of nodes.
-use Rattle.std.specs.Prelude.{◌≡◌, ◌↔◌, ◌⊎◌, ℕ, ◌≤◌, List, [], ◌∷◌, ◌++◌, flat_map, replicate, Some, Contains, if◌then◌else◌}
+use Rattle.std.specs.Prelude.{◌≡◌, ◌↔◌, ◌⊎◌, ℕ, zero, suc, ◌≤◌, List, [], ◌∷◌, ◌++◌, replicate, Option, Some, Contains, if◌then◌else◌}
 use Rattle.std.specs.List.{filter_map}
 use Rattle.jfr_base.specs.declared.flaw.Flaw.{Flaw}
 use Rattle.jfr_base.specs.declared.integer.Var.{Var}
@@ -7,12 +7,13 @@ use Rattle.jfr_base.specs.Formats.{Exactly, int_at}
 use Rattle.jfr_base.specs.Integer.{worth_within}
 use Rattle.jfr_layout.specs.Classes.{Classes, item_of}
 use Rattle.jfr_layout.specs.declared.shape.Shape.{Shape}
+use Rattle.jfr_value.specs.declared.leaf.Holder.{Holder}
 use Rattle.jfr_value.specs.declared.leaf.LeafKind.TheVariants as leaf_kinds
 use Rattle.jfr_value.specs.declared.node.Step.{Step}
 use Rattle.jfr_value.specs.Values.{Value, Single, Group, shape_of, bytes_of, Fits}
 use Rattle.jfr_value.specs.Reading.{value_format}
 use Rattle.jfr_value.specs.Nodes.{NodeAt, node_at, node_bytes, IsNode, EndsAt, IsRefused, IsValueReason, child, children, inside, target, targets, Both}
-use Rattle.jfr_value.specs.Leaves.{leaves, leaf_target}
+use Rattle.jfr_value.specs.Leaves.{LeafAt, leaves, leaves_in, leaf_target, part_holder}
 
 -- The trees that fit are exactly those that the format reads, each from its own bytes.
 abbrev pub AreRead : Classes → Type 0
@@ -59,8 +60,15 @@ pub record ItemsCover (k : Classes) (c : List ℕ) (n : NodeAt) : Type 0 where
   pub counted : int_at c n.at n.end ≡ Some count
   pub cover : Cover k c count.end n.end (replicate count.value (item_of n.shape)) (children k c n)
 
--- The leaves of a node with this value: the only one of a reference or of a value of a base name; otherwise
--- those of its children in order, and before them an array's count.
-abbrev pub LeavesInOrder : Classes → List ℕ → NodeAt → Value → Type 0
-LeavesInOrder k c n (Single s kind b key) = leaves k c n ≡ record { kind = kind; class = s.class; at = n.at; spelled = b } ∷ []
-LeavesInOrder k c n (Group s h vs) = leaves k c n ≡ (if s.array then record { kind = leaf_kinds.Count (worth_within 8 h); class = s.class; at = n.at; spelled = h } ∷ [] else []) ++ flat_map (leaves k c) (children k c n)
+-- The leaves of nodes, whose holders the function gives by their numbers.
+abbrev pub leaves_in_each : (ℕ → Option Holder) → Classes → List ℕ → List NodeAt → List LeafAt
+leaves_in_each holders k c [] = []
+leaves_in_each holders k c (n ∷ ns) = leaves_in (holders zero) k c n ++ leaves_in_each (λ i. holders (suc i)) k c ns
+
+-- The leaves of a node with this holder and value: the only one of a reference or of a value of a base name;
+-- otherwise those of its children in order, and before them an array's count.
+abbrev pub LeavesInOrder : Classes → List ℕ → NodeAt → Value → Option Holder → Type 0
+LeavesInOrder k c n (Single s kind b key) holder = leaves_in holder k c n ≡ record { kind = kind; class = s.class; holder = holder; at = n.at; spelled = b } ∷ []
+LeavesInOrder k c n (Group s h vs) holder =
+    leaves_in holder k c n
+    ≡ (if s.array then record { kind = leaf_kinds.Count (worth_within 8 h); class = s.class; holder = holder; at = n.at; spelled = h } ∷ [] else []) ++ leaves_in_each (part_holder s holder) k c (children k c n)

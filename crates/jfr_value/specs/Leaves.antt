@@ -1,39 +1,52 @@
 -- The leaves of a value: the values of base names, the keys of references and the counts of arrays.
-use Rattle.std.specs.Prelude.{ℕ, ◌+◌, List, [], ◌∷◌, ◌++◌, length, Option, Some, None, ◌==◌, if◌then◌else◌}
+use Rattle.std.specs.Prelude.{ℕ, zero, suc, ◌+◌, List, [], ◌∷◌, ◌++◌, length, Option, Some, None, ◌==◌, if◌then◌else◌}
 use Rattle.std.specs.Option.{option_map, option_map_or}
 use Rattle.jfr_base.specs.Integer.{worth_within}
 use Rattle.jfr_layout.specs.Classes.{Classes}
 use Rattle.jfr_layout.specs.declared.kind.Kind.TheVariants as kinds
+use Rattle.jfr_layout.specs.declared.shape.Shape.{Shape}
+use Rattle.jfr_value.specs.declared.leaf.Holder.{Holder}
 use Rattle.jfr_value.specs.declared.leaf.Leaf.{Leaf}
 use Rattle.jfr_value.specs.declared.leaf.LeafKind.{LeafKind}
 use Rattle.jfr_value.specs.declared.leaf.LeafKind.TheVariants as leaf_kinds
 use Rattle.jfr_value.specs.Values.{Value, Values, Single, Group, Nil, Cons, bytes_of}
 use Rattle.jfr_value.specs.Nodes.{NodeAt, value_of}
 
--- A leaf in a chunk: its offset, and the bytes that spell it.
+-- A leaf in a chunk: the innermost field around it, its offset, and the bytes that spell it.
 pub record LeafAt : Type 0 where
   pub kind : LeafKind
   pub class : ℕ
+  pub holder : Option Holder
   pub at : ℕ
   pub spelled : List ℕ
 
 -- A leaf of the code, as a leaf in the chunk.
 abbrev pub leaf_of : Leaf → LeafAt
-leaf_of l = record { kind = l.kind; class = l.class; at = l.at; spelled = l.spelled.now }
+leaf_of l = record { kind = l.kind; class = l.class; holder = l.holder; at = l.at; spelled = l.spelled.now }
 
--- The leaves of a value that starts at an offset, from left to right.
+-- The holder of each part of a value with this holder: a composite value's parts are its fields; an array's
+-- items have the array's holder.
+abbrev pub part_holder : Shape → Option Holder → ℕ → Option Holder
+part_holder s h = if s.array then (λ n. h) else (λ n. Some (record { class = s.class; field = n }))
+
+-- The leaves of a value with this holder that starts at an offset, from left to right; and those of values one
+-- after another, whose holders the function gives by their numbers.
 abbrev mutual
-  pub leaves_at : ℕ → Value → List LeafAt
-  leaves_at at (Single s kind b key) = record { kind = kind; class = s.class; at = at; spelled = b } ∷ []
-  leaves_at at (Group s h vs) = (if s.array then record { kind = leaf_kinds.Count (worth_within 8 h); class = s.class; at = at; spelled = h } ∷ [] else []) ++ leaves_from (at + length h) vs
+  pub leaves_at : Option Holder → ℕ → Value → List LeafAt
+  leaves_at holder at (Single s kind b key) = record { kind = kind; class = s.class; holder = holder; at = at; spelled = b } ∷ []
+  leaves_at holder at (Group s h vs) = (if s.array then record { kind = leaf_kinds.Count (worth_within 8 h); class = s.class; holder = holder; at = at; spelled = h } ∷ [] else []) ++ leaves_from (part_holder s holder) (at + length h) vs
 
-  pub leaves_from : ℕ → Values → List LeafAt
-  leaves_from at Nil = []
-  leaves_from at (Cons v vs) = leaves_at at v ++ leaves_from (at + length (bytes_of v)) vs
+  pub leaves_from : (ℕ → Option Holder) → ℕ → Values → List LeafAt
+  leaves_from holders at Nil = []
+  leaves_from holders at (Cons v vs) = leaves_at (holders zero) at v ++ leaves_from (λ n. holders (suc n)) (at + length (bytes_of v)) vs
 
--- The leaves of a node.
+-- The leaves of a node with this holder.
+abbrev pub leaves_in : Option Holder → Classes → List ℕ → NodeAt → List LeafAt
+leaves_in holder k c n = option_map_or (leaves_at holder n.at) (value_of k c n) []
+
+-- The leaves of a node; those that are in none of its fields have no holder.
 abbrev pub leaves : Classes → List ℕ → NodeAt → List LeafAt
-leaves k c n = option_map_or (leaves_at n.at) (value_of k c n) []
+leaves k c n = leaves_in None k c n
 
 -- The key of a string that is one: a kind byte 2, and the key.
 abbrev pub spelled_key : List ℕ → Option ℕ

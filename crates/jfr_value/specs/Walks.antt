@@ -1,11 +1,12 @@
 -- What a walk over a value from left to right has left.
-use Rattle.std.specs.Prelude.{◌≡◌, ℕ, suc, ◌+◌, ◌*◌, ◌<◌, ◌≤◌, ⊤, false, true, List, [], ◌∷◌, ◌++◌, drop, length, map, replicate, slice_get, Some, IsSome, Ok, Err, if◌then◌else◌}
+use Rattle.std.specs.Prelude.{◌≡◌, ℕ, zero, suc, ◌+◌, ◌*◌, ◌<◌, ◌≤◌, ⊤, false, true, List, [], ◌∷◌, ◌++◌, drop, length, map, replicate, slice_get, Option, Some, None, IsSome, Ok, Err, if◌then◌else◌}
 use Rattle.std.specs.Option.{option_map_or}
 use Rattle.std.specs.List.{AllByRecursion}
 use Rattle.jfr_base.specs.Formats.{Answer, for_each, run}
 use Rattle.jfr_layout.specs.Classes.{Class, Classes, IsFieldLayout, Sound, find_class, class_index, form_of, begins_chain, is_composite, kind_of}
 use Rattle.jfr_layout.specs.declared.shape.Shape.{Shape}
 use Rattle.jfr_layout.specs.declared.field_layout.FieldLayout.{FieldLayout}
+use Rattle.jfr_value.specs.declared.leaf.Holder.{Holder}
 use Rattle.jfr_value.specs.declared.stack.Frame.{Frame}
 use Rattle.jfr_value.specs.declared.stack.Frame.TheVariants.{Fields, Items}
 use Rattle.jfr_value.specs.declared.cursor.Progress.{Progress}
@@ -22,13 +23,38 @@ DepthBound k n s = s.constant ≡ false → (c : Class) → find_class k s.class
 
 -- The shapes of the values that a frame still has.
 abbrev pub frame_shapes : Classes → Frame → List Shape
-frame_shapes k (Fields place number levels) = option_map_or (λ c. map (λ f. f.shape) (drop number c.fields)) (slice_get k place) []
-frame_shapes k (Items shape place remaining levels) = replicate remaining shape
+frame_shapes k (Fields f) = option_map_or (λ c. map (λ f. f.shape) (drop f.number c.fields)) (slice_get k f.place) []
+frame_shapes k (Items value remaining) = replicate remaining value.shape
 
 -- The shapes of the values that a stack still has; those of its last frame come first.
 abbrev pub remaining_shapes : Classes → List Frame → List Shape
 remaining_shapes k [] = []
 remaining_shapes k (f ∷ fs) = remaining_shapes k fs ++ frame_shapes k f
+
+-- The fields of a class from a number on, of which each shape is one.
+abbrev pub fields_from : ℕ → ℕ → List Shape → List (Option Holder)
+fields_from class number [] = []
+fields_from class number (s ∷ ss) = Some (record { class = class; field = number }) ∷ fields_from class (number + 1) ss
+
+-- The holders of the values that a frame still has.
+abbrev pub frame_holders : Classes → Frame → List (Option Holder)
+frame_holders k (Fields f) = fields_from f.class f.number (frame_shapes k (Fields f))
+frame_holders k (Items value remaining) = replicate remaining value.holder
+
+-- The holders of the values that a stack still has, in the order of their shapes.
+abbrev pub remaining_holders : Classes → List Frame → List (Option Holder)
+remaining_holders k [] = []
+remaining_holders k (f ∷ fs) = remaining_holders k fs ++ frame_holders k f
+
+-- The holder with this number.
+abbrev pub holder_at : List (Option Holder) → ℕ → Option Holder
+holder_at [] n = None
+holder_at (h ∷ hs) zero = h
+holder_at (h ∷ hs) (suc n) = holder_at hs n
+
+-- The leaves of values one after another, with these holders.
+abbrev pub leaves_held : List (Option Holder) → ℕ → Values → List LeafAt
+leaves_held holders at vs = leaves_from (holder_at holders) at vs
 
 -- This is the index of the class of the shape, if the class is known.
 abbrev pub IsClassIndexIfKnown : Classes → Shape → ℕ → Type 0
@@ -41,8 +67,8 @@ pub record IsLayoutIfKnown (k : Classes) (s : FieldLayout) : Type 0 where
 
 -- A frame at a height of the stack: at most `levels` inline steps can follow, each with at most two frames.
 abbrev pub IsFrame : Classes → ℕ → Frame → Type 0
-IsFrame k height (Fields place number levels) = (height + 2 * levels ≤ 67) × (place < length k) × ((c : Class) → slice_get k place ≡ Some c → AllByRecursion (λ f. DepthBound k levels f.shape) c.fields)
-IsFrame k height (Items shape place remaining levels) = (height + 2 * levels ≤ (if shape.array then 67 else 68)) × IsClassIndexIfKnown k shape place × DepthBound k levels shape
+IsFrame k height (Fields f) = (height + 2 * f.levels ≤ 67) × (f.place < length k) × ((c : Class) → slice_get k f.place ≡ Some c → AllByRecursion (λ d. DepthBound k f.levels d.shape) c.fields)
+IsFrame k height (Items value remaining) = (height + 2 * value.levels ≤ (if value.shape.array then 67 else 68)) × IsClassIndexIfKnown k value.shape value.place × DepthBound k value.levels value.shape
 
 -- Each frame of a stack is a frame at its height, counted from the bottom.
 abbrev pub AreFrames : Classes → ℕ → List Frame → Type 0
@@ -64,7 +90,7 @@ remaining_values k c end cursor = got_values (run (for_each (remaining_shapes k 
 
 -- The leaves that are left.
 abbrev pub remaining_leaves : Classes → List ℕ → ℕ → Cursor → List LeafAt
-remaining_leaves k c end cursor = leaves_from cursor.at (remaining_values k c end cursor)
+remaining_leaves k c end cursor = leaves_held (remaining_holders k cursor.stack) cursor.at (remaining_values k c end cursor)
 
 -- The number of values, where each with parts counts twice, so that every step of a walk makes the number
 -- smaller.
@@ -77,11 +103,12 @@ abbrev mutual
   size_of_all Nil = 0
   size_of_all (Cons v vs) = size_of v + size_of_all vs
 
--- What one step of a walk does: it ends, gives the first leaf, or comes closer to it.
-abbrev pub GoesOn : Classes → List ℕ → ℕ → ℕ → Values → ℕ → Cursor → Progress → Type 0
-GoesOn k c end at vs size cursor Ended = (ws : Values) × AreRemaining k c end cursor ws × (leaves_from at vs ≡ []) × (leaves_from cursor.at ws ≡ [])
-GoesOn k c end at vs size cursor (Found leaf) = (ws : Values) × AreRemaining k c end cursor ws × (leaves_from at vs ≡ leaf_of leaf ∷ leaves_from cursor.at ws)
-GoesOn k c end at vs size cursor Onward = (ws : Values) × AreRemaining k c end cursor ws × (leaves_from at vs ≡ leaves_from cursor.at ws) × (size_of_all ws + length cursor.stack < size)
+-- What one step of a walk over values with these holders does: it ends, gives the first leaf, or comes closer
+-- to it.
+abbrev pub GoesOn : Classes → List ℕ → ℕ → List (Option Holder) → ℕ → Values → ℕ → Cursor → Progress → Type 0
+GoesOn k c end holders at vs size cursor Ended = (ws : Values) × AreRemaining k c end cursor ws × (leaves_held holders at vs ≡ []) × (leaves_held (remaining_holders k cursor.stack) cursor.at ws ≡ [])
+GoesOn k c end holders at vs size cursor (Found leaf) = (ws : Values) × AreRemaining k c end cursor ws × (leaves_held holders at vs ≡ leaf_of leaf ∷ leaves_held (remaining_holders k cursor.stack) cursor.at ws)
+GoesOn k c end holders at vs size cursor Onward = (ws : Values) × AreRemaining k c end cursor ws × (leaves_held holders at vs ≡ leaves_held (remaining_holders k cursor.stack) cursor.at ws) × (size_of_all ws + length cursor.stack < size)
 
 -- The cursor of a walk: the classes are sound, each frame fits its height, and the remaining values exist.
 pub record IsWalk (k : Classes) (c : List ℕ) (end : ℕ) (cursor : Cursor) : Type 0 where

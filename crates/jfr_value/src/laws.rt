@@ -1,12 +1,13 @@
 //! Laws of values and of nodes that no other contract states. The functions do nothing; their contracts are
 //! the laws.
-ghost use Rattle.std.specs.Prelude.{◌≡◌, ◌↔◌, ℕ, ◌-◌, ◌≤◌, false, true, List, ◌++◌, flat_map, length, map, slice_get, Some, IsSome, option_to_list};
+ghost use Rattle.std.specs.Prelude.{◌≡◌, ◌↔◌, ℕ, ◌-◌, ◌≤◌, false, true, List, ◌++◌, flat_map, length, map, slice_get, Option, Some, IsSome, option_to_list};
 ghost use Rattle.jfr_base.specs.Formats.{Reads};
 ghost use Rattle.jfr_layout.specs.Classes.{Agree, Class, Classes, Sound, find_class, kind_of};
 ghost use Rattle.jfr_layout.specs.declared.kind.Kind.TheVariants as kinds;
 ghost use Rattle.jfr_layout.specs.declared.shape.Shape.{Shape};
 ghost use Rattle.jfr_value.specs.Laws.{AreRead, Cover, HasOneAnswer, ItemsCover, LeavesInOrder, RefersByParts, SameNode, SameSteps};
 ghost use Rattle.jfr_value.specs.Leaves.{leaves};
+ghost use Rattle.jfr_value.specs.declared.leaf.Holder.{Holder};
 ghost use Rattle.jfr_value.specs.Nodes.{Both, IsNode, NodeAt, children, node_at, target, targets, value_of};
 ghost use Rattle.jfr_value.specs.Reading.{value_format};
 ghost use Rattle.jfr_value.specs.Values.{Value, parts_of};
@@ -62,5 +63,5 @@ pub fn refers_in_order()
 /// The leaves of a node are those of its children, in order; an array's count comes before them. A reference
 /// or a value of a base name is its only leaf.
 pub fn leaves_in_order()
-    ensures { (k : Classes) (c : List ℕ) (n : NodeAt) (v : Value) → Sound k → IsNode k c n v → LeavesInOrder k c n v }
+    ensures { (k : Classes) (c : List ℕ) (n : NodeAt) (v : Value) (holder : Option Holder) → Sound k → IsNode k c n v → LeavesInOrder k c n v holder }
 {}

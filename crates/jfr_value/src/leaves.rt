@@ -1,10 +1,11 @@
 //! The leaves of a node, one after another.
 ghost use Rattle.std.specs.Prelude.{◌≡◌, ◌+◌, ◌∷◌, [], MatchOption};
+ghost use Rattle.std.specs.Iterator.{YieldsFirstBy, item_count};
 ghost use Rattle.jfr_value.specs.Leaves.{leaf_of, leaves};
 ghost use Rattle.jfr_value.specs.Nodes.{IsValue, node_of};
 
 use crate::cursor::{Cursor, next_in};
-use crate::stack::{Frame, Stack};
+use crate::stack::{Frame, NextValue, Stack};
 use crate::walk::{LEVELS, Walk};
 use crate::{Leaf, Node, Steps};
 use jfr_layout::Classes;
@@ -39,11 +40,15 @@ impl<'c, 'a> Leaves<'c, 'a> {
     {
         let place = classes.index_of(node.shape.class).unwrap_or(0);
         let mut stack = Stack::new();
-        stack.push(Frame::Items {
+        let value = NextValue {
             shape: node.shape,
             place,
-            remaining: 1,
             levels: LEVELS,
+            holder: None,
+        };
+        stack.push(Frame::Items {
+            value,
+            remaining: 1,
         });
         let walk = Walk {
             classes,
@@ -60,8 +65,21 @@ impl<'c, 'a> Leaves<'c, 'a> {
         ensures exact { MatchOption result ((self.old ≡ []) × (self.new ≡ [])) (λ leaf. self.old ≡ leaf_of leaf ∷ self.new) }
         ensures cost { MatchOption result (steps.new ≡ steps.old) (λ leaf. steps.new ≡ steps.old + 1) }
     {
-        let leaf = next_in(&mut self.cursor, &self.walk)?;
+        let leaf = self.next()?;
         steps.tick();
         Some(leaf)
+    }
+}
+
+impl<'c, 'a> Iterator for Leaves<'c, 'a> {
+    type Item = Leaf<'a>;
+
+    ghost next_gives = { YieldsFirstBy leaf_of (λ l. l) };
+
+    ghost remaining = { item_count (λ l. l) };
+
+    /// The next leaf. `None` exactly after the last leaf.
+    fn next(&mut self) -> Option<Leaf<'a>> {
+        next_in(&mut self.cursor, &self.walk)
     }
 }

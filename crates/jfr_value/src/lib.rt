@@ -29,11 +29,11 @@ pub use laws::{
     children_are_parts, leaves_in_order, leaves_within_bytes, nodes_are_read, one_answer,
     refers_by_parts, refers_in_order, same_bytes, values_are_read,
 };
-pub use leaf::{Leaf, LeafKind};
+pub use leaf::{Holder, Leaf, LeafKind};
 pub use leaves::Leaves;
 pub use node::{Node, Step};
 pub use part::child;
 pub use reference::target;
 pub use steps::Steps;
-pub use visit::{Visit, visit_targets};
+pub use visit::{Visit, visit_and_count, visit_targets};
 pub use walk::Walk;

@@ -2,6 +2,7 @@
 ghost use Rattle.std.specs.Prelude.{◌≡◌, ◌+◌, ◌<◌, ◌↔◌, [], ◌∷◌, ◌++◌, length, option_to_list, IsSome, IfSome};
 ghost use Rattle.jfr_value.specs.Stacks.{far_frames};
 
+use crate::Holder;
 use arrayvec::ArrayVec;
 use jfr_layout::Shape;
 use std::marker::Model;
@@ -16,32 +17,47 @@ const NEAR: usize = 6;
 /// The number of frames in the part that is made only for deeper values.
 const FAR: usize = 62;
 
+/// A value that is walked next.
+#[derive(Clone, Copy, Drop)]
+pub(crate) struct NextValue {
+    pub(crate) shape: Shape,
+    /// The index of the shape's class.
+    pub(crate) place: usize,
+    /// The most composite classes that can be nested from here on.
+    pub(crate) levels: u32,
+    /// The innermost field around it.
+    pub(crate) holder: Option<Holder>,
+}
+
+/// The fields of a composite value from a number on.
+#[derive(Clone, Copy, Drop)]
+pub(crate) struct RemainingFields {
+    pub(crate) class: u64,
+    /// The index of the class.
+    pub(crate) place: usize,
+    /// The number of the next field.
+    pub(crate) number: usize,
+    /// The most composite classes that are nested in the fields.
+    pub(crate) levels: u32,
+}
+
 /// What is left to walk of one value with parts.
 #[derive(Clone, Copy, Drop)]
 pub(crate) enum Frame {
-    /// The fields of the class with the index `place`, from `number` on. In them at most `levels` composite
-    /// classes are nested.
-    Fields {
-        place: usize,
-        number: usize,
-        levels: u32,
-    },
-    /// Values of a shape whose class has the index `place`: `remaining` of them.
-    Items {
-        shape: Shape,
-        place: usize,
-        remaining: u64,
-        levels: u32,
-    },
+    /// Fields of a composite value.
+    Fields(RemainingFields),
+    /// `remaining` values, each like `value`.
+    Items { value: NextValue, remaining: u64 },
 }
 
 impl Default for Frame {
     fn default() -> Frame {
-        Frame::Fields {
+        Frame::Fields(RemainingFields {
+            class: 0,
             place: 0,
             number: 0,
             levels: 0,
-        }
+        })
     }
 }
 

@@ -1,6 +1,7 @@
-//! The walk over what a value refers to, for values that are known to be there. It counts a step for each
-//! leaf. jfr_reach uses it for each constant that it marks, and jfr_verify for each one that it checks.
-ghost use Rattle.std.specs.Prelude.{◌≡◌, ◌≢◌, ℕ, ◌+◌, ◌≤◌, ◌<◌, length, true, false, IsOk, IfOk, IsSome, IfSome, option_map, option_to_list, slice_get};
+//! The walk over what a value refers to, for values that are known to be there. jfr_reach uses it for each
+//! constant that it marks, and jfr_verify for each one that it checks. It counts a step for each leaf, which
+//! only jfr_reach needs.
+ghost use Rattle.std.specs.Prelude.{◌≡◌, ◌≢◌, ℕ, ◌+◌, ◌≤◌, ◌<◌, length, true, false, IsOk, IfOk, None, IsSome, IfSome, option_map, option_to_list, slice_get};
 ghost use Rattle.std.specs.List.{AllByRecursion};
 ghost use Rattle.jfr_base.specs.Formats.{int_at, run, end_or_flaw};
 ghost use Rattle.jfr_text.specs.Strings.{string_format};
@@ -18,7 +19,8 @@ use crate::{Node, Steps};
 use jfr_base::read_within;
 use jfr_layout::{Classes, FieldLayout, Form, Kind};
 use jfr_text::{StringKind, read_string};
-use std::sync::ledger::Ledger;
+use std::marker::Brand;
+use std::sync::ledger::{Blank, Ledger};
 
 /// A visitor takes the references of a value one by one. For each it may look something up in `with`, such as
 /// the pools.
@@ -44,9 +46,38 @@ struct Start {
 }
 
 /// Passes the class and the key of each reference of a node, and of each string that is a key, to the
-/// visitor, from left to right. It counts a step for each leaf, and allocates nothing. The node must be one
-/// of a value.
-pub fn visit_targets<C, V: Visit<C>, L: Ledger>(
+/// visitor, from left to right. It allocates nothing. The node must be one of a value.
+pub fn visit_targets<C, V: Visit<C>>(classes: &Classes, node: Node<'_>, visitor: &mut V, with: &C)
+    requires value { IsValue classes.now node }
+    requires ready { V.ready visitor.old with.now }
+    ensures exact { TakesAll (V.takes with.now) (targets classes.now node.entry.bytes.now (node_of node.entry)) visitor.old visitor.new }
+    ensures ready { V.ready visitor.new with.now }
+{
+    visit_with_ledger::<C, V, Brand>(classes, node, visitor, with, Blank::new(1));
+}
+
+/// As `visit_targets`, with a ledger for the steps.
+fn visit_with_ledger<C, V: Visit<C>, L: Ledger>(
+    classes: &Classes,
+    node: Node<'_>,
+    visitor: &mut V,
+    with: &C,
+    blank: Blank,
+)
+    requires value { IsValue classes.now node }
+    requires ready { V.ready visitor.old with.now }
+    requires name { blank.name ≡ L.name }
+    requires parts { blank.parts ≡ L.parts }
+    requires some { 0 < blank.parts }
+    ensures exact { TakesAll (V.takes with.now) (targets classes.now node.entry.bytes.now (node_of node.entry)) visitor.old visitor.new }
+    ensures ready { V.ready visitor.new with.now }
+{
+    let mut steps: Steps<L> = Steps::new(blank);
+    visit_and_count(classes, node, visitor, with, &mut steps);
+}
+
+/// As `visit_targets`. It counts a step for each leaf.
+pub fn visit_and_count<C, V: Visit<C>, L: Ledger>(
     classes: &Classes,
     node: Node<'_>,
     visitor: &mut V,
@@ -89,13 +120,22 @@ fn visit_value<C, V: Visit<C>, L: Ledger>(
     requires holds { (to : ℕ) × EndsAt walk.now.classes.now walk.now.bytes.now layout.now.shape start.at to × (to ≤ walk.now.end) }
     requires ready { V.ready visitor.old walk.now.with.now }
     ensures visited { (to : ℕ) (v : Value) → IsNode walk.now.classes.now walk.now.bytes.now (node_at layout.now.shape start.at to) v → to ≤ walk.now.end
-        → (result ≡ to) × TakesAll (V.takes walk.now.with.now) (targets_of v) visitor.old visitor.new × (steps.new ≡ steps.old + length (leaves_at start.at v)) }
+        → (result ≡ to) × TakesAll (V.takes walk.now.with.now) (targets_of v) visitor.old visitor.new × (steps.new ≡ steps.old + length (leaves_at None start.at v)) }
     ensures ready { V.ready visitor.new walk.now.with.now }
 {
     match layout.form {
-        Form::Integer | Form::Raw(_) => visit_plain(walk, layout.kind, start.at, steps),
-        Form::Key => visit_key(walk, layout.shape.class, start.at, visitor, steps),
-        Form::Text => visit_string(walk, layout.shape.class, start.at, visitor, steps),
+        Form::Integer | Form::Raw(_) => {
+            steps.tick();
+            visit_plain(walk, layout.kind, start.at)
+        }
+        Form::Key => {
+            steps.tick();
+            visit_key(walk, layout.shape.class, start.at, visitor)
+        }
+        Form::Text => {
+            steps.tick();
+            visit_string(walk, layout.shape.class, start.at, visitor)
+        }
         Form::Fields => {
             let fields = Start {
                 at: start.at,
@@ -122,7 +162,7 @@ fn visit_fields<C, V: Visit<C>, L: Ledger>(
     requires valid { (to : ℕ) × (vs : Values) × AreValues walk.now.classes.now walk.now.bytes.now start.at to (field_shapes walk.now.classes.now place) vs × (to ≤ walk.now.end) }
     requires ready { V.ready visitor.old walk.now.with.now }
     ensures visited { (to : ℕ) (vs : Values) → AreValues walk.now.classes.now walk.now.bytes.now start.at to (field_shapes walk.now.classes.now place) vs → to ≤ walk.now.end
-        → (result ≡ to) × TakesAll (V.takes walk.now.with.now) (targets_of_all vs) visitor.old visitor.new × (steps.new ≡ steps.old + length (leaves_from start.at vs)) }
+        → (result ≡ to) × TakesAll (V.takes walk.now.with.now) (targets_of_all vs) visitor.old visitor.new × (steps.new ≡ steps.old + length (leaves_from (λ n. None) start.at vs)) }
     ensures ready { V.ready visitor.new walk.now.with.now }
 {
     let mut to = start.at;
@@ -152,7 +192,7 @@ fn visit_array<C, V: Visit<C>, L: Ledger>(
     requires holds { (to : ℕ) × EndsAt walk.now.classes.now walk.now.bytes.now layout.now.shape start.at to × (to ≤ walk.now.end) }
     requires ready { V.ready visitor.old walk.now.with.now }
     ensures visited { (to : ℕ) (v : Value) → IsNode walk.now.classes.now walk.now.bytes.now (node_at layout.now.shape start.at to) v → to ≤ walk.now.end
-        → (result ≡ to) × TakesAll (V.takes walk.now.with.now) (targets_of v) visitor.old visitor.new × (steps.new ≡ steps.old + length (leaves_at start.at v)) }
+        → (result ≡ to) × TakesAll (V.takes walk.now.with.now) (targets_of v) visitor.old visitor.new × (steps.new ≡ steps.old + length (leaves_at None start.at v)) }
     ensures ready { V.ready visitor.new walk.now.with.now }
 {
     let Ok(count) = read_within(walk.bytes, start.at, walk.end) else {
@@ -188,14 +228,13 @@ fn has_bytes(classes: &Classes, layout: &FieldLayout) -> bool
     !is_hollow(classes, layout.class_index)
 }
 
-/// Visits a reference of a class, in one step, and returns where it ends.
+/// Visits a reference of a class, and returns where it ends.
 #[inline(always)]
-fn visit_key<C, V: Visit<C>, L: Ledger>(
+fn visit_key<C, V: Visit<C>>(
     walk: &Walk<'_, '_, C>,
     class: u64,
     at: usize,
     visitor: &mut V,
-    steps: &mut Steps<L>,
 ) -> usize
     requires order { at ≤ walk.now.end }
     requires holds { IsSome (int_at walk.now.bytes.now at walk.now.end) }
@@ -203,24 +242,21 @@ fn visit_key<C, V: Visit<C>, L: Ledger>(
     ensures visited { IfSome (int_at walk.now.bytes.now at walk.now.end) (λ key.
         (result ≡ key.end) × V.takes walk.now.with.now (class, key.value) visitor.old visitor.new) }
     ensures ready { V.ready visitor.new walk.now.with.now }
-    ensures cost { steps.new ≡ steps.old + 1 }
 {
     let Ok(key) = read_within(walk.bytes, at, walk.end) else {
         unreachable!()
     };
-    steps.tick();
     visitor.visit(walk.with, class, key.value);
     key.end
 }
 
-/// Visits a string, in one step, and returns where it ends.
+/// Visits a string, and returns where it ends.
 #[inline(always)]
-fn visit_string<C, V: Visit<C>, L: Ledger>(
+fn visit_string<C, V: Visit<C>>(
     walk: &Walk<'_, '_, C>,
     class: u64,
     at: usize,
     visitor: &mut V,
-    steps: &mut Steps<L>,
 ) -> usize
     requires order { at ≤ walk.now.end }
     requires holds { IsOk (run (string_format true) walk.now.bytes.now walk.now.end at) }
@@ -228,12 +264,10 @@ fn visit_string<C, V: Visit<C>, L: Ledger>(
     ensures visited { IfOk (run (string_format true) walk.now.bytes.now walk.now.end at) (λ got.
         (result ≡ got.place) × TakesAll (V.takes walk.now.with.now) (option_to_list (option_map (λ key. (class, key)) (key_of got.value))) visitor.old visitor.new) }
     ensures ready { V.ready visitor.new walk.now.with.now }
-    ensures cost { steps.new ≡ steps.old + 1 }
 {
     let Ok(string) = read_string(walk.bytes, at, walk.end) else {
         unreachable!()
     };
-    steps.tick();
     match string.kind {
         StringKind::Key => visitor.visit(walk.with, class, string.key),
         _ => {}
@@ -241,22 +275,15 @@ fn visit_string<C, V: Visit<C>, L: Ledger>(
     string.end
 }
 
-/// Visits a value of a base name that refers to nothing, in one step, and returns where it ends.
+/// Passes a value of a base name that refers to nothing, and returns where it ends.
 #[inline(always)]
-fn visit_plain<C, L: Ledger>(
-    walk: &Walk<'_, '_, C>,
-    kind: Kind,
-    at: usize,
-    steps: &mut Steps<L>,
-) -> usize
+fn visit_plain<C>(walk: &Walk<'_, '_, C>, kind: Kind, at: usize) -> usize
     requires order { at ≤ walk.now.end }
     requires holds { IsOk (end_or_flaw (run (base_format kind) walk.now.bytes.now walk.now.end at)) }
     ensures ends { IfOk (end_or_flaw (run (base_format kind) walk.now.bytes.now walk.now.end at)) (λ to. result ≡ to) }
-    ensures cost { steps.new ≡ steps.old + 1 }
 {
     let Ok(to) = base_end(kind, walk.bytes, at, walk.end) else {
         unreachable!()
     };
-    steps.tick();
     to
 }
