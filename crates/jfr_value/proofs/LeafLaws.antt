@@ -1,5 +1,5 @@
 -- The leaves of a value: what they refer to, and that there are no more of them than bytes.
-use Rattle.std.specs.Prelude.{◌≡◌, ℕ, ◌+◌, ◌≤◌, List, [], ◌∷◌, ◌++◌, length, Option, Some, None, Bool, true, false, if◌then◌else◌}
+use Rattle.std.specs.Prelude.{◌≡◌, ℕ, zero, suc, ◌+◌, ◌≤◌, List, [], ◌∷◌, ◌++◌, length, Option, Some, None, Bool, true, false, if◌then◌else◌}
 use Rattle.std.specs.List.{filter_map, cons_option}
 use Rattle.std.specs.Option.{option_map}
 use Rattle.std.proofs.Common.{ap, arith, refl, sym, ◌∙◌, inl, inr}
@@ -11,18 +11,19 @@ use Rattle.jfr_layout.specs.Classes.{Classes, kind_of}
 use Rattle.jfr_layout.specs.declared.kind.Kind.{Kind}
 use Rattle.jfr_layout.specs.declared.kind.Kind.TheVariants as kinds
 use Rattle.jfr_layout.specs.declared.shape.Shape.{Shape}
+use Rattle.jfr_value.specs.declared.leaf.Holder.{Holder}
 use Rattle.jfr_value.specs.declared.leaf.LeafKind.{LeafKind}
 use Rattle.jfr_value.specs.declared.leaf.LeafKind.TheVariants as leaf_kinds
 use Rattle.jfr_value.specs.Values.{Value, Values, Single, Group, Nil, Cons, shapes_of, bytes_of, bytes_of_all, targets_of, targets_of_all, key_of, IsBase, IsSingle, IsHead, Fits, AllFit}
-use Rattle.jfr_value.specs.Leaves.{LeafAt, leaves_at, leaves_from, leaf_target, leaf_key, spelled_key}
+use Rattle.jfr_value.specs.Leaves.{LeafAt, leaves_at, leaves_from, leaf_target, leaf_key, part_holder, spelled_key}
 
-abbrev head_leaves : ℕ → Shape → List ℕ → List LeafAt
-head_leaves at s h = if s.array then record { kind = leaf_kinds.Count (worth_within 8 h); class = s.class; at = at; spelled = h } ∷ [] else []
+abbrev head_leaves : Option Holder → ℕ → Shape → List ℕ → List LeafAt
+head_leaves g at s h = if s.array then record { kind = leaf_kinds.Count (worth_within 8 h); class = s.class; holder = g; at = at; spelled = h } ∷ [] else []
 
-head_none : (at : ℕ) (s : Shape) (h : List ℕ) → filter_map leaf_target (head_leaves at s h) ≡ []
-head_none at s h = by_mark s.array
+head_none : (g : Option Holder) (at : ℕ) (s : Shape) (h : List ℕ) → filter_map leaf_target (head_leaves g at s h) ≡ []
+head_none g at s h = by_mark s.array
   where
-    by_mark : (b : Bool) → filter_map leaf_target (if b then record { kind = leaf_kinds.Count (worth_within 8 h); class = s.class; at = at; spelled = h } ∷ [] else []) ≡ []
+    by_mark : (b : Bool) → filter_map leaf_target (if b then record { kind = leaf_kinds.Count (worth_within 8 h); class = s.class; holder = g; at = at; spelled = h } ∷ [] else []) ≡ []
     by_mark true = refl
     by_mark false = refl
 
@@ -58,13 +59,18 @@ single_target s kind b (Some key) e = ap (λ z. cons_option (option_map (λ key.
 
 -- A value refers to what its leaves refer to.
 mutual
-  pub leaf_targets : (k : Classes) (at : ℕ) (v : Value) → Fits k v → filter_map leaf_target (leaves_at at v) ≡ targets_of v
-  leaf_targets k at (Single s kind b key) f = single_target s kind b key (single_key k s kind b key f)
-  leaf_targets k at (Group s h vs) f = filter_map-append leaf_target (head_leaves at s h) (leaves_from (at + length h) vs) ∙ (ap (λ z. z ++ filter_map leaf_target (leaves_from (at + length h) vs)) (head_none at s h) ∙ leaf_targets_from k (at + length h) vs f.1)
+  pub leaf_targets : (k : Classes) (g : Option Holder) (at : ℕ) (v : Value) → Fits k v → filter_map leaf_target (leaves_at g at v) ≡ targets_of v
+  leaf_targets k g at (Single s kind b key) i = single_target s kind b key (single_key k s kind b key i)
+  leaf_targets k g at (Group s h vs) i =
+      filter_map-append leaf_target (head_leaves g at s h) (leaves_from (part_holder s g) (at + length h) vs)
+      ∙ (ap (λ z. z ++ filter_map leaf_target (leaves_from (part_holder s g) (at + length h) vs)) (head_none g at s h) ∙ leaf_targets_from k (part_holder s g) (at + length h) vs i.1)
 
-  pub leaf_targets_from : (k : Classes) (at : ℕ) (vs : Values) → AllFit k vs → filter_map leaf_target (leaves_from at vs) ≡ targets_of_all vs
-  leaf_targets_from k at Nil f = refl
-  leaf_targets_from k at (Cons v vs) f = filter_map-append leaf_target (leaves_at at v) (leaves_from (at + length (bytes_of v)) vs) ∙ (ap (λ z. z ++ filter_map leaf_target (leaves_from (at + length (bytes_of v)) vs)) (leaf_targets k at v f.0) ∙ ap (λ z. targets_of v ++ z) (leaf_targets_from k (at + length (bytes_of v)) vs f.1))
+  pub leaf_targets_from : (k : Classes) (f : ℕ → Option Holder) (at : ℕ) (vs : Values) → AllFit k vs → filter_map leaf_target (leaves_from f at vs) ≡ targets_of_all vs
+  leaf_targets_from k f at Nil i = refl
+  leaf_targets_from k f at (Cons v vs) i =
+      filter_map-append leaf_target (leaves_at (f zero) at v) (leaves_from (λ n. f (suc n)) (at + length (bytes_of v)) vs)
+      ∙ (ap (λ z. z ++ filter_map leaf_target (leaves_from (λ n. f (suc n)) (at + length (bytes_of v)) vs)) (leaf_targets k (f zero) at v i.0)
+      ∙ ap (λ z. targets_of v ++ z) (leaf_targets_from k (λ n. f (suc n)) (at + length (bytes_of v)) vs i.1))
 
 -- A value without parts has a byte, and so has an array's count.
 spelled : (k : ℕ) (h : List ℕ) → IsSpellingWithin k h → 1 ≤ length h
@@ -91,34 +97,61 @@ pub single_has : (k : Classes) (s : Shape) (kind : LeafKind) (b : List ℕ) (key
 single_has k s kind b key (inl p) = spelled 8 b p.3.form
 single_has k s kind b key (inr p) = base_has (kind_of p.2.name) b key p.5
 
-head_has : (k : Classes) (at : ℕ) (s : Shape) (h : List ℕ) (ss : List Shape) → IsHead k s h ss → length (head_leaves at s h) ≤ length h
-head_has k at s h ss (inl p) = by_mark s.array (spelled 8 h p.2.form)
+head_has : (k : Classes) (g : Option Holder) (at : ℕ) (s : Shape) (h : List ℕ) (ss : List Shape) → IsHead k s h ss → length (head_leaves g at s h) ≤ length h
+head_has k g at s h ss (inl p) = by_mark s.array (spelled 8 h p.2.form)
   where
-    by_mark : (b : Bool) → 1 ≤ length h → length {A = LeafAt} (if b then record { kind = leaf_kinds.Count (worth_within 8 h); class = s.class; at = at; spelled = h } ∷ [] else []) ≤ length h
+    by_mark : (b : Bool) → 1 ≤ length h → length {A = LeafAt} (if b then record { kind = leaf_kinds.Count (worth_within 8 h); class = s.class; holder = g; at = at; spelled = h } ∷ [] else []) ≤ length h
     by_mark true l = l
     by_mark false l = omega arith
-head_has k at s h ss (inr p) = by_mark s.array p.0
+head_has k g at s h ss (inr p) = by_mark s.array p.0
   where
-    by_mark : (b : Bool) → b ≡ false → length {A = LeafAt} (if b then record { kind = leaf_kinds.Count (worth_within 8 h); class = s.class; at = at; spelled = h } ∷ [] else []) ≤ length h
+    by_mark : (b : Bool) → b ≡ false → length {A = LeafAt} (if b then record { kind = leaf_kinds.Count (worth_within 8 h); class = s.class; holder = g; at = at; spelled = h } ∷ [] else []) ≤ length h
     by_mark true q = cc
     by_mark false q = omega arith
 
 -- There are no more leaves than bytes.
 mutual
-  pub leaves_within : (k : Classes) (at : ℕ) (v : Value) → Fits k v → length (leaves_at at v) ≤ length (bytes_of v)
-  leaves_within k at (Single s kind b key) f = single_has k s kind b key f
-  leaves_within k at (Group s h vs) f =
-      let a : length (head_leaves at s h) ≤ length h = head_has k at s h (shapes_of vs) f.0 in
-      let r : length (leaves_from (at + length h) vs) ≤ length (bytes_of_all vs) = all_within k (at + length h) vs f.1 in
+  pub leaves_within : (k : Classes) (g : Option Holder) (at : ℕ) (v : Value) → Fits k v → length (leaves_at g at v) ≤ length (bytes_of v)
+  leaves_within k g at (Single s kind b key) i = single_has k s kind b key i
+  leaves_within k g at (Group s h vs) i =
+      let a : length (head_leaves g at s h) ≤ length h = head_has k g at s h (shapes_of vs) i.0 in
+      let r : length (leaves_from (part_holder s g) (at + length h) vs) ≤ length (bytes_of_all vs) = all_within k (part_holder s g) (at + length h) vs i.1 in
       let l : length (h ++ bytes_of_all vs) ≡ length h + length (bytes_of_all vs) = length-append h (bytes_of_all vs) in
-      let m : length (head_leaves at s h ++ leaves_from (at + length h) vs) ≡ length (head_leaves at s h) + length (leaves_from (at + length h) vs) = length-append (head_leaves at s h) (leaves_from (at + length h) vs) in
+      let m : length (head_leaves g at s h ++ leaves_from (part_holder s g) (at + length h) vs) ≡ length (head_leaves g at s h) + length (leaves_from (part_holder s g) (at + length h) vs) =
+      length-append (head_leaves g at s h) (leaves_from (part_holder s g) (at + length h) vs) in
       omega arith
 
-  pub all_within : (k : Classes) (at : ℕ) (vs : Values) → AllFit k vs → length (leaves_from at vs) ≤ length (bytes_of_all vs)
-  all_within k at Nil f = omega arith
-  all_within k at (Cons v vs) f =
-      let a : length (leaves_at at v) ≤ length (bytes_of v) = leaves_within k at v f.0 in
-      let r : length (leaves_from (at + length (bytes_of v)) vs) ≤ length (bytes_of_all vs) = all_within k (at + length (bytes_of v)) vs f.1 in
+  pub all_within : (k : Classes) (f : ℕ → Option Holder) (at : ℕ) (vs : Values) → AllFit k vs → length (leaves_from f at vs) ≤ length (bytes_of_all vs)
+  all_within k f at Nil i = omega arith
+  all_within k f at (Cons v vs) i =
+      let a : length (leaves_at (f zero) at v) ≤ length (bytes_of v) = leaves_within k (f zero) at v i.0 in
+      let r : length (leaves_from (λ n. f (suc n)) (at + length (bytes_of v)) vs) ≤ length (bytes_of_all vs) = all_within k (λ n. f (suc n)) (at + length (bytes_of v)) vs i.1 in
       let l : length (bytes_of v ++ bytes_of_all vs) ≡ length (bytes_of v) + length (bytes_of_all vs) = length-append (bytes_of v) (bytes_of_all vs) in
-      let m : length (leaves_at at v ++ leaves_from (at + length (bytes_of v)) vs) ≡ length (leaves_at at v) + length (leaves_from (at + length (bytes_of v)) vs) = length-append (leaves_at at v) (leaves_from (at + length (bytes_of v)) vs) in
+      let m : length (leaves_at (f zero) at v ++ leaves_from (λ n. f (suc n)) (at + length (bytes_of v)) vs) ≡ length (leaves_at (f zero) at v) + length (leaves_from (λ n. f (suc n)) (at + length (bytes_of v)) vs) =
+      length-append (leaves_at (f zero) at v) (leaves_from (λ n. f (suc n)) (at + length (bytes_of v)) vs) in
       omega arith
+
+-- The number of leaves doesn't depend on the holders.
+mutual
+  same_count : (g h : Option Holder) (at : ℕ) (v : Value) → length (leaves_at g at v) ≡ length (leaves_at h at v)
+  same_count g h at (Single s kind b key) = refl
+  same_count g h at (Group s b vs) =
+      length-append (head_leaves g at s b) (leaves_from (part_holder s g) (at + length b) vs)
+      ∙ (ap (λ z. z + length (leaves_from (part_holder s g) (at + length b) vs)) (by_mark s.array)
+      ∙ (ap (λ z. length (head_leaves h at s b) + z) (same_counts (part_holder s g) (part_holder s h) (at + length b) vs)
+      ∙ sym (length-append (head_leaves h at s b) (leaves_from (part_holder s h) (at + length b) vs))))
+    where
+      leaf : Option Holder → LeafAt
+      leaf g = record { kind = leaf_kinds.Count (worth_within 8 b); class = s.class; holder = g; at = at; spelled = b }
+
+      by_mark : (x : Bool) → length (if x then leaf g ∷ [] else []) ≡ length (if x then leaf h ∷ [] else [])
+      by_mark true = refl
+      by_mark false = refl
+
+  pub same_counts : (f e : ℕ → Option Holder) (at : ℕ) (vs : Values) → length (leaves_from f at vs) ≡ length (leaves_from e at vs)
+  same_counts f e at Nil = refl
+  same_counts f e at (Cons v vs) =
+      length-append (leaves_at (f zero) at v) (leaves_from (λ n. f (suc n)) (at + length (bytes_of v)) vs)
+      ∙ (ap (λ z. z + length (leaves_from (λ n. f (suc n)) (at + length (bytes_of v)) vs)) (same_count (f zero) (e zero) at v)
+      ∙ (ap (λ z. length (leaves_at (e zero) at v) + z) (same_counts (λ n. f (suc n)) (λ n. e (suc n)) (at + length (bytes_of v)) vs)
+      ∙ sym (length-append (leaves_at (e zero) at v) (leaves_from (λ n. e (suc n)) (at + length (bytes_of v)) vs))))

@@ -4,8 +4,8 @@ pub mod ByteLaws
 pub mod ChildLaws
 pub mod DepthLaws
 pub mod EndLaws
-pub mod FitLaws
-pub mod FlawLaws
+mod FitLaws
+mod FlawLaws
 pub mod FormLaws
 pub mod InsideLaws
 mod AppendLaws
@@ -19,15 +19,16 @@ pub mod PlaceLaws
 pub mod RowLaws
 mod Rows
 pub mod StackLaws
-pub mod SkipLaws
+mod SkipLaws
 pub mod LayoutEnds
 pub mod LayoutLaws
 pub mod StringLaws
-pub mod TakingLaws
+mod TakingLaws
 pub mod TargetLaws
 pub mod TextKeys
-pub mod TreeLaws
+mod TreeLaws
 pub mod VisitLaws
 pub mod WalkLaws
 mod ChildrenLaws
+mod NextLeaf
 mod ReferenceLaws

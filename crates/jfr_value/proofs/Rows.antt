@@ -1,5 +1,5 @@
 -- The definitions compute: two rings of entries and two events, and strings that are keys.
-use Rattle.std.specs.Prelude.{◌≡◌, ℕ, zero, suc, Err, List, [], ◌∷◌, map, Some, None, refl, true, false, codes}
+use Rattle.std.specs.Prelude.{◌≡◌, ℕ, zero, suc, Err, List, [], ◌∷◌, map, option_map, Option, Some, None, refl, true, false, codes}
 use Rattle.jfr_base.specs.Formats.{int_at, run}
 use Rattle.jfr_base.specs.declared.reason.Reason.TheVariants.{Short, StringKind, InlineDeep}
 use Rattle.jfr_layout.specs.Classes.{Class, Classes, Field, kind_of}
@@ -82,8 +82,8 @@ unfolding run int_at class_format value_format string_format kind_of value_of
 entry_targets = refl
 
 entry_leaves : leaves classes rings (node (inline 7) 4 8) ≡
-    record { kind = leaf_kinds.Key 2; class = 7; at = 4; spelled = 2 ∷ [] }
-    ∷ record { kind = leaf_kinds.Base kinds.Text; class = 6; at = 5; spelled = 3 ∷ 1 ∷ 112 ∷ [] }
+    record { kind = leaf_kinds.Key 2; class = 7; holder = Some (record { class = 7; field = 0 }); at = 4; spelled = 2 ∷ [] }
+    ∷ record { kind = leaf_kinds.Base kinds.Text; class = 6; holder = Some (record { class = 7; field = 1 }); at = 5; spelled = 3 ∷ 1 ∷ 112 ∷ [] }
     ∷ []
 unfolding run int_at class_format value_format string_format kind_of value_of
 entry_leaves = refl
@@ -136,6 +136,16 @@ nested_leaves : map {B = LeafKind × ℕ} (λ l. (l.kind, l.at)) (leaves nested 
     ∷ (leaf_kinds.Count 0, 12) ∷ (leaf_kinds.Base kinds.Double, 13) ∷ []
 unfolding run int_at class_format value_format string_format kind_of value_of
 nested_leaves = refl
+
+-- Each leaf is in the innermost field around it.
+nested_holders : map {B = Option (ℕ × ℕ)} (λ l. option_map {U = ℕ × ℕ} (λ h. (h.class, h.field)) l.holder) (leaves nested nested_bytes (node (inline 1) 0 21)) ≡ Some (1, 0) ∷ Some (2, 0) ∷ Some (2, 0) ∷ Some (2, 0) ∷ Some (2, 1) ∷ Some (2, 0) ∷ Some (2, 1) ∷ []
+unfolding run int_at class_format value_format string_format kind_of value_of
+nested_holders = refl
+
+-- Values that are in no field.
+no_holders : map (λ l. l.holder) (leaves nested nested_bytes (node (record { class = 2; constant = true; array = true }) 1 4)) ≡ None ∷ None ∷ None ∷ []
+unfolding run int_at class_format value_format string_format kind_of value_of
+no_holders = refl
 
 double_leaf : map (λ l. l.spelled) (leaves nested nested_bytes (node (inline 3) 4 12)) ≡ (63 ∷ 240 ∷ 0 ∷ 0 ∷ 0 ∷ 0 ∷ 0 ∷ 0 ∷ []) ∷ []
 unfolding run int_at class_format value_format string_format kind_of value_of

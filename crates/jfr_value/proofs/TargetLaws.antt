@@ -7,11 +7,12 @@ use Rattle.std.proofs.Common.{ap, arith, refl, sym, ◌∙◌, inl, inr, subst}
 use Rattle.std.proofs.lemmas.List.Elements.{Contains-append_left, Contains-append_right, Contains-append_cases}
 use Rattle.jfr_layout.specs.Classes.{Classes, Sound}
 use Rattle.jfr_layout.specs.declared.shape.Shape.{Shape}
+use Rattle.jfr_value.specs.declared.leaf.Holder.{Holder}
 use Rattle.jfr_value.specs.declared.node.Step.{Step}
 use Rattle.jfr_value.specs.declared.node.Step.TheVariants as steps
 use Rattle.jfr_value.specs.Values.{Value, Values, Single, Group, Nil, Cons, list_of, shape_of, parts_of, bytes_of, own_target, targets_of, targets_of_all}
 use Rattle.jfr_value.specs.Nodes.{NodeAt, IsNode, picked, child, target, targets, inside, Both}
-use Rattle.jfr_value.specs.Leaves.{leaves, leaves_at, leaf_target}
+use Rattle.jfr_value.specs.Leaves.{leaves, leaves_at, leaves_in, leaf_target}
 use Rattle.jfr_value.specs.Laws.{RefersByParts}
 use Rattle.jfr_value.proofs.LeafLaws.{leaf_targets, leaves_within}
 use Rattle.jfr_value.proofs.NodeLaws.{part, child_is, target_is, value_is}
@@ -125,8 +126,11 @@ module _ (k : Classes) (sound : Sound k) (c : List ℕ) (n : NodeAt) (v : Value)
   pub targets_are : targets k c n ≡ targets_of v
   targets_are = ap (λ o. option_map_or targets_of o []) (value_is k c n v sound i)
 
-  pub leaves_are : leaves k c n ≡ leaves_at n.at v
-  leaves_are = ap (λ o. option_map_or (leaves_at n.at) o []) (value_is k c n v sound i)
+  pub leaves_in_are : (g : Option Holder) → leaves_in g k c n ≡ leaves_at g n.at v
+  leaves_in_are g = ap (λ o. option_map_or (leaves_at g n.at) o []) (value_is k c n v sound i)
+
+  pub leaves_are : leaves k c n ≡ leaves_at None n.at v
+  leaves_are = leaves_in_are None
 
   pub inside_in : (path : List Step) (m : NodeAt) (t : ℕ × ℕ) → inside k c n path ≡ Some m → target k c m ≡ Some t → Contains (targets k c n) t
   inside_in path m t e o =
@@ -142,12 +146,12 @@ module _ (k : Classes) (sound : Sound k) (c : List ℕ) (n : NodeAt) (v : Value)
   pub refers_parts : RefersByParts k c n
   refers_parts = record {
     paths = λ t. (λ j. in_inside t j, λ (path, m, e, o). inside_in path m t e o);
-    leaves_too = ap (filter_map leaf_target) leaves_are ∙ (leaf_targets k n.at v i.fits ∙ sym targets_are);
+    leaves_too = ap (filter_map leaf_target) leaves_are ∙ (leaf_targets k None n.at v i.fits ∙ sym targets_are);
   }
 
   pub node_leaves_within : length (leaves k c n) ≤ n.end - n.at
   node_leaves_within =
-      let l : length (leaves_at n.at v) ≤ length (bytes_of v) = leaves_within k n.at v i.fits in
-      let e : length (leaves k c n) ≡ length (leaves_at n.at v) = ap length leaves_are in
+      let l : length (leaves_at None n.at v) ≤ length (bytes_of v) = leaves_within k None n.at v i.fits in
+      let e : length (leaves k c n) ≡ length (leaves_at None n.at v) = ap length leaves_are in
       let b : length (bytes_of v) ≡ n.end - n.at = ap length (sym i.bytes) ∙ range_length c n.at n.end i.within in
       omega arith

@@ -24,7 +24,7 @@ use Rattle.jfr_value.specs.Visits.{TakesAll, field_shapes}
 use Rattle.jfr_value.specs.Walks.{IsLayoutIfKnown, DepthBound}
 use Rattle.jfr_value.proofs.ChildLaws.{inline_known}
 use Rattle.jfr_value.proofs.FitLaws.{is_base}
-use Rattle.jfr_value.proofs.LeafLaws.{all_within, leaf_targets_from}
+use Rattle.jfr_value.proofs.LeafLaws.{all_within, leaf_targets_from, same_counts}
 use Rattle.jfr_value.proofs.NodeForms.{BaseForm, array_form, base_form, fields_form, key_form, no_key}
 use Rattle.jfr_value.proofs.PlaceLaws.{get_within, placed_class, placed_some, placed_within}
 use Rattle.jfr_value.proofs.RowLaws.{hollow_bytes}
@@ -49,11 +49,11 @@ module _ (k : Classes) (c : List ℕ) (at to end : ℕ) (s : Shape) (l : to ≤ 
   pub record KeyNode (v : Value) : Type 0 where
     pub key : ℕ
     pub found : int_at c at end ≡ Some (record { value = key; end = to })
-    pub leaves : length (leaves_at at v) ≡ 1
+    pub leaves : length (leaves_at None at v) ≡ 1
     pub targets : targets_of v ≡ (s.class, key) ∷ []
 
   pub key_node : (v : Value) → IsNode k c (node_at s at to) v → s.array ≡ false → s.constant ≡ true → KeyNode v
-  key_node v i a o = let f = key_form k c at to s end l w v i a o in record { key = f.key; found = f.found; leaves = ap (λ z. length (leaves_at at z)) f.value; targets = ap targets_of f.value }
+  key_node v i a o = let f = key_form k c at to s end l w v i a o in record { key = f.key; found = f.found; leaves = ap (λ z. length (leaves_at None at z)) f.value; targets = ap targets_of f.value }
 
   -- An inline value is of the class at its place.
   pub record InlineNode (place : ℕ) (kind : Kind) : Type 0 where
@@ -74,8 +74,8 @@ module _ (k : Classes) (c : List ℕ) (at to end : ℕ) (s : Shape) (l : to ≤ 
   base_node : (v : Value) (place : ℕ) (kind : Kind) → IsNode k c (node_at s at to) v → s.array ≡ false → s.constant ≡ false → InlineNode place kind → kind ≢ kinds.Composite → BaseForm k c at to s kind v
   base_node v place kind i a o d n = subst (λ z. BaseForm k c at to s z v) (sym d.kind_is) (base_form k c at to s v d.class i a o d.found (λ z. n (d.kind_is ∙ z)))
 
-  base_leaves : (kind : Kind) (v : Value) → BaseForm k c at to s kind v → length (leaves_at at v) ≡ 1
-  base_leaves kind v n = ap (λ z. length (leaves_at at z)) n.value
+  base_leaves : (kind : Kind) (v : Value) → BaseForm k c at to s kind v → length (leaves_at None at v) ≡ 1
+  base_leaves kind v n = ap (λ z. length (leaves_at None at z)) n.value
 
   base_targets : (kind : Kind) (v : Value) (key : Option ℕ) (n : BaseForm k c at to s kind v) → n.key ≡ key → targets_of v ≡ option_to_list (option_map (λ key. (s.class, key)) key)
   base_targets kind v key n e = ap targets_of n.value ∙ (ap (λ z. targets_of (Single s (leaf_kinds.Base kind) (slice_range c at to) z)) e ∙ by_key key)
@@ -90,7 +90,7 @@ module _ (k : Classes) (c : List ℕ) (at to end : ℕ) (s : Shape) (l : to ≤ 
   -- One that is no string refers to nothing.
   pub record PlainNode (kind : Kind) (v : Value) : Type 0 where
     pub ends : end_or_flaw (run (base_format kind) c end at) ≡ Ok to
-    pub leaves : length (leaves_at at v) ≡ 1
+    pub leaves : length (leaves_at None at v) ≡ 1
     pub targets : targets_of v ≡ []
 
   plain_node : (kind : Kind) (v : Value) → BaseForm k c at to s kind v → kind ≢ kinds.Text → PlainNode kind v
@@ -100,7 +100,7 @@ module _ (k : Classes) (c : List ℕ) (at to end : ℕ) (s : Shape) (l : to ≤ 
   pub record TextNode (v : Value) : Type 0 where
     pub content : Content
     pub reads : run (string_format true) c end at ≡ Ok (record { value = content; place = to })
-    pub leaves : length (leaves_at at v) ≡ 1
+    pub leaves : length (leaves_at None at v) ≡ 1
     pub targets : targets_of v ≡ option_to_list (option_map (λ key. (s.class, key)) (key_of content))
 
   text_node : (kind : Kind) (v : Value) → BaseForm k c at to s kind v → kind ≡ kinds.Text → TextNode v
@@ -123,18 +123,19 @@ module _ (k : Classes) (c : List ℕ) (at to end : ℕ) (s : Shape) (l : to ≤ 
   pub record PartsNode (from more : ℕ) (ss : List Shape) (v : Value) : Type 0 where
     pub parts : Values
     pub row : AreValues k c from to ss parts
-    pub leaves : length (leaves_at at v) ≡ more + length (leaves_from from parts)
+    pub leaves : length (leaves_at None at v) ≡ more + length (leaves_from (λ n. None) from parts)
     pub targets : targets_of v ≡ targets_of_all parts
 
   fields_of : (v : Value) (d : Class) → IsNode k c (node_at s at to) v → s.array ≡ false → s.constant ≡ false → find_class k s.class ≡ Some d → kind_of d.name ≡ kinds.Composite → PartsNode at 0 (map (λ f. f.shape) d.fields) v
   fields_of v d i a o q m =
       let f = fields_form k c at to s v d i a o q m in
-      let x : length (leaves_at at v) ≡ length (leaves_from at f.parts) = ap (λ z. length (leaves_at at z)) f.value ∙ no_count f.parts s.array a in
+      let x : length (leaves_at None at v) ≡ length (leaves_from (λ n. None) at f.parts) = ap (λ z. length (leaves_at None at z)) f.value ∙ no_count f.parts s.array a in
       record { parts = f.parts; row = f.row; leaves = omega arith; targets = ap targets_of f.value }
     where
-      no_count : (vs : Values) (x : Bool) → x ≡ false → length ((if x then record { kind = leaf_kinds.Count (worth_within 8 []); class = s.class; at = at; spelled = [] } ∷ [] else []) ++ leaves_from (at + 0) vs) ≡ length (leaves_from at vs)
+      no_count : (vs : Values) (x : Bool) → x ≡ false
+          → length ((if x then record { kind = leaf_kinds.Count (worth_within 8 []); class = s.class; holder = None; at = at; spelled = [] } ∷ [] else []) ++ leaves_from (if x then (λ n. None) else (λ n. Some (record { class = s.class; field = n }))) (at + 0) vs) ≡ length (leaves_from (λ n. None) at vs)
       no_count vs true e = cc
-      no_count vs false e = let z : at + 0 ≡ at = omega arith in ap (λ y. length (leaves_from y vs)) z
+      no_count vs false e = let z : at + 0 ≡ at = omega arith in same_counts (λ n. Some (record { class = s.class; field = n })) (λ n. None) (at + 0) vs ∙ ap (λ y. length (leaves_from (λ n. None) y vs)) z
 
   shapes_there : (place : ℕ) (d : Class) → slice_get k place ≡ Some d → field_shapes k place ≡ map (λ f. f.shape) d.fields
   shapes_there place d e = ap (λ o. option_map_or (λ c. map (λ f. f.shape) c.fields) o []) e
@@ -164,11 +165,11 @@ module _ (k : Classes) (c : List ℕ) (at to end : ℕ) (s : Shape) (l : to ≤ 
       record {
         count = f.count;
         found = f.found;
-        items = record { parts = f.parts; row = f.row; leaves = ap (λ z. length (leaves_at at z)) f.value ∙ (counted f.head f.parts s.array a ∙ ap (λ y. 1 + length (leaves_from y f.parts)) (sym f.ends)); targets = ap targets_of f.value };
+        items = record { parts = f.parts; row = f.row; leaves = ap (λ z. length (leaves_at None at z)) f.value ∙ (counted f.head f.parts s.array a ∙ ap (λ y. 1 + length (leaves_from (λ n. None) y f.parts)) (sym f.ends)); targets = ap targets_of f.value };
       }
     where
       counted : (h : List ℕ) (vs : Values) (x : Bool) → x ≡ true
-          → length ((if x then record { kind = leaf_kinds.Count (worth_within 8 h); class = s.class; at = at; spelled = h } ∷ [] else []) ++ leaves_from (at + length h) vs) ≡ 1 + length (leaves_from (at + length h) vs)
+          → length ((if x then record { kind = leaf_kinds.Count (worth_within 8 h); class = s.class; holder = None; at = at; spelled = h } ∷ [] else []) ++ leaves_from (if x then (λ n. None) else (λ n. Some (record { class = s.class; field = n }))) (at + length h) vs) ≡ 1 + length (leaves_from (λ n. None) (at + length h) vs)
       counted h vs true e = omega arith
       counted h vs false e = cc
 
@@ -184,7 +185,7 @@ module _ (k : Classes) (c : List ℕ) (at to end : ℕ) (s : Shape) (l : to ≤ 
 -- If no values are left, or values without bytes, there are no leaves and no targets.
 pub record Nothing (at to : ℕ) (vs : Values) : Type 0 where
   pub ends : at ≡ to
-  pub leaves : length (leaves_from at vs) ≡ 0
+  pub leaves : length (leaves_from (λ n. None) at vs) ≡ 0
   pub targets : targets_of_all vs ≡ []
 
 module _ (k : Classes) (c : List ℕ) (at to : ℕ) where
@@ -193,9 +194,9 @@ module _ (k : Classes) (c : List ℕ) (at to : ℕ) where
       let x : length (slice_range c at to) ≡ to - at = range_length c at to r.within in
       let y : length (slice_range c at to) ≡ 0 = ap length (r.bytes ∙ b) in
       let u : length (bytes_of_all vs) ≡ 0 = ap length b in
-      let z : length (leaves_from at vs) ≤ length (bytes_of_all vs) = all_within k at vs r.fit in
-      let m : leaves_from at vs ≡ [] = nil_from_length (leaves_from at vs) (omega arith) in
-      record { ends = (let p = r.order in omega arith); leaves = ap length m; targets = sym (leaf_targets_from k at vs r.fit) ∙ ap (filter_map leaf_target) m }
+      let z : length (leaves_from (λ n. None) at vs) ≤ length (bytes_of_all vs) = all_within k (λ n. None) at vs r.fit in
+      let m : leaves_from (λ n. None) at vs ≡ [] = nil_from_length (leaves_from (λ n. None) at vs) (omega arith) in
+      record { ends = (let p = r.order in omega arith); leaves = ap length m; targets = sym (leaf_targets_from k (λ n. None) at vs r.fit) ∙ ap (filter_map leaf_target) m }
 
   pub none_left : (ss : List Shape) (vs : Values) → AreValues k c at to ss vs → ss ≡ [] → Nothing at to vs
   none_left ss vs r e = nothing ss vs r (none vs (r.of_shapes ∙ e))
@@ -236,10 +237,10 @@ pub record StillToVisit {A : Type 0} (takes : ℕ × ℕ → A → A → Type 0)
   pub others : Values
   pub row : AreValues k c from to ss others
   pub taken : (new : A) → TakesAll takes (targets_of_all others) now new → TakesAll takes (targets_of_all vs) old new
-  pub steps : after + length (leaves_from from others) ≡ before + length (leaves_from at vs)
+  pub steps : after + length (leaves_from (λ n. None) from others) ≡ before + length (leaves_from (λ n. None) at vs)
 
 module _ {A : Type 0} (takes : ℕ × ℕ → A → A → Type 0) (k : Classes) (c : List ℕ) (at to : ℕ) (vs : Values) (old : A) (before : ℕ) where
-  pub left_ends : (ss : List Shape) (from : ℕ) (now : A) (after : ℕ) → StillToVisit takes k c at to vs old before ss from now after → ss ≡ [] → (from ≡ to) × TakesAll takes (targets_of_all vs) old now × (after ≡ before + length (leaves_from at vs))
+  pub left_ends : (ss : List Shape) (from : ℕ) (now : A) (after : ℕ) → StillToVisit takes k c at to vs old before ss from now after → ss ≡ [] → (from ≡ to) × TakesAll takes (targets_of_all vs) old now × (after ≡ before + length (leaves_from (λ n. None) at vs))
   left_ends ss from now after f e =
       let n = none_left k c from to ss f.others f.row e in
       (n.ends, f.taken now (takes_none takes (targets_of_all f.others) now n.targets), (let x = n.leaves in let y = f.steps in omega arith))
@@ -258,7 +259,7 @@ module _ {A : Type 0} (takes : ℕ × ℕ → A → A → Type 0) (k : Classes) 
 
   -- What is left after it.
   pub left_goes : (s : Shape) (ss us : List Shape) (from : ℕ) (now : A) (after end result : ℕ) (new : A) (next : ℕ) → StillToVisit takes k c at to vs old before us from now after → us ≡ s ∷ ss → to ≤ end
-      → ((p : ℕ) (v : Value) → IsNode k c (node_at s from p) v → p ≤ end → (result ≡ p) × TakesAll takes (targets_of v) now new × (next ≡ after + length (leaves_at from v)))
+      → ((p : ℕ) (v : Value) → IsNode k c (node_at s from p) v → p ≤ end → (result ≡ p) × TakesAll takes (targets_of v) now new × (next ≡ after + length (leaves_at None from v)))
       → StillToVisit takes k c at to vs old before ss result new next
   left_goes s ss us from now after end result new next f d l x =
       let g = first_of k c from to s ss f.others (subst (λ z. AreValues k c from to z f.others) d f.row) in
@@ -266,8 +267,8 @@ module _ {A : Type 0} (takes : ℕ × ℕ → A → A → Type 0) (k : Classes) 
       let n : IsNode k c (node_at s from p) g.value = record { shape = sym g.shape; order = g.holds.order; within = g.holds.within; bytes = g.holds.bytes; fits = g.fits } in
       let m : p ≤ end = (let q = g.row.order in omega arith) in
       let (e, t, u) = x p g.value n m in
-      let y : length (leaves_from from f.others) ≡ length (leaves_at from g.value) + length (leaves_from p g.others) = ap (λ q. length (leaves_from from q)) g.are ∙ length-append (leaves_at from g.value) (leaves_from p g.others) in
-      let z : length (leaves_from result g.others) ≡ length (leaves_from p g.others) = ap (λ q. length (leaves_from q g.others)) e in
+      let y : length (leaves_from (λ n. None) from f.others) ≡ length (leaves_at None from g.value) + length (leaves_from (λ n. None) p g.others) = ap (λ q. length (leaves_from (λ n. None) from q)) g.are ∙ length-append (leaves_at None from g.value) (leaves_from (λ n. None) p g.others) in
+      let z : length (leaves_from (λ n. None) result g.others) ≡ length (leaves_from (λ n. None) p g.others) = ap (λ q. length (leaves_from (λ n. None) q g.others)) e in
       record {
         others = g.others;
         row = subst (λ q. AreValues k c q to ss g.others) (sym e) g.row;

@@ -3,19 +3,20 @@ ghost use Rattle.std.specs.Prelude.{◌≡◌, ◌+◌, ◌<◌, ◌↔◌, [], 
 ghost use Rattle.jfr_value.specs.Stacks.{far_frames};
 
 use crate::Holder;
+use crate::walk::LEVELS;
 use arrayvec::ArrayVec;
 use jfr_layout::Shape;
 use std::marker::Model;
 
-/// The most frames that a walk can have: one for the value, two for each of 33 levels (an array and a
-/// composite value), and one for an array in the deepest of them.
-pub(crate) const FRAMES: usize = 68;
+/// The most frames that a walk can have: one for the value, two for each level (an array and a composite
+/// value), and one for an array in the deepest of them.
+pub(crate) const FRAMES: usize = 2 * LEVELS as usize + 2;
 
 /// The number of frames in the part that every walk has.
 const NEAR: usize = 6;
 
 /// The number of frames in the part that is made only for deeper values.
-const FAR: usize = 62;
+const FAR: usize = FRAMES - NEAR;
 
 /// A value that is walked next.
 #[derive(Clone, Copy, Drop)]

@@ -1,30 +1,33 @@
 -- The count is the first leaf, and the pushed frame has the items.
 use Rattle.std.proofs.Common.{ap, ◌∙◌, sym, subst, arith}
-use Rattle.std.specs.Prelude.{◌∷◌, suc, length, List}
+use Rattle.std.specs.Prelude.{◌∷◌, ◌++◌, suc, length, replicate, List}
 use Rattle.jfr_layout.specs.Classes.{item_of}
 use Rattle.jfr_layout.specs.declared.shape.Shape.{Shape}
 use Rattle.jfr_value.specs.declared.stack.Frame.{Frame}
 use Rattle.jfr_value.specs.declared.stack.Frame.TheVariants.{Items}
-use Rattle.jfr_value.specs.Leaves.{leaves_from}
+use Rattle.jfr_value.specs.Leaves.{leaf_of}
 use Rattle.jfr_value.specs.Nodes.{AreValues}
-use Rattle.jfr_value.specs.Walks.{AreFrames, remaining_shapes}
-use Rattle.jfr_value.proofs.StackLaws.{shapes_push, frames_push}
+use Rattle.jfr_value.specs.Walks.{AreFrames, leaves_held, remaining_holders, remaining_shapes}
+use Rattle.jfr_value.proofs.StackLaws.{holders_push, shapes_push, frames_push}
 use Rattle.jfr_value.proofs.WalkLaws.{array_found, array_there}
 use Rattle.jfr_value.proofs.cursor.enter_array.Goals as goal
 
 pub unreachable-requires : goal.unreachable-requires
-unreachable-requires c = array_there c.args.walk.now.classes.now c.args.walk.now.bytes.now c.args.cursor.now.at c.args.walk.now.end c.args.shape (remaining_shapes c.args.walk.now.classes.now c.args.cursor.now.stack) c.requires.remaining.0 c.requires.remaining.1 c.requires.array c.in_default.ensures.exact.0
+unreachable-requires c = array_there c.args.walk.now.classes.now c.args.walk.now.bytes.now c.args.cursor.now.at c.args.walk.now.end c.args.value.shape (remaining_shapes c.args.walk.now.classes.now c.args.cursor.now.stack) c.args.value.holder (remaining_holders c.args.walk.now.classes.now c.args.cursor.now.stack) c.requires.remaining.0 c.requires.remaining.1 c.requires.array c.in_default.ensures.exact.0
 
 pub returns-clause-frames : goal.returns-clause-frames
 returns-clause-frames c =
     subst (λ (z : List Frame). AreFrames c.args.walk.now.classes.now 0 z) (sym (rw c.item_of.ensures at c.push.ensures.items))
-    (frames_push c.args.walk.now.classes.now 0 (suc (length c.args.cursor.now.stack)) c.args.cursor.now.stack (Items (item_of c.args.shape) c.args.place c.items_to_walk.result c.args.levels) (omega arith) c.requires.frames (omega (arith, c.requires.height), c.requires.placed, c.requires.depth))
+    (frames_push c.args.walk.now.classes.now 0 (suc (length c.args.cursor.now.stack)) c.args.cursor.now.stack (Items (record { shape = item_of c.args.value.shape; place = c.args.value.place; levels = c.args.value.levels; holder = c.args.value.holder }) c.items_to_walk.result) (omega arith) c.requires.frames (omega (arith, c.requires.height), c.requires.placed, c.requires.depth))
 
 pub returns-clause-remaining : goal.returns-clause-remaining
 returns-clause-remaining c = λ vs r.
-    (let t = array_found c.args.walk.now.classes.now c.args.walk.now.bytes.now c.args.cursor.now.at c.args.walk.now.end c.args.shape (remaining_shapes c.args.walk.now.classes.now c.args.cursor.now.stack) vs c.in-Ok.count c.args.place c.items_to_walk.result r c.requires.array c.in-Ok.ensures.exact c.requires.placed c.items_to_walk.ensures in
-    let e = ap (remaining_shapes c.args.walk.now.classes.now) (rw c.item_of.ensures at c.push.ensures.items) ∙ shapes_push c.args.walk.now.classes.now c.args.cursor.now.stack (Items (item_of c.args.shape) c.args.place c.items_to_walk.result c.args.levels) in (
+    (let t = array_found c.args.walk.now.classes.now c.args.walk.now.bytes.now c.args.cursor.now.at c.args.walk.now.end c.args.value.shape (remaining_shapes c.args.walk.now.classes.now c.args.cursor.now.stack) c.args.value.holder (remaining_holders c.args.walk.now.classes.now c.args.cursor.now.stack) vs c.in-Ok.count c.args.value.place c.items_to_walk.result r c.requires.array c.in-Ok.ensures.exact c.requires.placed c.items_to_walk.ensures in
+    let item : Frame = Items (record { shape = item_of c.args.value.shape; place = c.args.value.place; levels = c.args.value.levels; holder = c.args.value.holder }) c.items_to_walk.result in
+    let e = ap (remaining_shapes c.args.walk.now.classes.now) (rw c.item_of.ensures at c.push.ensures.items) ∙ shapes_push c.args.walk.now.classes.now c.args.cursor.now.stack (Items (record { shape = item_of c.args.value.shape; place = c.args.value.place; levels = c.args.value.levels; holder = c.args.value.holder }) c.items_to_walk.result) in (
       t.others,
       subst (λ (z : List Shape). AreValues c.args.walk.now.classes.now c.args.walk.now.bytes.now c.in-Ok.count.end c.args.walk.now.end z t.others) (sym e) t.row,
-      t.leaves ∙ ap (λ z. z ∷ leaves_from c.in-Ok.count.end t.others) (sym c.leaf_to-leaf.ensures),
+      t.leaves
+          ∙ (ap (λ z. z ∷ leaves_held (replicate c.items_to_walk.result c.args.value.holder ++ remaining_holders c.args.walk.now.classes.now c.args.cursor.now.stack) c.in-Ok.count.end t.others) (sym c.leaf_to-leaf.ensures)
+          ∙ ap (λ z. leaf_of c.leaf_to-leaf.result ∷ leaves_held z c.in-Ok.count.end t.others) (sym (ap (remaining_holders c.args.walk.now.classes.now) (rw c.item_of.ensures at c.push.ensures.items) ∙ holders_push c.args.walk.now.classes.now c.args.cursor.now.stack item))),
     ))

@@ -1,6 +1,6 @@
 -- Each part of a value, and what visiting it gives.
 use Rattle.std.proofs.Common.{◌≡◌, ℕ, ◌+◌, ◌-◌, ◌<◌, ◌≤◌, length, refl, sym, ◌∙◌, ap, subst, arith, get_or, rules}
-use Rattle.std.specs.Prelude.{IsSome, IfSome, IsOk, IfOk, option_map, option_to_list, replicate}
+use Rattle.std.specs.Prelude.{None, IsSome, IfSome, IsOk, IfOk, option_map, option_to_list, replicate}
 use Rattle.jfr_layout.specs.Classes.{item_of}
 use Rattle.jfr_layout.specs.declared.form.Form.TheVariants as forms
 use Rattle.jfr_layout.specs.declared.field_layout.FieldLayout.{FieldLayout}
@@ -28,7 +28,7 @@ visit_value-returns-in-Key-clause-visited g t c = λ to v i l.
     (let m = key_there c.args.layout.now c.requires.layout.form c.in-Key.is in
     let n = key_node c.args.walk.now.classes.now c.args.walk.now.bytes.now c.args.start.at to c.args.walk.now.end c.args.layout.now.shape l c.args.walk.now.within v i m.0 m.1 in
     let h = subst (λ z. IfSome z (λ key. (c.visit_key.result ≡ key.end) × g.V.Visit.takes c.args.walk.now.with.now (c.args.layout.now.shape.class, key.value) c.args.visitor.now c.visit_key.new.visitor)) n.found c.visit_key.ensures.visited in
-    (h.0, takes_one (g.V.Visit.takes c.args.walk.now.with.now) _ (c.args.layout.now.shape.class, n.key) c.args.visitor.now c.visit_key.new.visitor n.targets h.1, rw n.leaves c.visit_key.ensures.cost))
+    (h.0, takes_one (g.V.Visit.takes c.args.walk.now.with.now) _ (c.args.layout.now.shape.class, n.key) c.args.visitor.now c.visit_key.new.visitor n.targets h.1, rw n.leaves c.tick-in-Key.ensures))
 
 pub visit_array-unreachable-requires : goal.visit_array-unreachable-requires
 visit_array-unreachable-requires g t c =
@@ -73,7 +73,7 @@ visit_array-items-preserved g t c = record {
       left_goes (g.V.Visit.takes c.args.walk.now.with.now) c.args.walk.now.classes.now c.args.walk.now.bytes.now c.in-Ok.count.end to vs c.args.visitor.now c.tick.new.self (item_of c.args.layout.now.shape) (replicate (c.in-Ok.count.value - (c.items.counter + 1)) (item_of c.args.layout.now.shape)) _ c.items.to c.items.visitor c.items.steps c.args.walk.now.end c.visit_value-to.result c.visit_value-to.new.visitor c.visit_value-to.new.steps
       (c.items.invariant.remaining to vs r l) (item_next c.in-Ok.count.value c.items.counter (item_of c.args.layout.now.shape) c.items-test.true) l
       (subst (λ (z : FieldLayout). (p : ℕ) (v : Value) → IsNode c.args.walk.now.classes.now c.args.walk.now.bytes.now (node_at z.shape c.items.to p) v → p ≤ c.args.walk.now.end
-      → (c.visit_value-to.result ≡ p) × TakesAll (g.V.Visit.takes c.args.walk.now.with.now) (targets_of v) c.items.visitor c.visit_value-to.new.visitor × (c.visit_value-to.new.steps ≡ c.items.steps + length (leaves_at c.items.to v)))
+      → (c.visit_value-to.result ≡ p) × TakesAll (g.V.Visit.takes c.args.walk.now.with.now) (targets_of v) c.items.visitor c.visit_value-to.new.visitor × (c.visit_value-to.new.steps ≡ c.items.steps + length (leaves_at None c.items.to v)))
       c.item_layout-item.ensures c.visit_value-to.ensures.visited);
 }
 
@@ -158,13 +158,13 @@ visit_value-returns-in-Text-clause-visited g t c = λ to v i l.
     (let m = inline_there c.args.layout.now c.requires.layout.form forms.Text c.in-Text.is tt in
     let n = inline_text c.args.walk.now.classes.now c.args.walk.now.bytes.now c.args.start.at to c.args.walk.now.end c.args.layout.now.shape l c.args.walk.now.within v c.args.layout.now.class_index c.args.layout.now.kind c.args.layout.now.form i m.array m.constant c.requires.layout (text_kind c.args.layout.now.kind m.form) in
     let h = subst (λ z. IfOk z (λ got. (c.visit_string.result ≡ got.place) × TakesAll (g.V.Visit.takes c.args.walk.now.with.now) (option_to_list (option_map (λ key. (c.args.layout.now.shape.class, key)) (key_of got.value))) c.args.visitor.now c.visit_string.new.visitor)) n.reads c.visit_string.ensures.visited in
-    (h.0, subst (λ z. TakesAll (g.V.Visit.takes c.args.walk.now.with.now) z c.args.visitor.now c.visit_string.new.visitor) (sym n.targets) h.1, rw n.leaves c.visit_string.ensures.cost))
+    (h.0, subst (λ z. TakesAll (g.V.Visit.takes c.args.walk.now.with.now) z c.args.visitor.now c.visit_string.new.visitor) (sym n.targets) h.1, rw n.leaves c.tick-in-Text.ensures))
 
 pub visit_value-returns-in-Integer : goal.visit_value-returns-in-Integer
 visit_value-returns-in-Integer g t c = record {
   visited = λ to v i l.
       (let m = plain_there c.args.layout.now c.requires.layout.form c.in-Integer.is in
       let n = inline_plain c.args.walk.now.classes.now c.args.walk.now.bytes.now c.args.start.at to c.args.walk.now.end c.args.layout.now.shape l c.args.walk.now.within v c.args.layout.now.class_index c.args.layout.now.kind c.args.layout.now.form i m.array m.constant c.requires.layout m.not_text m.not_composite in
-      (subst (λ z. IfOk z (λ to. c.visit_plain.result ≡ to)) n.ends c.visit_plain.ensures.ends, takes_none (g.V.Visit.takes c.args.walk.now.with.now) _ c.args.visitor.now n.targets, rw n.leaves c.visit_plain.ensures.cost));
+      (subst (λ z. IfOk z (λ to. c.visit_plain.result ≡ to)) n.ends c.visit_plain.ensures.ends, takes_none (g.V.Visit.takes c.args.walk.now.with.now) _ c.args.visitor.now n.targets, rw n.leaves c.tick.ensures));
   ready = c.requires.ready;
 }

@@ -5,7 +5,7 @@ use Rattle.jfr_value.specs.Nodes.{IsNode, node_at, node_of}
 use Rattle.jfr_value.specs.Visits.{TakesAll}
 use Rattle.jfr_value.proofs.DepthLaws.{sound_inline}
 use Rattle.jfr_value.proofs.TargetLaws.{leaves_are, targets_are}
-use Rattle.jfr_value.proofs.visit.visit_targets.Goals as goal
+use Rattle.jfr_value.proofs.visit.visit_and_count.Goals as goal
 
 pub visit_value-end-requires-clause-depth : goal.visit_value-end-requires-clause-depth
 visit_value-end-requires-clause-depth g c = λ o d q m. sound_inline c.args.classes.now c.layout_of-layout.result.shape.class d c.layout_of-layout.ensures.sound q
