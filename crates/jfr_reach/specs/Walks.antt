@@ -1,5 +1,5 @@
 -- What a walk visits, and how many leaves that has.
-use Rattle.std.specs.Prelude.{◌≡◌, ℕ, ◌+◌, Bool, List, [], ◌∷◌, length, slice_get, Option, None, option_and_then, if◌then◌else◌}
+use Rattle.std.specs.Prelude.{ℕ, ◌+◌, Bool, List, [], ◌∷◌, length, slice_get, Option, None, option_and_then, if◌then◌else◌}
 use Rattle.std.specs.Option.{option_map_or}
 use Rattle.jfr_value.specs.Nodes.{NodeAt}
 use Rattle.jfr_value.specs.Leaves.{leaves}

@@ -7,7 +7,6 @@
 #![tactic(auto)]
 
 mod marks;
-mod node;
 mod roots;
 mod walk;
 

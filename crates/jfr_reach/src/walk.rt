@@ -5,10 +5,9 @@ ghost use Rattle.jfr_chunk.specs.Reach.{kept_by, next_entries, reached_marks};
 ghost use Rattle.jfr_worklist.specs.Putting.{Puts};
 ghost use Rattle.jfr_reach.specs.Walks.{entry_leaves};
 
-use crate::node::put_node;
 use crate::roots::put_roots;
 use jfr_chunk::{Chunk, Kept};
-use jfr_value::Steps;
+use jfr_value::{Steps, visit_and_count};
 use jfr_worklist::Worklist;
 use std::sync::ledger::Ledger;
 
@@ -35,13 +34,13 @@ pub(crate) fn put_reached<L: Ledger>(
     }
 }
 
-/// Marks the entries in force to which the entry with this number refers.
+/// Marks the entries in force to which the entry with this number refers, with a step for each leaf.
 fn put_entry<L: Ledger>(list: &mut Worklist, chunk: &Chunk<'_>, number: usize, steps: &mut Steps<L>)
     requires size { length list.old.flags.items ≡ length chunk.now.entries }
     ensures puts { Puts (next_entries chunk.now number) list.old list.new }
     ensures cost { steps.new ≡ steps.old + entry_leaves chunk.now number }
 {
     if let Some(node) = chunk.entry_node(number) {
-        put_node(list, chunk.classes(), chunk.pools(), node, steps);
+        visit_and_count(chunk.classes(), node, list, chunk.pools(), steps);
     }
 }

@@ -1,6 +1,6 @@
 //! Values of classes that are made from lines.
 
-ghost use Rattle.std.specs.Prelude.{◌≡◌, ◌<◌, IfSome};
+ghost use Rattle.std.specs.Prelude.{IfSome};
 ghost use Rattle.jfr_value.specs.Nodes.{IsValue};
 
 use crate::classes::Has::{Inline, Items, Reference, References};
@@ -8,11 +8,9 @@ use crate::classes::{ClassLine, Has, add, classes_of, shape};
 use jfr_base::{Flaw, Reason};
 use jfr_layout::{ClassFault, ClassList, Classes, Kind};
 use jfr_outside::NoMemory;
-use jfr_value::{LeafKind, Leaves, Node, Step, Steps, child, end_of};
+use jfr_value::{LeafKind, Leaves, Node, Step, child, end_of};
 use std::alloc::{AllocError, Global};
-use std::marker::Brand;
 use std::process::Abort;
-use std::sync::ledger::{Blank, Ledger};
 use std::test::Fail;
 
 // A number, a double, a string and a class of two fields: keys of its own class, and a double.
@@ -91,40 +89,54 @@ pub(crate) fn node_at_front<'a>(classes: &Classes, has: Has, bytes: &'a [u8]) ->
 type LeafPlace = (LeafKind, usize);
 
 // Those of the next leaf, if there is one.
-fn next_leaf<L: Ledger>(leaves: &mut Leaves<'_, '_>, steps: &mut Steps<L>) -> Option<LeafPlace> {
-    let leaf = leaves.next_leaf(steps)?;
+fn next_place(leaves: &mut Leaves<'_, '_>) -> Option<LeafPlace> {
+    let leaf = leaves.next()?;
     Some((leaf.kind, leaf.at))
 }
 
 // Whether these leaves follow, and no others.
-fn are_next<L: Ledger>(
-    leaves: &mut Leaves<'_, '_>,
-    steps: &mut Steps<L>,
-    expected: &[LeafPlace],
-) -> bool {
+fn are_next(leaves: &mut Leaves<'_, '_>, expected: &[LeafPlace]) -> bool {
     for leaf in expected {
-        if next_leaf(leaves, steps) != Some(*leaf) {
+        if next_place(leaves) != Some(*leaf) {
             return false;
         }
     }
-    next_leaf(leaves, steps).is_none()
+    leaves.next().is_none()
 }
 
 // Whether these are the leaves of a value.
-fn has_leaves<L: Ledger>(
-    blank: Blank,
-    classes: &Classes,
-    node: Node<'_>,
-    expected: &[LeafPlace],
-) -> bool
-    requires name { blank.name ≡ L.name }
-    requires parts { blank.parts ≡ L.parts }
-    requires some { 0 < blank.parts }
-    requires value { IsValue classes.now node }
+fn has_leaves(classes: &Classes, node: Node<'_>, expected: &[LeafPlace]) -> bool
+    requires { IsValue classes.now node }
 {
-    let mut steps: Steps<L> = Steps::new(blank);
     let mut leaves = Leaves::new(classes, node);
-    are_next(&mut leaves, &mut steps, expected)
+    are_next(&mut leaves, expected)
+}
+
+// The class and the number of the field around the next leaf, if it is in one; `None` after the last leaf.
+fn next_field(leaves: &mut Leaves<'_, '_>) -> Option<Option<(u64, usize)>> {
+    let leaf = leaves.next()?;
+    match leaf.holder {
+        Some(holder) => Some(Some((holder.class, holder.field))),
+        None => Some(None),
+    }
+}
+
+// Whether leaves in these fields follow, and no others.
+fn are_in(leaves: &mut Leaves<'_, '_>, expected: &[Option<(u64, usize)>]) -> bool {
+    for field in expected {
+        if next_field(leaves) != Some(*field) {
+            return false;
+        }
+    }
+    leaves.next().is_none()
+}
+
+// Whether the leaves of a value are in these fields.
+fn has_fields(classes: &Classes, node: Node<'_>, expected: &[Option<(u64, usize)>]) -> bool
+    requires { IsValue classes.now node }
+{
+    let mut leaves = Leaves::new(classes, node);
+    are_in(&mut leaves, expected)
 }
 
 // What is at the front of bytes, and where it ends or is flawed.
@@ -175,7 +187,7 @@ fn see_leaves(
 ) -> Result<(), Fail> {
     let node = node_at_front(classes, has, bytes).ok_or("no value")?;
     assert_eq!(rt; node.end, bytes.len());
-    assert!(rt; has_leaves::<Brand>(Blank::new(1), classes, node, expected));
+    assert!(rt; has_leaves(classes, node, expected));
     Ok(())
 }
 
@@ -198,6 +210,70 @@ static OF_TWO_PAIRS: [LeafPlace; 7] = [
 fn leaves_follow_one_another(rt: HostRuntime) -> Result<(), Fail> {
     let classes = classes_of(rt.alloc(), &SOME_CLASSES)?;
     see_leaves(&rt, &classes, Items(4), &TWO_PAIRS, &OF_TWO_PAIRS)
+}
+
+// A pair inside another value, with an array, a number and a string after it.
+static FIELD_CLASSES: [ClassLine; 5] = [
+    (1, "long", None, &[]),
+    (2, "double", None, &[]),
+    (3, "java.lang.String", None, &[]),
+    (4, "t.Pair", None, &[("a", References(4)), ("b", Inline(2))]),
+    (
+        5,
+        "t.Outer",
+        None,
+        &[
+            ("a", Inline(4)),
+            ("b", Items(1)),
+            ("c", Inline(1)),
+            ("d", Inline(3)),
+        ],
+    ),
+];
+
+// A value, and the class and the field of each of its leaves.
+type Held = (Has, &'static [u8], &'static [Option<(u64, usize)>]);
+
+static HELD: [Held; 5] = [
+    // The count and the items of an array are in the array's field, and a pair's parts in those of the pair.
+    (
+        Inline(5),
+        &[1, 7, 0x3f, 0xf0, 0, 0, 0, 0, 0, 0, 2, 5, 6, 9, 3, 1, 120],
+        &[
+            Some((4, 0)),
+            Some((4, 0)),
+            Some((4, 1)),
+            Some((5, 1)),
+            Some((5, 1)),
+            Some((5, 1)),
+            Some((5, 2)),
+            Some((5, 3)),
+        ],
+    ),
+    // The count of an array that is in no field.
+    (
+        Items(4),
+        &[1, 0, 0x40, 0, 0, 0, 0, 0, 0, 0],
+        &[None, Some((4, 0)), Some((4, 1))],
+    ),
+    (References(4), &[2, 7, 8], &[None, None, None]),
+    (Reference(4), &[7], &[None]),
+    (Inline(3), &[3, 1, 120], &[None]),
+];
+
+fn see_held(rt: &impl Abort, classes: &Classes, (has, bytes, expected): &Held) -> Result<(), Fail> {
+    let node = node_at_front(classes, *has, bytes).ok_or("no value")?;
+    assert!(rt; has_fields(classes, node, expected));
+    Ok(())
+}
+
+#[test]
+fn leaves_are_in_fields(rt: HostRuntime) -> Result<(), Fail> {
+    let classes = classes_of(rt.alloc(), &FIELD_CLASSES)?;
+    for held in HELD.iter() {
+        see_held(&rt, &classes, held)?;
+    }
+    Ok(())
 }
 
 // Compares the place of the second pair.

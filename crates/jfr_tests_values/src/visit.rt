@@ -1,6 +1,5 @@
 //! What values hand out.
 
-ghost use Rattle.std.specs.Prelude.{◌≡◌, ◌<◌};
 ghost use Rattle.jfr_value.specs.Nodes.{IsValue};
 
 use crate::classes::Has::{Inline, Items, Reference, References};
@@ -8,11 +7,9 @@ use crate::classes::{ClassLine, Has, classes_of, shape};
 use crate::value::node_at_front;
 use jfr_base::{Flaw, Reason};
 use jfr_layout::Classes;
-use jfr_value::{Node, Steps, Visit, Walk, end_visiting, layout_of, visit_targets};
+use jfr_value::{Node, Visit, Walk, end_visiting, layout_of, visit_targets};
 use std::alloc::Global;
-use std::marker::Brand;
 use std::process::Abort;
-use std::sync::ledger::{Blank, Ledger};
 use std::test::Fail;
 
 // The targets that were handed out, of any class but one; nothing where there was no memory.
@@ -58,24 +55,19 @@ static NODE_CLASSES: [ClassLine; 4] = [
 static TWO_NODES: [u8; 14] = [2, 7, 2, 9, 2, 5, 6, 42, 8, 3, 1, 120, 0, 43];
 
 // What a node hands out but for one class.
-fn targets_of<L: Ledger>(
+fn targets_of(
     alloc: Global,
-    blank: Blank,
     classes: &Classes,
     node: Node<'_>,
     left_out: u64,
 ) -> Option<Vec<(u64, u64)>>
-    requires name { blank.name ≡ L.name }
-    requires parts { blank.parts ≡ L.parts }
-    requires some { 0 < blank.parts }
-    requires value { IsValue classes.now node }
+    requires { IsValue classes.now node }
 {
-    let mut steps: Steps<L> = Steps::new(blank);
     let mut seen = Seen {
         targets: Vec::new(alloc),
         failed: false,
     };
-    visit_targets(classes, node, &mut seen, &left_out, &mut steps);
+    visit_targets(classes, node, &mut seen, &left_out);
     if seen.failed {
         None
     } else {
@@ -122,8 +114,7 @@ fn see_targets(
 ) -> Result<(), Fail>
     requires { IsValue classes.now node }
 {
-    let blank = Blank::new(1);
-    let found = targets_of::<Brand>(alloc, blank, classes, node, left_out).ok_or("no memory")?;
+    let found = targets_of(alloc, classes, node, left_out).ok_or("no memory")?;
     assert_eq!(rt; found.as_slice(), expected);
     Ok(())
 }
