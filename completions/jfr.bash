@@ -1,12 +1,15 @@
+# shellcheck shell=bash
 # Completion of jfr and kijorafe for bash, 4.3 or later: `. completions/jfr.bash`, or a copy named `jfr` in the folder
 # ~/.local/share/bash-completion/completions. It serves `jfr` under any path, so `./jfr`, and
 # the JDK's `jfr`, too, which has other options.
 
+_jfr_lists='--include-events --exclude-events --include-categories --exclude-categories'
+_jfr_lists+=' --include-threads --exclude-threads --describe'
+
 _jfr() {
     local current=${COMP_WORDS[COMP_CWORD]} options='' names=() word
     local window='--from --to --always'
-    local filter='--include-events --exclude-events --include-categories --exclude-categories'
-    filter+=" --include-threads --exclude-threads --describe $window"
+    local filter="$_jfr_lists $window"
     COMPREPLY=()
 
     if ((COMP_CWORD == 1)); then
@@ -125,17 +128,19 @@ _kijorafe() {
         fi
     done
     case $recipe in
-        '') words='vendor strict tenant many left strangers threads explain flame jdk --help' ;;
+        '') words='vendor strict tenant many check left strangers threads explain flame jdk --help' ;;
         vendor | strict) words=$scrubs ;;
         tenant) words="$scrubs --addresses" ;;
         many) words="$scrubs --addresses --resume --jobs --sshloginfile vendor strict tenant" ;;
+        check) words="$scrubs --recipe $_jfr_lists --always --renumber" ;;
         left) words='--exact --help' ;;
         threads) words='--addresses --help' ;;
         flame) words='--events --categories --help' ;;
         jdk) words='--ids --help' ;;
         *) words=--help ;;
     esac
-    if [[ -z $recipe || $recipe == many || $current == -* ]]; then
+    [[ ${COMP_WORDS[COMP_CWORD - 1]} != --recipe ]] || words='vendor strict tenant'
+    if [[ -z $recipe || $recipe == many || $words == 'vendor strict tenant' || $current == -* ]]; then
         mapfile -t COMPREPLY < <(compgen -W "$words" -- "$current")
     fi
 }

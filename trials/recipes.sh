@@ -117,6 +117,23 @@ check 'jdk, no folder' 4 "doesn't exist" <<<'test ! -e none'
 run jdk --x new.jfr
 check 'jdk, a name with -' 1 'usage' <<<'test ! -e new.jfr'
 
+# Checks.
+run vendor "$file" scrubbed.jfr
+./send/jfr receipt "$file" other.receipt || exit 1
+run check --recipe vendor "$file" scrubbed.jfr
+check 'check' 0 '' <<<'grep -q "^the same as a scrub, byte for byte" said.out'
+run check --recipe strict "$file" scrubbed.jfr
+check 'check, another recipe' 7 '' <<<'grep -q "^chunk 1: EventsDiffer: " said.out'
+run check --recipe vendor "$file" scrubbed.jfr other.receipt
+check 'check, other receipts' 7 '' <<<'grep -q "^chunk 1: ReceiptBad: " said.out; grep -q "^the same as" said.out'
+run check --recipe vendor cut.jfr scrubbed.jfr
+check 'check, a cut original' 2 'is cut short' <<<':'
+run check --recipe vendor "$file" cut.jfr
+check 'check, a cut output' 7 '' <<<'grep -q ShortChunk said.out'
+run check --recipe vendor "$file" none.jfr
+check 'check, no output' 3 "none.jfr doesn't exist" <<<':'
+rm scrubbed.jfr
+
 # Windows of time.
 run vendor "$file" all.jfr
 run vendor --last 1h "$file" last.jfr

@@ -1,5 +1,5 @@
 #!/usr/bin/env bash
-# Tries the scripts jfr and dist/make with a made-up toolchain: trials/script.sh
+# Tries the scripts jfr, dist/make and dist/packages with a made-up toolchain: trials/script.sh
 #
 # In a copy of the repository's files, `rt` is a script that writes a program which says its number. Prints a line for
 # each case that is wrong, and at the end how many there were; the status is 0 if none was wrong.
@@ -7,8 +7,9 @@ set -u
 # shellcheck source=common.sh
 . "$(dirname "$(readlink -f -- "$0")")/common.sh"
 mkdir -p "$work/copy/dist" "$work/bin"
-cp -r -- "$top"/{jfr,crates.txt,README.md,CHANGELOG.md,docs} "$work/copy/" || exit 1
-cp -- "$top"/dist/{make,sources} "$work/copy/dist/" || exit 1
+cp -r -- "$top"/{jfr,kijorafe,install,crates.txt,README.md,CHANGELOG.md,SECURITY.md,docs,recipes,completions} \
+    "$work/copy/" || exit 1
+cp -- "$top"/dist/{make,packages,sources} "$work/copy/dist/" || exit 1
 (cd "$top" && find crates -path '*/src/*' -type f -print0 | xargs -0 cp --parents -t "$work/copy") || exit 1
 cat >"$work/bin/rt" <<'END'
 #!/bin/bash
@@ -16,7 +17,16 @@ cat >"$work/bin/rt" <<'END'
 sleep "${SLOW-0}"
 [ -z "${FAIL-}" ] || exit 1
 mkdir -p out
-printf '#!/bin/bash\n# %s\necho "%s $*"\n[ $# != 0 ] && [ "$1" != wrong ]\n' "${WHERE+$PWD}" "$NUMBER" >out/jfr
+printf '#!/bin/bash\n# %s\necho "%s $*"\n' "${WHERE+$PWD}" "$NUMBER" >out/jfr
+cat >>out/jfr <<'PROGRAM'
+case ${1-wrong} in
+    wrong) exit 1 ;;
+    refused) echo "chunk 1 offset 64: Unfinished" >&2; exit 2 ;;
+    doubted) echo "chunk 2: EventsDiffer" >&2; exit 7 ;;
+    unread) echo "read fault" >&2; exit 3 ;;
+    slow) exec 7<"$2"; head -c 100 <&7 >/dev/null; exec sh -c "sleep 2; echo end >&2" ;;
+esac
+PROGRAM
 chmod +x out/jfr
 END
 chmod +x "$work/bin/rt"
@@ -43,6 +53,17 @@ check 'version before a build' 0 'jfr 1.' "${without[@]}" ./jfr --version
 check 'the first build' 0 'one summary x' "${with[@]}" NUMBER=one ./jfr summary x
 check 'a run' 0 'one summary x' "${without[@]}" ./jfr summary x
 check 'wrong words' 1 'see: ./jfr help' "${without[@]}" ./jfr wrong
+check 'a refusal' 2 $'offset 64: Unfinished\nUnfinished: the recording is still being written' "${without[@]}" ./jfr refused
+check 'a doubt' 7 $'2: EventsDiffer\nEventsDiffer: the output' "${without[@]}" ./jfr doubted
+check 'another failure' 3 'read fault' "${without[@]}" ./jfr unread
+check 'no output stream' 2 'Unfinished: ' "${without[@]}" bash -c './jfr refused >&-'
+check 'no error stream' 2 'one refused' "${without[@]}" bash -c './jfr refused 2>&-'
+head -c 200 README.md >input
+on_terminal=("${without[@]}" script -qec)
+check 'progress' 0 '50 % of 200 bytes read' "${on_terminal[@]}" './jfr slow input >/dev/null' /dev/null
+check 'progress, erased' 0 $'\e[Kend' "${on_terminal[@]}" './jfr slow input >/dev/null' /dev/null
+check 'no progress after output' 0 $'one slow input\r\nend' "${on_terminal[@]}" './jfr slow input' /dev/null
+rm input
 find crates -name '*.rt' -exec touch {} +
 check 'sources with other times' 0 'one summary x' "${with[@]}" NUMBER=two ./jfr summary x
 cp -r . ../second
@@ -64,6 +85,25 @@ check 'packing it without a second build' 0 'dist/jfr-1.' "${with[@]}" NUMBER=on
 rm -rf crates/jfr/out
 check 'packing' 0 'dist/jfr-1.' "${with[@]}" NUMBER=one dist/make
 check 'its check' 0 '' "${without[@]}" dist/make --check
+packages=(dist/kijorafe-*.tar.xz dist/kijorafe_*.deb)
+cp -- "${packages[@]}" "$work/"
+check 'the packages again' 0 '' "${without[@]}" dist/make --packages
+for package in "${packages[@]}"; do
+    check 'they are the same' 0 '' cmp "$package" "$work/${package#dist/}"
+done
+cp README.md "$work/"
+echo more >>README.md
+check 'another document' 0 'were made of other' "${without[@]}" dist/make --check
+check 'the packages with it' 0 '' "${without[@]}" dist/make --packages
+check 'their check' 0 '' "${without[@]}" dist/make --check
+if [ -e "${packages[1]}" ]; then
+    cp -- "$work/${packages[1]#dist/}" dist/
+    check 'one package with it' 1 'have other files' "${without[@]}" dist/make --check
+fi
+echo more >"${packages[0]}"
+check 'a package that is damaged' 1 "isn't whole" "${without[@]}" dist/make --check
+cp "$work/README.md" .
+check 'the packages once more' 0 '' "${without[@]}" dist/make --packages
 check 'its sums' 0 '' sha256sum --quiet --strict -c dist/SHA256SUMS
 rm -rf crates/jfr/out
 check 'unpacking' 0 'one summary x' "${without[@]}" ./jfr summary x

@@ -9,6 +9,7 @@
 # with 0, a second scrub that gives other bytes, an output that the JDK doesn't print, a string that is left and that
 # recipes/left doesn't find, a planted event type that recipes/strangers doesn't find, and an event type of the JDK that
 # recipes/types doesn't have. Says what it skipped.
+# shellcheck disable=SC2086 # lists of words are split
 set -uf
 # shellcheck source=common.sh
 . "$(dirname "$(readlink -f -- "$0")")/common.sh"
@@ -68,7 +69,7 @@ record() {
         -Xlog:gc:file="$to/xqlogfileqx" \
         -javaagent:"$to/xqagentfileqx.jar=xqagentoptionqx" \
         -agentlib:jdwp=transport=dt_socket,server=y,onthrow=none,launch=xqnativeoptionqx \
-        -XX:StartFlightRecording:name=xqrecordingnameqx,settings="$to/xqsettingsfileqx.jfc",filename="$to/xqrecordingfileqx.jfr" \
+        "-XX:StartFlightRecording:name=xqrecordingnameqx,settings=$to/xqsettingsfileqx.jfc,filename=$to/xqrecordingfileqx.jfr" \
         --module-path "$to/xqmodulefolderqx" --add-modules xqmodulenameqx \
         -cp "$to/xqclasspathqx" Secrets run "$to" xqargumentqx --password=xqargumentpasswordqx
 }

@@ -25,8 +25,17 @@ MANY = (
     "kijorafe many [--resume] [--jobs N] [--sshloginfile FILE] [--trust TYPE] [--from TIME] [--to TIME] [--last TIME]"
     " RECIPE [PATTERNS|--addresses] IN_FOLDER OUT_FOLDER"
 )
-# The options of tenant and many that take a value.
-WITH_VALUES = "--trust", "--from", "--to", "--last", "--jobs", "--sshloginfile"
+CHECK = (
+    "kijorafe check [--recipe RECIPE [--trust TYPE] [--last TIME] | options of jfr scrub] [--from TIME] [--to TIME]"
+    " IN OUT [RECEIPT]"
+)
+# The program's filter options whose values are lists of patterns.
+LISTS = tuple(
+    [f"--{way}-{of}" for of in ("events", "categories", "threads") for way in ("include", "exclude")]
+    + ["--always", "--describe"]
+)
+# The options of tenant, many and check that take a value.
+WITH_VALUES = ("--trust", "--from", "--to", "--last", "--jobs", "--sshloginfile", "--recipe", "--renumber", *LISTS)
 
 
 class Parser(argparse.ArgumentParser):
@@ -79,6 +88,11 @@ def time_text(text: str) -> str:
     return text
 
 
+def time_or_number(text: str) -> str:
+    """The same, or a number of nanoseconds since 1970."""
+    return text if text.isascii() and text.isdigit() and len(text) < 20 else time_text(text)
+
+
 def span_text(text: str) -> str:
     """A duration."""
     try:
@@ -127,6 +141,7 @@ def parser() -> Parser:
 
     _add_scrubs(recipe)
     _add_many(recipe)
+    _add_check(recipe)
     _add_looks(recipe)
     _add_copies(recipe)
     return whole
@@ -213,6 +228,36 @@ def _add_many(recipe: Callable[..., Parser]) -> None:
     many.add_argument("operands", metavar="FOLDER", nargs="+", help="the patterns of tenant, and the two folders")
 
 
+def _add_check(recipe: Callable[..., Parser]) -> None:
+    check = recipe(
+        "check",
+        "check a scrub of which the original is there",
+        "It verifies OUT by RECEIPT, if that is given, and compares OUT with a scrub of its own, byte for byte; what"
+        " differs is printed. Give the options of the scrub: --recipe, or those of jfr scrub. The files may be pipes, or"
+        " compressed by gzip. The status is 0 if OUT is what the scrub makes of IN, 7 if it isn't, and otherwise that of"
+        " jfr.",
+    )
+    check.usage = CHECK
+    made = check.add_argument_group("if a recipe has made OUT")
+    made.add_argument("--recipe", choices=("vendor", "strict", "tenant"), help="the recipe")
+    made.add_argument(
+        "--trust", metavar="TYPE", type=jdk_type, action="append", default=[], help="as for the recipe"
+    )
+    made.add_argument("--last", metavar="TIME", type=span_text, help="as for the recipe")
+    made = check.add_argument_group(
+        "the options of jfr scrub",
+        f"{', '.join(LISTS)}, --renumber, --from and --to. With --recipe only the last two, which also take a time as the"
+        " recipes do, and for tenant --exclude-threads with its patterns.",
+    )
+    for option in LISTS:
+        made.add_argument(option, metavar="LIST", help=argparse.SUPPRESS)
+    made.add_argument("--from", dest="since", metavar="TIME", type=time_or_number, help=argparse.SUPPRESS)
+    made.add_argument("--to", dest="until", metavar="TIME", type=time_or_number, help=argparse.SUPPRESS)
+    made.add_argument("--renumber", choices=("yes", "no"), default="no", help=argparse.SUPPRESS)
+    _names(check)
+    check.add_argument("receipt", metavar="RECEIPT", type=name, nargs="?", help="what jfr receipt has made of IN")
+
+
 def _add_looks(recipe: Callable[..., Parser]) -> None:
     left = recipe(
         "left",
@@ -269,11 +314,11 @@ def _add_copies(recipe: Callable[..., Parser]) -> None:
 
 
 def in_order(words: List[str]) -> List[str]:
-    """The words with the options of tenant and many first, and a mark before the others.
+    """The words with the options of tenant, many and check first, and a mark before the others.
 
-    So options may be anywhere, and the patterns of tenant may begin with a hyphen.
+    So options may be anywhere, and patterns may begin with a hyphen.
     """
-    if words[:1] not in (["tenant"], ["many"]):
+    if words[:1] not in (["tenant"], ["many"], ["check"]):
         return words
     options, operands, rest = [], [], words[1:]
     while rest:
@@ -282,7 +327,7 @@ def in_order(words: List[str]) -> List[str]:
             operands += rest
             break
         if word in WITH_VALUES:
-            options += [word, *rest[:1]]
+            options.append("=".join([word, *rest[:1]]))
             del rest[:1]
         elif word.startswith("--") or word == "-h":
             options.append(word)

@@ -8,8 +8,8 @@ import sys
 from datetime import time
 from typing import Callable, Dict, List, NoReturn, Optional
 
-from kijorafe import interrupts, many, messages
-from kijorafe.arguments import Arguments, Parser, in_order, name, parser, patterns
+from kijorafe import check, interrupts, many, messages
+from kijorafe.arguments import LISTS, Arguments, Parser, in_order, name, parser, patterns
 from kijorafe.explain import explain
 from kijorafe.flame import flame
 from kijorafe.jdk import copy, print_ids
@@ -70,11 +70,31 @@ def _run_many(given: Arguments) -> int:
     return many.many(order, given.jobs, given.sshloginfile, given.resume)
 
 
+def _run_check(given: Arguments) -> int:
+    lists = {option: getattr(given, option[2:].replace("-", "_")) for option in LISTS}
+    options = tuple(word for option, text in lists.items() if text is not None for word in (option, text))
+    renumber = given.renumber == "yes"
+    if given.recipe is None and (given.trust or given.last):
+        _wrong(given, "--trust and --last are for use with --recipe")
+    if given.recipe is not None and (renumber or not {*options[::2]} <= {"--exclude-threads"}):
+        _wrong(given, "of the options of jfr scrub, only --exclude-threads, --from and --to are for use with --recipe")
+    if given.recipe in ("vendor", "strict") and options:
+        _wrong(given, "--exclude-threads is for use with --recipe tenant")
+    if renumber and given.receipt is not None:
+        _wrong(given, "no receipt checks an output with new keys")
+    return check.check(
+        check.Order(
+            given.source, given.target, given.receipt, options, _asked(given), renumber, given.recipe, tuple(given.trust)
+        )
+    )
+
+
 RUNS: Dict[str, Callable[[Arguments], int]] = {
     "vendor": _run_scrub,
     "strict": _run_scrub,
     "tenant": _run_tenant,
     "many": _run_many,
+    "check": _run_check,
     "left": lambda given: left(given.file, given.words, given.exact),
     "strangers": lambda given: strangers(given.file),
     "threads": lambda given: list_threads(given.file, given.addresses),

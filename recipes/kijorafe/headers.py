@@ -4,16 +4,18 @@ import os
 import struct
 from typing import BinaryIO, Iterator, NamedTuple
 
-_HEADER = struct.Struct(">4s4xQ8xQqq20x")
+_HEADER = struct.Struct(">4s4xQQQqq20x")
 # What reading a file that isn't a recording raises.
 NO_RECORDING = ValueError, IndexError, struct.error
 
 
 class Header(NamedTuple):
-    """A chunk: its offset in the file, its size, the offset of its metadata, its start and duration in nanoseconds."""
+    """A chunk: its offset in the file, its size, the offsets in it of the last checkpoint and of its metadata, its start
+    and duration in nanoseconds."""
 
     at: int
     size: int
+    checkpoint: int
     metadata: int
     start: int
     duration: int

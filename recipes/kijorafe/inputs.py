@@ -8,6 +8,7 @@ import zlib
 from contextlib import contextmanager
 from typing import IO, BinaryIO, Iterator, Protocol, cast
 
+from kijorafe.headers import Header
 from kijorafe.messages import Fault
 from kijorafe.shown import file_name
 from kijorafe.staging import Output, is_utf8
@@ -98,6 +99,22 @@ def readable(name: str) -> Iterator[str]:
 def name_of(file: IO[bytes]) -> str:
     """A name of an open file, for this process and its children."""
     return f"/proc/{os.getpid()}/fd/{file.fileno()}"
+
+
+@contextmanager
+def chunk_of(recording: str, header: Header) -> Iterator[str]:
+    """The name of a file in memory that has only this chunk."""
+    with open(recording, "rb") as file, open(os.memfd_create("chunk"), "w+b") as copy:
+        file.seek(header.at)
+        left = header.size
+        while left:
+            block = file.read(min(left, BLOCK))
+            if not block:
+                raise Fault(2, f"{file_name(recording)} was changed meanwhile")
+            copy.write(block)
+            left -= len(block)
+        copy.flush()
+        yield name_of(copy)
 
 
 def _unread(name: str, fault: OSError) -> Fault:

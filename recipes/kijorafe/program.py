@@ -33,6 +33,18 @@ class TypeTotal(NamedTuple):
     bytes: int
 
 
+class Totals(NamedTuple):
+    """What `summary` says of a recording, and the event types that have events, in the order of their names."""
+
+    chunks: int
+    bytes: int
+    events: int
+    checkpoints: int
+    constants: int
+    inert: int
+    types: List[TypeTotal]
+
+
 class Field(NamedTuple):
     """A field of a class, and its marks."""
 
@@ -90,8 +102,18 @@ class Program:
     def summary(self, recording: str) -> List[TypeTotal]:
         """The event types that have events, in the order of their names."""
         with _as_expected("summary"):
-            totals = json.loads(b"".join(self.lines("summary", "--json", recording)))
-            return [TypeTotal(each["name"], each["events"], each["bytes"]) for each in totals["types"]]
+            return _types_in(self._summary(recording))
+
+    def totals(self, recording: str) -> Totals:
+        """The totals of a recording."""
+        with _as_expected("summary"):
+            found = self._summary(recording)
+            counts = {name: found[name] for name in Totals._fields if name != "types"}
+            return Totals(types=_types_in(found), **counts)
+
+    def _summary(self, recording: str) -> Dict[str, Any]:
+        found: Dict[str, Any] = json.loads(b"".join(self.lines("summary", "--json", recording)))
+        return found
 
     def classes(self, recording: str) -> Iterator[Class]:
         """The classes that each chunk describes, in the order of the file."""
@@ -120,6 +142,10 @@ def _as_expected(command: str) -> Iterator[None]:
         yield
     except (ValueError, KeyError, TypeError, IndexError) as fault:
         raise Failure(command, 0, f"its output isn't as expected: {fault!r}") from fault
+
+
+def _types_in(summary: Dict[str, Any]) -> List[TypeTotal]:
+    return [TypeTotal(each["name"], each["events"], each["bytes"]) for each in summary["types"]]
 
 
 def _class_of(described: Dict[str, Any]) -> Class:

@@ -1,6 +1,6 @@
 """Scrubs of recordings: vendor, strict and tenant."""
 
-from typing import Dict, List, NamedTuple, Sequence, Tuple
+from typing import Dict, List, NamedTuple, Optional, Sequence, Tuple
 
 from kijorafe import genuine, known
 from kijorafe.explain import fault_of
@@ -10,7 +10,7 @@ from kijorafe.program import WRONG_WORDS, Failure, Program, find
 from kijorafe.shown import file_name, in_a_row
 from kijorafe.staging import Output, free_bytes
 from kijorafe.threads import addresses_in
-from kijorafe.window import Asked, window_of
+from kijorafe.window import Asked, Window, window_of
 
 REFUSED = 2
 READ_FAULT = 3
@@ -61,18 +61,33 @@ def tenant_by_addresses(order: Order) -> int:
         return _scrubbed(program, order, options, recording, output)
 
 
-def _scrubbed(program: Program, order: Order, options: Sequence[str], recording: str, output: Output) -> int:
-    """Scrubs, and says what came of it, when the output has its name."""
-    source, kept = order.source, known.kept_by(order.recipe)
-    own = _own_types(program, source, recording)
+class Plan(NamedTuple):
+    """The options of the program for a scrub by a recipe, the names that own types share with it, and the window."""
+
+    options: List[str]
+    own: Dict[str, str]
+    window: Optional[Window]
+
+
+def plan_of(program: Program, order: Order, options: Sequence[str], recording: str) -> Plan:
+    """How the program is run for an order, with these further options."""
+    own = _own_types(program, order.source, recording)
+    kept = known.kept_by(order.recipe)
     names = ",".join(name for name in kept if name not in own or name in order.trusted)
     # With the descriptions of all types that can be left, the JDK's reader finds the events of each chunk.
-    words = ["scrub", "--include-events", names, "--describe", names, *options]
+    words = ["--include-events", names, "--describe", names, *options]
     window = window_of(order.asked, recording)
     if window is not None:
         words += [*window.words(), "--always", ",".join(known.written_once())]
+    return Plan(words, {name: reason for name, reason in own.items() if name in kept}, window)
+
+
+def _scrubbed(program: Program, order: Order, options: Sequence[str], recording: str, output: Output) -> int:
+    """Scrubs, and says what came of it, when the output has its name."""
+    source = order.source
+    plan = plan_of(program, order, options, recording)
     try:
-        program.run(*words, as_operand(recording), as_operand(output.path))
+        program.run("scrub", *plan.options, as_operand(recording), as_operand(output.path))
     except Failure as failure:
         fault = fault_of(failure, source)
         if failure.status == WRITE_FAULT:
@@ -82,8 +97,8 @@ def _scrubbed(program: Program, order: Order, options: Sequence[str], recording:
         report = _report(program, recording, output)
     except (Failure, Fault, MemoryError) as failure:
         raise _unchecked(source, failure) from failure
-    report += _report_own({name: reason for name, reason in own.items() if name in kept}, order)
-    report += [] if window is None else window.report()
+    report += _report_own(plan.own, order)
+    report += [] if plan.window is None else plan.window.report()
     output.commit()
     for line in report:
         say(line)

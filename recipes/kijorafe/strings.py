@@ -4,11 +4,10 @@ import json
 import os
 import time
 from collections import Counter, defaultdict
-from contextlib import contextmanager
 from typing import Any, Counter as Counts, DefaultDict, Dict, Iterator, List, NamedTuple, Optional, Set, Tuple, Union
 
-from kijorafe.headers import NO_RECORDING, Header, headers_of
-from kijorafe.inputs import BLOCK, name_of
+from kijorafe.headers import NO_RECORDING, headers_of
+from kijorafe.inputs import chunk_of
 from kijorafe.messages import Fault, say
 from kijorafe.program import Field, Program
 from kijorafe.shown import file_name
@@ -57,27 +56,11 @@ def strings_in(program: Program, recording: str, numbers: Set[int]) -> Strings:
         except NO_RECORDING as fault:
             raise Fault(2, f"{file_name(recording)} isn't a recording that jfr accepts") from fault
         for header in headers:
-            with _chunk(recording, header) as chunk:
+            with chunk_of(recording, header) as chunk:
                 for (kind, path, string), count in _strings_in_chunk(program, chunk, numbers).items():
                     strings[path, string][kind] += count
             progress.at(header.at + header.size, "strings")
     return strings
-
-
-@contextmanager
-def _chunk(recording: str, header: Header) -> Iterator[str]:
-    """The name of a file in memory that has only this chunk."""
-    with open(recording, "rb") as file, open(os.memfd_create("chunk"), "w+b") as copy:
-        file.seek(header.at)
-        left = header.size
-        while left:
-            block = file.read(min(left, BLOCK))
-            if not block:
-                raise Fault(2, f"{file_name(recording)} was changed meanwhile")
-            copy.write(block)
-            left -= len(block)
-        copy.flush()
-        yield name_of(copy)
 
 
 def types_of(kinds: Counts[str]) -> str:

@@ -20,6 +20,7 @@ _MOMENT = re.compile(
     r"(?P<day>[0-9]{4}-[0-9]{2}-[0-9]{2})[Tt ](?P<clock>[0-9]{2}:[0-9]{2})"
     r"(?P<second>:[0-9]{2})?(?:\.(?P<fraction>[0-9]{1,9}))?(?P<zone>[Zz]|[+-][0-9]{2}:[0-9]{2})"
 )
+_NUMBER = re.compile(r"[0-9]{1,19}")
 _SPAN = re.compile(r"([0-9]{1,9})([smhd])")
 
 
@@ -88,6 +89,13 @@ def moment(text: str) -> Union[int, time]:
     return number
 
 
+def moment_or_number(text: str) -> Union[int, time]:
+    """The same, or a number of nanoseconds since 1970, as the program takes it."""
+    if _NUMBER.fullmatch(text) and int(text) in MOMENTS:
+        return int(text)
+    return moment(text)
+
+
 def duration(text: str) -> int:
     """A duration, such as 10m, in nanoseconds; raises ValueError if the text is none."""
     found = _SPAN.fullmatch(text)
@@ -125,7 +133,7 @@ def window_of(asked: Asked, recording: str) -> Optional[Window]:
     span = span_of(recording)
     if asked.last is not None:
         return Window(max(span.last - duration(asked.last), 0), None, span)
-    first, end = (None if text is None else _number(moment(text), span) for text in (asked.since, asked.until))
+    first, end = (None if text is None else _number(moment_or_number(text), span) for text in (asked.since, asked.until))
     if first is not None and end is not None and first > end:
         raise Fault(1, f"--from {asked.since} is after --to {asked.until}: {shown_moment(first)}, {shown_moment(end)}")
     return Window(first, end, span)

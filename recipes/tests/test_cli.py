@@ -11,7 +11,7 @@ from kijorafe.explain import reasons
 from kijorafe.jdk import integer_at, spelled
 from tests.support import EVENTS, SHUTDOWN, TOP, TYPES, Case
 
-NAMES = "vendor", "strict", "tenant", "many", "left", "strangers", "threads", "flame", "jdk", "explain"
+NAMES = "vendor", "strict", "tenant", "many", "check", "left", "strangers", "threads", "flame", "jdk", "explain"
 
 
 class Words(Case):

@@ -19,6 +19,9 @@ class Install(Case):
             "vendor --last 10m x": "",
             "many --resume v": "vendor",
             "left --": "--exact --help",
+            "check --rec": "--recipe",
+            "check --recipe t": "tenant",
+            "check --ex": "--exclude-events --exclude-categories --exclude-threads",
         }
         bash = '. "$0"; for line; do read -ra COMP_WORDS <<<"kijorafe $line"; COMP_CWORD=$((${#COMP_WORDS[@]} - 1));'
         bash += ' _kijorafe; echo "${COMPREPLY[*]}"; done'
@@ -41,6 +44,7 @@ class Install(Case):
             "lib/kijorafe",
             "share/bash-completion/completions/kijorafe",
             "share/bash-completion/completions/kjfr",
+            "share/man/man1/kijorafe.1",
             "share/man/man1/kjfr.1",
             "share/zsh/site-functions/_kjfr",
         ]

@@ -13,6 +13,11 @@ spell_small : (k v : ℕ) → v < 128 → spell_within k v ≡ v ∷ []
 spell_small zero v h = refl
 spell_small (suc k) v h = let t : nat_lt v 128 ≡ true = grind arith in rw t refl
 
+-- A value below 128 is its own spelling.
+pub spell_byte : (v : ℕ) → v < 128 → spell v ≡ v ∷ []
+unfolding spell
+spell_byte v h = spell_small 8 v h
+
 spell_large : (k v : ℕ) → 128 ≤ v → spell_within (suc k) v ≡ (v % 128 + 128) ∷ spell_within k (v / 128)
 spell_large k v h = let t : nat_lt v 128 ≡ false = grind arith in rw t refl
 

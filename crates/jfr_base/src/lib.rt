@@ -10,6 +10,7 @@ mod header;
 mod integer;
 pub mod laws;
 mod memory;
+mod push;
 mod reason;
 mod text;
 mod words;
@@ -22,6 +23,7 @@ pub use integer::{
     write_var,
 };
 pub use memory::NoMemory;
+pub use push::{push_in, push_var};
 pub use reason::Reason;
 pub use text::Text;
 pub use words::Words;

@@ -62,6 +62,13 @@ impl Words {
         Ok(())
     }
 
+    /// The texts, in order.
+    pub fn as_slice(&self) -> &[Text]
+        ensures { result.now ≡ self.now }
+    {
+        self.texts.as_slice()
+    }
+
     /// The number of texts.
     pub fn len(&self) -> usize
         ensures { result ≡ length self.now }

@@ -5,9 +5,9 @@ ghost use Rattle.jfr_base.specs.Integer.{spell};
 ghost use Rattle.jfr_build.specs.LeafWords.{base_of, content_of, hex_byte, hex_of, id_after, negated, signed_of, spelled_content, string_of, truth_of};
 ghost use Rattle.jfr_build.specs.Writing.{Appends};
 
-use crate::output::{ValueFault, push_integer};
+use crate::output::ValueFault;
 use crate::quoted::{hex_digit, unquote};
-use jfr_base::decimal_number;
+use jfr_base::{decimal_number, push_var};
 use jfr_layout::Kind;
 use jfr_meta::id_of;
 use jfr_text::{EMPTY_BYTE, KEY_BYTE, NULL_BYTE, UTF8_BYTE};
@@ -134,7 +134,7 @@ fn push_number(out: &mut Vec<u8>, number: Option<u64>) -> Result<(), ValueFault>
     let Some(number) = number else {
         return Err(ValueFault::Bad);
     };
-    push_integer(out, number)?;
+    push_var(out, number)?;
     Ok(())
 }
 
@@ -147,7 +147,7 @@ fn push_text(out: &mut Vec<u8>, text: &[u8]) -> Result<(), AllocError>
         return Ok(());
     }
     out.push(UTF8_BYTE)?;
-    push_integer(out, text.len() as u64)?;
+    push_var(out, text.len() as u64)?;
     out.extend_from_slice(text)
 }
 
@@ -161,7 +161,7 @@ fn push_string(out: &mut Vec<u8>, word: &str, text: &mut Vec<u8>) -> Result<(), 
     }
     if let Some(key) = id_after(word, '#') {
         out.push(KEY_BYTE)?;
-        push_integer(out, key)?;
+        push_var(out, key)?;
         return Ok(());
     }
     if !unquote(word, text)? {

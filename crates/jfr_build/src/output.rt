@@ -5,7 +5,7 @@ ghost use Rattle.jfr_build.specs.LeafWords.{base_of};
 ghost use Rattle.jfr_build.specs.Writing.{Appends};
 
 use crate::leaf::push_leaf;
-use jfr_base::{NoMemory, write_var};
+use jfr_base::{NoMemory, push_var};
 use jfr_layout::Kind;
 use std::alloc::{AllocError, AllocFailed, Global};
 use std::marker::Model;
@@ -91,10 +91,10 @@ impl Output {
     }
 
     /// Appends an integer in its shortest spelling.
-    pub fn push_integer(&mut self, value: u64) -> Result<(), AllocError>
+    pub fn push_var(&mut self, value: u64) -> Result<(), AllocError>
         ensures ok { OnOk result (self.new ≡ self.old ++ spell value) }
     {
-        push_integer(&mut self.bytes, value)
+        push_var(&mut self.bytes, value)
     }
 
     /// Appends the value of a base name that the word spells.
@@ -103,13 +103,4 @@ impl Output {
     {
         push_leaf(&mut self.bytes, kind, word, &mut self.text)
     }
-}
-
-/// Appends an integer in its shortest spelling.
-pub fn push_integer(out: &mut Vec<u8>, value: u64) -> Result<(), AllocError>
-    ensures ok { OnOk result (out.new.items ≡ out.old.items ++ spell value) }
-{
-    let mut spelled = [0; 9];
-    let len = write_var(value, &mut spelled);
-    out.extend_from_slice(&spelled[..len])
 }

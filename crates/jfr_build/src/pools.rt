@@ -8,8 +8,8 @@ ghost use Rattle.jfr_build.specs.Pooled.{Added, AreListed, Grown, count_in, entr
 use crate::line::Line;
 use crate::line_values::line_value;
 use crate::lines::NumberedLine;
-use crate::output::{Output, push_integer};
-use jfr_base::NoMemory;
+use crate::output::Output;
+use jfr_base::{NoMemory, push_var};
 use jfr_layout::Classes;
 use std::alloc::Global;
 use std::collections::BTreeMap;
@@ -68,7 +68,7 @@ impl Pools {
     {
         let mut pool = self.take(class)?;
         pool.count += 1;
-        push_integer(&mut pool.entries, key)?;
+        push_var(&mut pool.entries, key)?;
         pool.entries.extend_from_slice(value)?;
         self.by_class.insert(class, pool)?;
         Ok(())
@@ -80,7 +80,7 @@ impl Pools {
         ensures ok { IfOk result (λ bytes. bytes.items ≡ pools_bytes self.now) }
     {
         let mut bytes = Vec::new(self.alloc);
-        push_integer(&mut bytes, self.classes.len() as u64)?;
+        push_var(&mut bytes, self.classes.len() as u64)?;
         for class in &self.classes {
             self.push_pool(&mut bytes, *class)?;
         }
@@ -95,8 +95,8 @@ impl Pools {
         let Some(pool) = self.by_class.get(&class) else {
             unreachable!();
         };
-        push_integer(bytes, class)?;
-        push_integer(bytes, pool.count)?;
+        push_var(bytes, class)?;
+        push_var(bytes, pool.count)?;
         bytes.extend_from_slice(&pool.entries)?;
         Ok(())
     }

@@ -7,8 +7,8 @@ ghost use Rattle.jfr_build.specs.LineValues.{first_bad_value, is_bad_value};
 use crate::line::Line;
 use crate::line_values::line_value;
 use crate::lines::NumberedLine;
-use crate::output::{Output, push_integer};
-use jfr_base::{NoMemory, var_len, write_in};
+use crate::output::Output;
+use jfr_base::{NoMemory, push_var, var_len, write_in};
 use jfr_layout::Classes;
 use std::alloc::{AllocError, Global};
 
@@ -75,7 +75,7 @@ fn push_record(events: &mut Vec<u8>, class: u64, value: &[u8]) -> Result<bool, N
     }
     let size = SIZE_LEN + var_len(class) + value.len();
     push_size(events, size as u64)?;
-    push_integer(events, class)?;
+    push_var(events, class)?;
     events.extend_from_slice(value)?;
     Ok(true)
 }

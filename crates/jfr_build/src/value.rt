@@ -48,7 +48,7 @@ fn push_reference(words: &mut RestOfLine<'_>, out: &mut Output) -> Result<(), Va
     let Some(key) = id_after(word, '#') else {
         return Err(ValueFault::Bad);
     };
-    out.push_integer(key)?;
+    out.push_var(key)?;
     Ok(())
 }
 
@@ -121,7 +121,7 @@ fn push_array(
     let Some(count) = id_after(word, '[') else {
         return Err(ValueFault::Bad);
     };
-    out.push_integer(count)?;
+    out.push_var(count)?;
     let item = item_layout(layout);
     for _ in 0..count {
         push_layout(classes, &item, words, out, levels)?;

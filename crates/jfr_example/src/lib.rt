@@ -5,8 +5,7 @@
 //! call ensures is what the next one requires, so this crate needs no lemma of another one. `texts_of` asks
 //! `jfr_path` for the text to which names of fields lead from each event. The program doesn't use this crate.
 //!
-//! `jfr_tests_chunks/src/example.rt` has a whole program, from the bytes of a recording to the names of its
-//! threads.
+//! `jfr_thread_names` is a whole program, from a recording to the names of its threads.
 #![tactic(auto)]
 
 mod texts;

@@ -15,7 +15,7 @@ and_second : (a b : Bool) → (a && b) ≡ true → b ≡ true
 and_second true b e = e
 and_second false b e = cc
 
-same_bool : (a b : Bool) → (a ≡ true → b ≡ true) → (b ≡ true → a ≡ true) → a ≡ b
+pub same_bool : (a b : Bool) → (a ≡ true → b ≡ true) → (b ≡ true → a ≡ true) → a ≡ b
 same_bool true true f g = refl
 same_bool true false f g = sym (f refl)
 same_bool false true f g = g refl
@@ -61,7 +61,7 @@ past_first p f c cs e = by_case (or_cases ((p == 63 || p == c) && f cs) (some_su
 
 -- ---- a pattern by its first character
 
-first_is : (p : ℕ) (ps text : List ℕ) → (p ≡ 42 → ⊥) → glob (p ∷ ps) text ≡ first_and p (glob ps) text
+pub first_is : (p : ℕ) (ps text : List ℕ) → (p ≡ 42 → ⊥) → glob (p ∷ ps) text ≡ first_and p (glob ps) text
 unfolding glob
 first_is p ps text h = let t : (p == 42) ≡ false = grind arith in rw t refl
 

@@ -1,5 +1,6 @@
 pub mod AnyLaws
 pub mod GlobLaws
+pub mod IndexLaws
 pub mod KeepLaws
 pub mod TextsLaws
 pub mod NameLaws

@@ -1,3 +1,4 @@
 pub mod Filters
+pub mod Indexes
 pub mod Patterns
 pub mod Walks

@@ -19,6 +19,10 @@ glob [] [] = true
 glob [] (c ∷ cs) = false
 glob (p ∷ ps) text = if p == 42 then some_suffix (glob ps) text else first_and p (glob ps) text
 
+-- A star or a question mark is in the pattern.
+abbrev pub has_wildcard : List ℕ → Bool
+has_wildcard pattern = list_any (λ c. c == 42 || c == 63) pattern
+
 -- The part after the last dot, if there is one.
 abbrev pub after_last_dot : List ℕ → Option (List ℕ)
 after_last_dot [] = None

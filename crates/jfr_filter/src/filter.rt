@@ -6,8 +6,9 @@ ghost use Rattle.jfr_filter.specs.declared.side.FilterFault.TheVariants.{EmptyPa
 ghost use Rattle.jfr_filter.specs.Filters.{nothing_given, given_at, with_patterns, event_matches, category_matches, allows, allows_class, allows_thread, has_window, keeps, some_matches};
 ghost use Rattle.jfr_filter.specs.Patterns.{patterns_in, has_empty_part};
 
-use crate::list::{has_empty_part, patterns_of};
-use crate::matching::{any_category, any_event, any_text, any_thread};
+use crate::list::has_empty_part;
+use crate::matching::{any_category, any_event, any_thread};
+use crate::patterns::Patterns;
 use crate::{FilterFault, Side};
 use jfr_base::Words;
 use std::alloc::Global;
@@ -18,16 +19,16 @@ use std::marker::Model;
 #[derive(Drop)]
 pub struct Filter {
     alloc: Global,
-    include_events: Option<Words>,
-    exclude_events: Option<Words>,
-    include_categories: Option<Words>,
-    exclude_categories: Option<Words>,
-    include_threads: Option<Words>,
-    exclude_threads: Option<Words>,
+    include_events: Option<Patterns>,
+    exclude_events: Option<Patterns>,
+    include_categories: Option<Patterns>,
+    exclude_categories: Option<Patterns>,
+    include_threads: Option<Patterns>,
+    exclude_threads: Option<Patterns>,
     from: Option<i64>,
     to: Option<i64>,
-    always: Option<Words>,
-    describe: Option<Words>,
+    always: Option<Patterns>,
+    describe: Option<Patterns>,
 }
 
 impl Model for Filter {
@@ -66,7 +67,7 @@ impl Filter {
     }
 
     /// The patterns of an option.
-    fn patterns(&self, side: Side) -> &Option<Words>
+    fn patterns(&self, side: Side) -> &Option<Patterns>
         ensures { result.now ≡ given_at side self.now }
     {
         match side {
@@ -93,7 +94,7 @@ impl Filter {
         if has_empty_part(list) {
             return Err(FilterFault::EmptyPattern);
         }
-        let patterns = Some(patterns_of(self.alloc, list)?);
+        let patterns = Some(Patterns::of(self.alloc, list)?);
         match side {
             Side::IncludeEvents => self.include_events = patterns,
             Side::ExcludeEvents => self.exclude_events = patterns,
@@ -196,7 +197,7 @@ impl Filter {
             Side::IncludeCategories
             | Side::ExcludeCategories
             | Side::IncludeThreads
-            | Side::ExcludeThreads => any_text(patterns, text),
+            | Side::ExcludeThreads => patterns.matches(text),
             Side::IncludeEvents | Side::ExcludeEvents | Side::Always | Side::Describe => {
                 any_event(patterns, text)
             }

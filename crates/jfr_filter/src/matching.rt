@@ -4,27 +4,27 @@ ghost use Rattle.std.specs.List.{list_any};
 ghost use Rattle.std.specs.Str.{chars};
 ghost use Rattle.jfr_base.specs.Texts.{text_in};
 ghost use Rattle.jfr_filter.specs.Filters.{event_matches, category_matches, thread_matches};
-ghost use Rattle.jfr_filter.specs.Patterns.{glob};
 
-use crate::pattern::{glob, simple_name};
+use crate::pattern::simple_name;
+use crate::patterns::Patterns;
 use jfr_base::Words;
 
 /// Whether some pattern matches the class name, or the part after its last dot.
-pub(crate) fn any_event(patterns: &Words, name: &str) -> bool
+pub(crate) fn any_event(patterns: &Patterns, name: &str) -> bool
     ensures { result ≡ list_any (event_matches (chars name.now)) patterns.now }
 {
-    if any_text(patterns, name) {
+    if patterns.matches(name) {
         return true;
     }
-    any_text(patterns, simple_name(name))
+    patterns.matches(simple_name(name))
 }
 
 /// Whether some pattern matches one of the categories.
-pub(crate) fn any_category(patterns: &Words, categories: &Words) -> bool
+pub(crate) fn any_category(patterns: &Patterns, categories: &Words) -> bool
     ensures { result ≡ list_any (category_matches categories.now) patterns.now }
 {
     for at in 0..categories.len() {
-        if any_text(patterns, text_at(categories, at)) {
+        if patterns.matches(text_at(categories, at)) {
             return true;
         }
     }
@@ -32,25 +32,13 @@ pub(crate) fn any_category(patterns: &Words, categories: &Words) -> bool
 }
 
 /// Whether there is a thread text, and some pattern matches it.
-pub(crate) fn any_thread(patterns: &Words, thread: Option<&str>) -> bool
+pub(crate) fn any_thread(patterns: &Patterns, thread: Option<&str>) -> bool
     ensures { result ≡ list_any (thread_matches (text_in thread.entry)) patterns.now }
 {
     match thread {
-        Some(text) => any_text(patterns, text),
+        Some(text) => patterns.matches(text),
         None => false,
     }
-}
-
-/// Whether some pattern matches the text.
-pub(crate) fn any_text(patterns: &Words, text: &str) -> bool
-    ensures { result ≡ list_any (λ pattern. glob pattern (chars text.now)) patterns.now }
-{
-    for at in 0..patterns.len() {
-        if glob(text_at(patterns, at), text) {
-            return true;
-        }
-    }
-    false
 }
 
 /// The text with this index.

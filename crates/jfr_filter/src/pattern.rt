@@ -1,7 +1,7 @@
 //! Matching a pattern.
 ghost use Rattle.std.specs.Prelude.{◌≡◌, ◌<◌, ◌∷◌, ◌==◌, ◌||◌, [], length, MatchOption};
 ghost use Rattle.std.specs.Str.{chars};
-ghost use Rattle.jfr_filter.specs.Patterns.{glob, some_suffix, simple_name};
+ghost use Rattle.jfr_filter.specs.Patterns.{glob, has_wildcard, some_suffix, simple_name};
 ghost use Rattle.jfr_filter.specs.Walks.{Goes, IsShorter};
 
 /// Whether the pattern matches the whole text: `*` matches any run of characters, `?` exactly one, and every
@@ -96,6 +96,13 @@ fn first_of(text: &str) -> Option<(char, &str)>
     let mut left = text.chars();
     let first = left.next()?;
     Some((first, left.as_str()))
+}
+
+/// Whether the pattern has a star or a question mark.
+pub(crate) fn has_wildcard(pattern: &str) -> bool
+    ensures { result ≡ has_wildcard (chars pattern.now) }
+{
+    pattern.chars().any(|c| c == '*' || c == '?')
 }
 
 /// The part of a name after its last dot; the whole name if there is none.

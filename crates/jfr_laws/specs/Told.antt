@@ -19,7 +19,8 @@ pub record ToldPool : Type 0 where
   pub entries : List (List ℕ)
 
 -- A chained checkpoint of the output: the number of bytes of its size, the bytes of its type, of its start and
--- duration, and of its type byte, and its pools.
+-- duration, and of its type byte, and its pools. The number of bytes is told because the output keeps it: without
+-- it, the size, the offsets after it and the deltas couldn't be written.
 pub record ToldCheckpoint : Type 0 where
   pub width : ℕ
   pub type_bytes : List ℕ

@@ -18,6 +18,10 @@ take_next xs i x e = take_more xs i x (slice_get_within xs i x e) ∙ ap (λ y. 
 pub map_next : {X Y : Type 0} (f : X → Y) (xs : List X) (i : ℕ) (x : X) → slice_get xs i ≡ Some x → map f (take (i + 1) xs) ≡ map f (take i xs) ++ f x ∷ []
 map_next f xs i x e = map_more f xs i x (slice_get_within xs i x e) ∙ ap (λ y. map f (take i xs) ++ f y ∷ []) (get_or_from_slice_get xs i x x e)
 
+-- The same for the item that a loop over a list has.
+pub item_at : {X : Type 0} (xs : List X) (i : ℕ) (x : X) → i < length xs → x ≡ get_or xs i x → slice_get xs i ≡ Some x
+item_at xs i x l is = slice_get-get_or xs i x l ∙ ap Some (sym is)
+
 -- Two lists that are seen alike are seen alike at each index.
 pub mapped_at : {X Y Z : Type 0} (f : X → Z) (g : Y → Z) (xs : List X) (ys : List Y) (i : ℕ) (x : X) (y : Y) → map f xs ≡ map g ys → slice_get ys i ≡ Some y → x ≡ get_or xs i x → f x ≡ g y
 mapped_at f g xs ys i x y m e r =

@@ -1,14 +1,13 @@
 -- The classes of a closed set of ids are sound, and agree with the list.
-use Rattle.std.specs.Prelude.{◌≡◌, ℕ, zero, suc, ◌+◌, ◌<◌, Bool, true, false, not, ◌&&◌, ◌||◌, ◌==◌, nat_lt, List, [], ◌∷◌, ◌++◌, length, take, filter, find, Option, Some, None, is_some, option_and_then, slice_get, if◌then◌else◌, codes}
+use Rattle.std.specs.Prelude.{◌≡◌, ℕ, zero, suc, ◌+◌, Bool, true, false, not, ◌&&◌, ◌||◌, ◌==◌, nat_lt, List, [], ◌∷◌, ◌++◌, length, take, filter, find, Option, Some, None, is_some, option_and_then, slice_get, if◌then◌else◌}
 use Rattle.std.specs.List.{AllByRecursion, list_any, flat_map, enumerate_from}
 use Rattle.std.specs.Option.{option_map_or}
-use Rattle.std.specs.Str.{bytes_eq}
 use Rattle.std.proofs.Common.{ap, refl, sym, ◌∙◌, arith, subst}
 use Rattle.std.proofs.lemmas.Bool.{eqb-true, or_parts}
 use Rattle.jfr_base.specs.declared.reason.Reason.TheVariants.{ClassTwice, FieldTwice, UnknownType, EmptyInline, InlineDeep}
 use Rattle.jfr_base.specs.declared.reason.Reason.{Reason}
-use Rattle.jfr_layout.specs.Classes.{Class, Classes, ClassFlaw, Field, Sound, Agree, AgreeWithin, class_faults, repeats, name_repeats, flaw_if, flaws_in, has_id, has_name, unknown, is_unknown, empty_inline, is_empty_inline, deep, find_class, step_class, begins_chain, inline_fields, is_composite, kind_of, is_event_class, extends_event}
-use Rattle.jfr_layout.proofs.Lists.{nil_parts, none_at, chained, value_in, all_at}
+use Rattle.jfr_layout.specs.Classes.{Class, Classes, Field, Sound, AgreeWithin, class_faults, repeats, name_repeats, flaw_if, flaws_in, has_id, has_name, unknown, is_unknown, empty_inline, is_empty_inline, deep, find_class, step_class, begins_chain, is_composite, kind_of, is_event_class, extends_event}
+use Rattle.jfr_layout.proofs.Lists.{nil_parts, none_at, value_in, all_at}
 use Rattle.jfr_layout.proofs.SoundLaws.{are_known}
 use Rattle.jfr_layout.specs.Staying.{staying, IsClosed, IsSoundSubset}
 

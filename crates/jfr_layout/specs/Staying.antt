@@ -1,5 +1,5 @@
 -- The classes of a list that are left when only those with ids in a set stay.
-use Rattle.std.specs.Prelude.{◌≡◌, ℕ, Bool, true, ◌&&◌, List, Option, Some, None, filter, slice_get, if◌then◌else◌}
+use Rattle.std.specs.Prelude.{◌≡◌, ℕ, Bool, true, ◌&&◌, Some, None, filter, slice_get, if◌then◌else◌}
 use Rattle.std.specs.List.{AllByRecursion}
 use Rattle.jfr_layout.specs.Classes.{Class, Classes, Sound, Agree, find_class, is_event_class}
 

@@ -53,6 +53,13 @@ impl Fields {
         Ok(())
     }
 
+    /// The fields, in order.
+    pub fn as_slice(&self) -> &[FieldInfo]
+        ensures { result.now ≡ self.now }
+    {
+        self.items.as_slice()
+    }
+
     /// The number of fields.
     pub fn len(&self) -> usize
         ensures { result ≡ length self.now }
@@ -139,6 +146,13 @@ impl ClassList {
     {
         self.items.push(class)?;
         Ok(())
+    }
+
+    /// The classes, in order.
+    pub fn as_slice(&self) -> &[ClassInfo]
+        ensures { result.now ≡ self.now }
+    {
+        self.items.as_slice()
     }
 
     /// The number of classes.

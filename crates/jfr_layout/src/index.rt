@@ -82,8 +82,8 @@ fn near_ids(list: &ClassList) -> usize
     ensures small { result ≤ IDS_A_CLASS * length list.now + FEW_IDS }
 {
     let mut ids = 0;
-    for at in 0..list.len() {
-        ids = list.at(at).id.saturating_add(1).max(ids);
+    for class in list.as_slice() {
+        ids = class.id.saturating_add(1).max(ids);
     }
     let most = (list.len() as u64)
         .saturating_mul(IDS_A_CLASS)

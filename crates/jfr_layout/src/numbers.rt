@@ -13,14 +13,14 @@ fn number_names(alloc: Global, fields: &Fields) -> Result<Vec<u64>, NoMemory>
 {
     let mut firsts = BTreeMap::new(alloc);
     let mut numbers = Vec::with_capacity(alloc, fields.len())?;
-    for field in 0..fields.len() {
-        let name = fields.at(field).name.as_str();
+    for (number, field) in fields.as_slice().iter().enumerate() {
+        let name = field.name.as_str();
         if let Some(first) = firsts.get(name) {
             numbers.push(*first)?;
             continue;
         }
-        firsts.insert(name, field as u64)?;
-        numbers.push(field as u64)?;
+        firsts.insert(name, number as u64)?;
+        numbers.push(number as u64)?;
     }
     Ok(numbers)
 }
@@ -30,8 +30,8 @@ pub(crate) fn number_fields(alloc: Global, list: &ClassList) -> Result<Vec<Vec<u
     ensures ok { IfOk result (λ numbers. AreAllNumbered list.now numbers.items) }
 {
     let mut numbers = Vec::with_capacity(alloc, list.len())?;
-    for at in 0..list.len() {
-        let names = number_names(alloc, &list.at(at).fields)?;
+    for class in list.as_slice() {
+        let names = number_names(alloc, &class.fields)?;
         numbers.push(names)?;
     }
     Ok(numbers)

@@ -39,8 +39,8 @@ fn kinds_of(alloc: Global, list: &ClassList) -> Result<Vec<Kind>, NoMemory>
     ensures exact { IfOk result (λ kinds. kinds.items ≡ map (λ c. kind_of c.name) list.now) }
 {
     let mut kinds = Vec::new(alloc);
-    for at in 0..list.len() {
-        kinds.push(Kind::of(&list.at(at).name))?;
+    for class in list.as_slice() {
+        kinds.push(Kind::of(&class.name))?;
     }
     Ok(kinds)
 }

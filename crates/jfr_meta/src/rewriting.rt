@@ -5,9 +5,8 @@ ghost use Rattle.jfr_meta.specs.NewTables.{IsTable};
 ghost use Rattle.jfr_meta.specs.Rewritten.{Wrote, WroteHead, WrotePairs, WroteTree, WroteTrees};
 
 use crate::tabling::NewTable;
-use crate::write::push_integer;
 use crate::{Element, Elements, Pairs};
-use jfr_base::{NoMemory, Words};
+use jfr_base::{NoMemory, Words, push_var};
 use std::alloc::Global;
 
 /// The bytes of a tree so far, and the table of strings to which its indices lead. Each index of the old
@@ -25,7 +24,7 @@ fn push_index<'a>(tree: &mut NewTree<'a>, strings: &'a Words, index: u64) -> Res
     ensures ok { OnOk result (Wrote strings.now (index ∷ []) (λ f. spell (f index)) tree.old tree.new) }
 {
     let number = tree.table.number(tree.alloc, strings, index)?;
-    push_integer(&mut tree.bytes, number)?;
+    push_var(&mut tree.bytes, number)?;
     Ok(())
 }
 
@@ -51,9 +50,9 @@ pub(crate) fn push_head<'a>(
     ensures ok { OnOk result (WroteHead strings.now element.now children tree.old tree.new) }
 {
     push_index(tree, strings, element.name())?;
-    push_integer(&mut tree.bytes, element.attributes().len() as u64)?;
+    push_var(&mut tree.bytes, element.attributes().len() as u64)?;
     push_pairs(tree, strings, element.attributes())?;
-    push_integer(&mut tree.bytes, children as u64)?;
+    push_var(&mut tree.bytes, children as u64)?;
     Ok(())
 }
 

@@ -7,7 +7,7 @@ ghost use Rattle.jfr_meta.specs.Written.{IsText, text_bytes, pair_bytes, tree_by
 
 use crate::attributes::text_at;
 use crate::{Element, Elements, Pairs};
-use jfr_base::{NoMemory, Words, var_len, write_in, write_var};
+use jfr_base::{NoMemory, Words, push_in, push_var, var_len};
 use jfr_frame::METADATA_TYPE;
 use jfr_text::{EMPTY_BYTE, UTF8_BYTE};
 use std::alloc::{AllocError, Global};
@@ -26,23 +26,11 @@ pub(crate) struct Stamp {
     pub id: u64,
 }
 
-pub(crate) fn push_integer(out: &mut Vec<u8>, value: u64) -> Result<(), AllocError>
-    ensures ok { OnOk result (out.new.items ≡ out.old.items ++ spell value) }
-{
-    let mut spelled = [0; 9];
-    let len = write_var(value, &mut spelled);
-    out.extend_from_slice(&spelled[..len])?;
-    Ok(())
-}
-
 fn push_size(out: &mut Vec<u8>, size: u64) -> Result<(), AllocError>
     requires { FitsIn size 5 }
     ensures ok { OnOk result (out.new.items ≡ out.old.items ++ spell_in 5 size) }
 {
-    let mut spelled = [0; 9];
-    write_in(size, SIZE_LEN, &mut spelled);
-    out.extend_from_slice(&spelled[..SIZE_LEN])?;
-    Ok(())
+    push_in(out, size, SIZE_LEN)
 }
 
 fn push_text(out: &mut Vec<u8>, text: &str) -> Result<(), AllocError>
@@ -53,7 +41,7 @@ fn push_text(out: &mut Vec<u8>, text: &str) -> Result<(), AllocError>
         return Ok(());
     }
     out.push(UTF8_BYTE)?;
-    push_integer(out, text.len() as u64)?;
+    push_var(out, text.len() as u64)?;
     out.extend_from_slice(text.as_bytes())?;
     Ok(())
 }
@@ -72,8 +60,8 @@ fn push_pairs(out: &mut Vec<u8>, pairs: &Pairs) -> Result<(), AllocError>
     ensures ok { OnOk result (out.new.items ≡ out.old.items ++ flat_map pair_bytes pairs.now) }
 {
     for (key, value) in pairs.as_slice() {
-        push_integer(out, *key)?;
-        push_integer(out, *value)?;
+        push_var(out, *key)?;
+        push_var(out, *value)?;
     }
     Ok(())
 }
@@ -82,10 +70,10 @@ fn push_pairs(out: &mut Vec<u8>, pairs: &Pairs) -> Result<(), AllocError>
 fn push_element(out: &mut Vec<u8>, element: &Element) -> Result<(), AllocError>
     ensures ok { OnOk result (out.new.items ≡ out.old.items ++ tree_bytes element.now) }
 {
-    push_integer(out, element.name())?;
-    push_integer(out, element.attributes().len() as u64)?;
+    push_var(out, element.name())?;
+    push_var(out, element.attributes().len() as u64)?;
     push_pairs(out, element.attributes())?;
-    push_integer(out, element.children().len() as u64)?;
+    push_var(out, element.children().len() as u64)?;
     push_elements(out, element.children())
 }
 
@@ -177,10 +165,10 @@ pub(crate) fn push_opening(
     push_size(out, size)?;
     // The type is below 128, so its spelling is this one byte.
     out.push(METADATA_TYPE as u8)?;
-    push_integer(out, stamp.start)?;
-    push_integer(out, stamp.duration)?;
-    push_integer(out, stamp.id)?;
-    push_integer(out, strings.len() as u64)?;
+    push_var(out, stamp.start)?;
+    push_var(out, stamp.duration)?;
+    push_var(out, stamp.id)?;
+    push_var(out, strings.len() as u64)?;
     push_texts(out, strings)
 }
 

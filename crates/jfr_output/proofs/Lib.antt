@@ -3,11 +3,11 @@ pub mod CheckpointEntries
 pub mod CursorLaws
 pub mod MadeFile
 pub mod MadeOutput
-pub mod NewLaws
+mod NewLaws
 pub mod OutputRecordLaws
 pub mod PoolLaws
 pub mod PositionLaws
 pub mod RecordingLaws
 pub mod RemainingLaws
-pub mod UsedLaws
+mod UsedLaws
 pub mod Widths

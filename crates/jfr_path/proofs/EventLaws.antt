@@ -37,7 +37,7 @@ passes {X = X} test (y ∷ ys) x i = by_test (test y) refl i (λ j. passes test 
     by_test false q j f = f j
 
 -- The record of an event is of an event class.
-event_class : (p : Parts) (e : EventAt) → In (events_of p) e → is_event_class p.classes e.record_of.type_id ≡ true
+pub event_class : (p : Parts) (e : EventAt) → In (events_of p) e → is_event_class p.classes e.record_of.type_id ≡ true
 unfolding events_of
 event_class p e i =
     let r = in_filter_map (event_of p.bytes p.classes) (event_records p.classes p.records) e i in
@@ -62,12 +62,12 @@ is_the_composite kinds.Double e = cc
 is_the_composite kinds.Text e = cc
 
 -- An event class is known, and composite.
-record EventClass (k : Classes) (id : ℕ) : Type 0 where
-  class : Class
-  found : find_class k id ≡ Some class
-  composite : kind_of class.name ≡ kinds.Composite
+pub record EventClass (k : Classes) (id : ℕ) : Type 0 where
+  pub class : Class
+  pub found : find_class k id ≡ Some class
+  pub composite : kind_of class.name ≡ kinds.Composite
 
-known : (k : Classes) (id : ℕ) → is_event_class k id ≡ true → EventClass k id
+pub known : (k : Classes) (id : ℕ) → is_event_class k id ≡ true → EventClass k id
 unfolding is_event_class
 known k id e = by_class (find_class k id) refl (and_parts (nat_lt 1 id) (option_map_or extends_event (find_class k id) false) e).1
   where

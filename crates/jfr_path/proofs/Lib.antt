@@ -1,14 +1,15 @@
-pub mod ChosenLaws
-pub mod EventLaws
+mod ChosenLaws
+mod EventLaws
 pub mod FollowLaws
-pub mod ListLaws
-pub mod NameLaws
-pub mod StepLaws
-pub mod StringLaws
-pub mod TextLaws
-pub mod TextVerdictLaws
-pub mod ThreadLaws
-pub mod TimeLaws
-pub mod UntimedLaws
-pub mod VerdictLaws
-pub mod WindowLaws
+mod LeadingLaws
+mod ListLaws
+mod NameLaws
+mod StepLaws
+mod StringLaws
+mod TextLaws
+mod TextVerdictLaws
+mod ThreadLaws
+mod TimeLaws
+mod UntimedLaws
+mod VerdictLaws
+mod WindowLaws

@@ -1,11 +1,11 @@
 -- The times of an event are the numbers in its fields with these names.
-use Rattle.std.specs.Prelude.{◌≡◌, ◌≢◌, ℕ, ℤ, pos, ◌^◌, ◌%◌, ◌<◌, Bool, true, false, not, ◌||◌, List, Option, Some, None, option_and_then, option_map, codes, if◌then◌else◌}
+use Rattle.std.specs.Prelude.{◌≡◌, ◌≢◌, ℕ, ℤ, pos, ◌^◌, ◌%◌, ◌<◌, ◌≤◌, Bool, true, false, not, ◌||◌, List, length, Option, Some, None, option_and_then, option_map, codes, if◌then◌else◌}
 use Rattle.std.specs.Int.{cast_signed, w64}
 use Rattle.std.specs.Option.{option_map_or}
 use Rattle.std.proofs.Common.{ap, arith, refl, sym, ◌∙◌, subst}
 use Rattle.jfr_base.specs.declared.integer.Var.{Var}
 use Rattle.jfr_base.specs.Formats.{int_at}
-use Rattle.jfr_base.specs.Integer.{worth_within}
+use Rattle.jfr_base.specs.Integer.{IntAt, worth_within}
 use Rattle.jfr_base.proofs.OneAnswer.{int_computed}
 use Rattle.jfr_filter.specs.Filters.{Given, has_window, is_always}
 use Rattle.jfr_layout.specs.Classes.{Class, Classes, find_class, field_number, kind_of}
@@ -38,14 +38,15 @@ pub these_times : (c : Class) (o : Option ℕ) (start : ℕ) (duration : Option 
 these_times c o start duration s e d =
     ap (λ z. Some (record { start = start; duration = z })) d ∙ ap (option_map (λ start. record { start = start; duration = field_number c.fields (codes "duration") })) (sym s ∙ e)
 
--- An inline `long` has the integer that its bytes spell.
+-- An inline `long` has the integer that its bytes spell, also if it is read with a later limit.
 module _ (k : Classes) (c : List ℕ) (n : NodeAt) (v : Value) (d : Class) (i : IsNode k c n v) (array : n.shape.array ≡ false) (constant : n.shape.constant ≡ false) (found : find_class k n.shape.class ≡ Some d) (long : kind_of d.name ≡ kinds.Long) where
-  pub spelled : (number : ℕ) × (int_at c n.at n.end ≡ Some (record { value = number; end = n.end })) × (number ≡ worth_within 8 (node_bytes c n))
+  pub spelled : (number : ℕ) × ((end : ℕ) → n.end ≤ end → end ≤ length c → int_at c n.at end ≡ Some (record { value = number; end = n.end })) × (number ≡ worth_within 8 (node_bytes c n))
   spelled =
       let not_composite : kind_of d.name ≢ kinds.Composite = λ z. (let x : kinds.Long ≡ kinds.Composite = sym long ∙ z in cc) in
       let f = base_form k c n.at n.end n.shape v d i array constant found not_composite in
       let b : IsBase kinds.Long (node_bytes c n) f.key = subst (λ z. IsBase z (node_bytes c n) f.key) long f.is in
-      (b.0, int_computed c n.at n.end n.end b.0 i.order i.within (record { order = i.order; within = i.within; spelled = b.1 }) (omega arith), b.1.worth)
+      let there : IntAt c n.at n.end b.0 = record { order = i.order; within = i.within; spelled = b.1 } in
+      (b.0, (λ end l w. int_computed c n.at end n.end b.0 (omega (arith, i.order)) w there l), b.1.worth)
 
 -- The class of an inline `long`.
 module _ (p : Parts) (n : Node) (value : IsValue p.classes n) (bytes : n.bytes.now ≡ p.bytes) (array : n.shape.array ≡ false) (constant : n.shape.constant ≡ false) (k : Classes) (same : k ≡ p.classes) (long : Some kinds.Long ≡ option_map (λ c. kind_of c.name) (find_class k n.shape.class)) where
@@ -56,12 +57,12 @@ module _ (p : Parts) (n : Node) (value : IsValue p.classes n) (bytes : n.bytes.n
       by_class None q e = cc
       by_class (Some d) q e = (d, q, (let x : Some kinds.Long ≡ Some (kind_of d.name) = e in cc))
 
-  abbrev there : (number : ℕ) × (int_at n.bytes.now n.at n.end ≡ Some (record { value = number; end = n.end })) × (number ≡ worth_within 8 (node_bytes n.bytes.now (node_of n)))
+  abbrev there : (number : ℕ) × ((end : ℕ) → n.end ≤ end → end ≤ length n.bytes.now → int_at n.bytes.now n.at end ≡ Some (record { value = number; end = n.end })) × (number ≡ worth_within 8 (node_bytes n.bytes.now (node_of n)))
   there = spelled p.classes n.bytes.now (node_of n) value.0 found.0 value.1 array constant found.1 found.2
 
   pub long_is : (number : Var) → number.value < 2 ^ 64 → int_at n.bytes.now n.at n.end ≡ Some number → Some (cast_signed w64 number.value) ≡ long_of p (node_of n)
   long_is number small e =
-      let x : Some (record { value = there.0; end = n.end }) ≡ Some number = sym there.1 ∙ e in
+      let x : Some (record { value = there.0; end = n.end }) ≡ Some number = sym (there.1 n.end (omega arith) value.1.within) ∙ e in
       let y : number.value ≡ there.0 = cc in
       let by_long : Kind → Option ℤ = λ kind. long_by kind (node_bytes p.bytes (node_of n)) in
       ap (λ z. Some z) (signed_is number.value small)

@@ -1,10 +1,13 @@
 -- The fields with the times of an event, and a time window by the clock of a chunk.
-use Rattle.std.specs.Prelude.{◌≡◌, ℕ, ℤ, pos, ◌+ℤ◌, ◌-ℤ◌, ◌*ℤ◌, int_lt, int_le, Bool, true, false, not, ◌&&◌, ◌||◌, Option, option_and_then, option_map, codes}
+use Rattle.std.specs.Prelude.{◌≡◌, ℕ, ℤ, pos, ◌+ℤ◌, ◌-ℤ◌, ◌*ℤ◌, int_lt, int_le, Bool, true, false, not, ◌&&◌, ◌||◌, List, map, slice_get, Option, IfSome, option_and_then, option_map, codes}
+use Rattle.std.specs.List.{AllByRecursion}
 use Rattle.std.specs.Option.{option_map_or}
 use Rattle.jfr_filter.specs.Filters.{Given, has_window, is_always}
-use Rattle.jfr_layout.specs.Classes.{Class, field_number}
+use Rattle.jfr_layout.specs.Classes.{Class, IsFieldLayout, field_number}
+use Rattle.jfr_layout.specs.declared.field_layout.FieldLayout.{FieldLayout}
 use Rattle.jfr_value.specs.declared.node.Step.TheVariants as steps
-use Rattle.jfr_value.specs.Nodes.{NodeAt, child}
+use Rattle.jfr_value.specs.Nodes.{NodeAt, AreValues, child, laid}
+use Rattle.jfr_value.specs.Values.{Values, list_of}
 use Rattle.jfr_chunk.specs.Parts.{Parts}
 use Rattle.jfr_chunk.specs.Windows.{clock_of, is_in, long_of, or_zero}
 use Rattle.jfr_path.specs.declared.times.Times.{Times}
@@ -23,10 +26,25 @@ times_of c = option_map (λ start. record { start = start; duration = field_numb
 abbrev pub number_at : Parts → NodeAt → ℕ → Option ℤ
 number_at p n i = option_and_then (long_of p) (child p.classes p.bytes n (steps.Field i))
 
+-- How long an event lasts by the field with this number: 0 without one, or if its value is negative.
+abbrev pub duration_at : Parts → NodeAt → Option ℕ → ℤ
+duration_at p n number = option_map_or or_zero (option_and_then (number_at p n) number) (pos 0)
+
 -- By the times in these fields, an event is in the window.
 abbrev pub is_timely : Given → Parts → NodeAt → Times → Bool
 is_timely g p n t =
-    option_map_or (λ start. is_in g (clock_of p.bytes) start (option_map_or or_zero (option_and_then (number_at p n) t.duration) (pos 0))) (number_at p n t.start) false
+    option_map_or (λ start. is_in g (clock_of p.bytes) start (duration_at p n t.duration)) (number_at p n t.start) false
+
+-- The fields of a node are values with these layouts, one after another.
+pub record HasLayouts (p : Parts) (n : NodeAt) (layouts : List FieldLayout) : Type 0 where
+  pub values : Values
+  pub row : AreValues p.classes p.bytes n.at n.end (map (λ s. s.shape) layouts) values
+  pub each : (i : ℕ) → child p.classes p.bytes n (steps.Field i) ≡ slice_get (laid n.at (list_of values)) i
+  pub layouts_are : AllByRecursion (IsFieldLayout p.classes) layouts
+
+-- The field with this number, if the node has it, starts at this offset.
+abbrev pub StartsAt : Parts → NodeAt → ℕ → ℕ → Type 0
+StartsAt p n i at = IfSome (child p.classes p.bytes n (steps.Field i)) (λ field. field.at ≡ at)
 
 -- An event is in the window that starts at a tick and lasts a number of ticks; both bounds are in billionths of
 -- ticks after the chunk's start.

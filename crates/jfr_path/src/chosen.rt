@@ -1,12 +1,13 @@
 //! The events that a filter keeps.
-ghost use Rattle.std.specs.Prelude.{◌≡◌, IfOk, Some, length, slice_get};
+ghost use Rattle.std.specs.Prelude.{◌≡◌, ◌<◌, IfOk, Some, length, slice_get};
 ghost use Rattle.std.specs.List.{AllZip};
 ghost use Rattle.jfr_filter.specs.Filters.{Given};
 ghost use Rattle.jfr_chunk.specs.Parts.{AreParts, events_of};
 ghost use Rattle.jfr_chunk.specs.Indexed.{event_at};
 ghost use Rattle.jfr_chunk.specs.Chosen.{chosen, is_chosen};
 ghost use Rattle.jfr_path.specs.Threads.{is_thread_allowed};
-ghost use Rattle.jfr_path.specs.Times.{IsWindowOf};
+ghost use Rattle.jfr_layout.specs.Classes.{find_class};
+ghost use Rattle.jfr_path.specs.Times.{HasLayouts, IsWindowOf};
 ghost use Rattle.jfr_path.specs.Verdicts.{IsVerdict, IsRightFor};
 ghost use Rattle.jfr_value.specs.Nodes.{IsValue, node_of};
 
@@ -18,6 +19,7 @@ use crate::window::Window;
 use jfr_base::NoMemory;
 use jfr_chunk::{Chunk, Event, Kept};
 use jfr_filter::Filter;
+use jfr_layout::FieldLayout;
 use jfr_value::{Node, Step, child};
 use std::alloc::Global;
 
@@ -60,13 +62,20 @@ fn is_chosen<'a>(
     ensures ok { IfOk result (λ keep. keep ≡ is_chosen threads.old.filter chunk.now (event_at event.now)) }
     ensures same { threads.new ≡ threads.old }
 {
-    match verdict_of(chunk, event, verdicts) {
+    let class = class_of(chunk, event);
+    match verdict_of(chunk, event, verdicts, class) {
         ClassVerdict::Kept => Ok(true),
         ClassVerdict::Dropped => Ok(false),
         ClassVerdict::Asked { times, thread } => {
             let fields = fields_of(chunk, event);
             if let Some(times) = times
-                && !is_timely(chunk, window, &fields, times)
+                && !is_timely(
+                    chunk,
+                    window,
+                    &fields,
+                    times,
+                    layouts_of(chunk, event, class),
+                )
             {
                 return Ok(false);
             }
@@ -98,19 +107,43 @@ fn is_thread_allowed<'a>(
     }
 }
 
-/// The verdict on the class of an event.
+/// The index of the class of an event.
+fn class_of(chunk: &Chunk<'_>, event: &Event<'_>) -> usize
+    requires event { slice_get (events_of chunk.now) event.now.number ≡ Some (event_at event.now) }
+    ensures within { result < length chunk.now.classes }
+    ensures class { slice_get chunk.now.classes result ≡ find_class chunk.now.classes event.now.frame.type_id }
+{
+    chunk.parts_are_valid();
+    match chunk.classes().index_of(event.frame.type_id) {
+        Some(index) => index,
+        None => unreachable!(),
+    }
+}
+
+/// The verdict on the class of an event, which has this index.
 fn verdict_of<'v>(
     chunk: &Chunk<'_>,
     event: &Event<'_>,
     verdicts: &'v [ClassVerdict],
+    class: usize,
 ) -> &'v ClassVerdict
     requires event { slice_get (events_of chunk.now) event.now.number ≡ Some (event_at event.now) }
     requires each { length verdicts.now ≡ length chunk.now.classes }
+    requires within { class < length chunk.now.classes }
+    requires class { slice_get chunk.now.classes class ≡ find_class chunk.now.classes event.now.frame.type_id }
     ensures { (g : Given) → AllZip (IsVerdict g) chunk.now.classes verdicts.now → IsRightFor g chunk.now (event_at event.now) result.now }
 {
-    let fields = fields_of(chunk, event);
-    match chunk.classes().index_of(fields.shape.class) {
-        Some(index) => &verdicts[index],
-        None => unreachable!(),
-    }
+    chunk.parts_are_valid();
+    &verdicts[class]
+}
+
+/// The layouts of the fields of an event, whose class has this index.
+fn layouts_of<'c>(chunk: &'c Chunk<'_>, event: &Event<'_>, class: usize) -> &'c [FieldLayout]
+    requires event { slice_get (events_of chunk.now) event.now.number ≡ Some (event_at event.now) }
+    requires within { class < length chunk.now.classes }
+    requires class { slice_get chunk.now.classes class ≡ find_class chunk.now.classes event.now.frame.type_id }
+    ensures { HasLayouts chunk.now (node_of event.now.node) result.now }
+{
+    chunk.parts_are_valid();
+    chunk.classes().layouts(class)
 }

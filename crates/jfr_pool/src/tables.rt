@@ -112,8 +112,8 @@ impl Tables {
     }
 }
 
-/// The range of the keys above 0 of each class, by the class's id: for all ids below `ALWAYS_HAVE`, and from
-/// there up to the largest id below `MAY_HAVE` that an entry has.
+/// The range of the keys above 0 of each class, by the class's id: for all ids below `FIRST_TABLES`, and from
+/// there up to the largest id below `TABLE_ID_LIMIT` that an entry has.
 fn key_ranges(alloc: Global, entries: &[EntryAt]) -> Result<Vec<KeyRange>, NoMemory> {
     let mut ranges = vec![in alloc; NO_KEYS; FIRST_TABLES]?;
     for entry in entries {

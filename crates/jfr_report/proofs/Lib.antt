@@ -1,7 +1,7 @@
-pub mod PageLaws
-pub mod PlanLaws
-pub mod PartsLaws
-pub mod KeptLaws
+mod PageLaws
+mod PlanLaws
+mod PartsLaws
+mod KeptLaws
 mod EndsWell
 mod DemoLaws
 mod SampleAccepted

@@ -2,9 +2,9 @@
 ghost use Rattle.std.specs.Prelude.{◌≡◌, ◌≤◌, ◌<◌, ◌*◌, ◌^◌, ◌++◌, length, IfOk, OnOk};
 ghost use Rattle.jfr_sample.specs.Sample.{checkpoint, entries_to, entry, next_of};
 
-use crate::spelled::{push_size, push_string, push_var};
+use crate::spelled::{push_size, push_string};
 use itoa::Buffer;
-use jfr_base::var_len;
+use jfr_base::{push_var, var_len};
 use jfr_outside::NoMemory;
 use std::alloc::Global;
 

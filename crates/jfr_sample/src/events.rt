@@ -2,8 +2,8 @@
 ghost use Rattle.std.specs.Prelude.{◌≡◌, ◌≤◌, ◌++◌, OnOk};
 ghost use Rattle.jfr_sample.specs.Sample.{event_by, event_a, event_b, events_to, next_draw};
 
-use crate::spelled::{push_size, push_var};
-use jfr_base::var_len;
+use crate::spelled::push_size;
+use jfr_base::{push_var, var_len};
 use jfr_outside::NoMemory;
 
 /// The id of the event class `t.A`.
@@ -60,7 +60,8 @@ fn push_a(into: &mut Vec<u8>, number: u64, key: u64) -> Result<(), NoMemory>
     push_size(into, var_len(CLASS_A) + var_len(number) + var_len(key))?;
     push_var(into, CLASS_A)?;
     push_var(into, number)?;
-    push_var(into, key)
+    push_var(into, key)?;
+    Ok(())
 }
 
 /// Adds a `t.B` with the node with this key.
@@ -69,5 +70,6 @@ fn push_b(into: &mut Vec<u8>, key: u64) -> Result<(), NoMemory>
 {
     push_size(into, var_len(CLASS_B) + var_len(key))?;
     push_var(into, CLASS_B)?;
-    push_var(into, key)
+    push_var(into, key)?;
+    Ok(())
 }

@@ -1,10 +1,10 @@
 //! Appending integers and strings in the format's encoding.
 ghost use Rattle.std.specs.Prelude.{◌≡◌, ◌+◌, ◌<◌, ◌^◌, ◌++◌, OnOk};
 ghost use Rattle.std.specs.List.{flat_map};
-ghost use Rattle.jfr_base.specs.Integer.{spell, spell_in};
+ghost use Rattle.jfr_base.specs.Integer.{spell_in};
 ghost use Rattle.jfr_sample.specs.Metadata.{string_of};
 
-use jfr_base::{write_in, write_var};
+use jfr_base::{push_in, push_var};
 use jfr_outside::NoMemory;
 
 /// The length of a record's size.
@@ -13,24 +13,12 @@ const SIZE_LEN: usize = 4;
 /// The kind of a string whose text is UTF-8.
 const UTF8: u8 = 3;
 
-/// Adds the shortest encoding of a value.
-pub fn push_var(into: &mut Vec<u8>, value: u64) -> Result<(), NoMemory>
-    ensures { OnOk result (into.new.items ≡ into.old.items ++ spell value) }
-{
-    let mut bytes = [0; 9];
-    let count = write_var(value, &mut bytes);
-    into.extend_from_slice(&bytes[..count])?;
-    Ok(())
-}
-
 /// Adds the size of a record. `body` is the length of what follows the size.
 pub fn push_size(into: &mut Vec<u8>, body: usize) -> Result<(), NoMemory>
     requires { body + 4 < 2 ^ 28 }
     ensures { OnOk result (into.new.items ≡ into.old.items ++ spell_in 4 (4 + body)) }
 {
-    let mut bytes = [0; 9];
-    write_in((SIZE_LEN + body) as u64, SIZE_LEN, &mut bytes);
-    into.extend_from_slice(&bytes[..SIZE_LEN])?;
+    push_in(into, (SIZE_LEN + body) as u64, SIZE_LEN)?;
     Ok(())
 }
 

@@ -22,7 +22,7 @@ use Rattle.jfr_laws.proofs.Premises.{all_links, IsCheckpoint, chained_checkpoint
 use Rattle.jfr_output.specs.OutputRecords.{link_there}
 use Rattle.jfr_output.proofs.CursorLaws.{cursor_first, event_in, events_given}
 use Rattle.jfr_output.proofs.CheckpointEntries.{pools_number}
-use Rattle.jfr_scrub.specs.declared.piece.Part.{Part}
+use Rattle.jfr_scrub.specs.declared.piece.Range.{Range}
 use Rattle.jfr_scrub.specs.Bodies.{OutputRecordIsCopied}
 use Rattle.jfr_scrub.specs.Pieces.{EntryIsCopied, EventIsCopied, MetadataIsCopied, RecordIsCopied}
 use Rattle.jfr_scrub.proofs.GallopingLaws.{event_recorded}
@@ -79,7 +79,7 @@ or_true false d e = e
 or_first : (b d : Bool) → b ≡ true → b || d ≡ true
 or_first b d e = ap (λ z. z || d) e
 
-module _ (new : Option (List ℕ)) (p : Parts) (a : AreParts p) (ps : List Part) where
+module _ (new : Option (List ℕ)) (p : Parts) (a : AreParts p) (ps : List Range) where
   -- Of what stays whole.
   whole_copied : (kept : List EventAt) (remaining : List EntryAt) (r : Framed) → AllByRecursion (OutputRecordIsCopied remaining ps) (output_records new p kept) → In p.records r → link_there p r ≡ None → is_kept_or_metadata p kept r ≡ true → written_anew new p r ≡ None → RecordIsCopied ps r
   whole_copied kept remaining r c i l w n =

@@ -1,15 +1,15 @@
-pub mod PieceLaws
-pub mod MeasureLaws
-pub mod CheckpointLaws
-pub mod BodyLaws
-pub mod FitLaws
-pub mod GallopingLaws
-pub mod RunLaws
-pub mod CopiedLaws
-pub mod AllCopied
-pub mod CountLaws
+mod PieceLaws
+mod MeasureLaws
+mod CheckpointLaws
+mod BodyLaws
+mod FitLaws
+mod GallopingLaws
+mod RunLaws
+mod CopiedLaws
+mod AllCopied
+mod CountLaws
 pub mod AgainLaws
-pub mod HeadlineLaws
+mod HeadlineLaws
 mod EndsWell
 mod PartLaws
 pub mod AgreementLaws

@@ -11,7 +11,7 @@ use Rattle.jfr_output.specs.Positions.{offset_so_far}
 use Rattle.jfr_scrub.specs.declared.body.Body.{Body}
 use Rattle.jfr_scrub.specs.declared.piece.MadePart.{MadePart}
 use Rattle.jfr_scrub.specs.declared.piece.MadePart.TheVariants.{ChunkHeader, CheckpointSize, CheckpointDelta, PoolCount, PoolClass, EntryCount, MetadataRecord}
-use Rattle.jfr_scrub.specs.declared.piece.Part.{Part}
+use Rattle.jfr_scrub.specs.declared.piece.Range.{Range}
 use Rattle.jfr_scrub.specs.Pieces.{OutputSoFar, output_so_far, more, EntryIsCopied, Keeps, RecordIsCopied}
 use Rattle.jfr_scrub.specs.Fits.{LinkFits}
 
@@ -49,14 +49,14 @@ pub record IsBody (p : Parts) (remaining : List EntryAt) (ss : List OutputRecord
 
 -- What the pieces must copy of an output record: a whole record in one piece, or each entry of a chained
 -- checkpoint in one piece. A rebuilt metadata record is made, so nothing of it must be copied.
-abbrev pub OutputRecordIsCopied : List EntryAt → List Part → OutputRecord → Type 0
+abbrev pub OutputRecordIsCopied : List EntryAt → List Range → OutputRecord → Type 0
 OutputRecordIsCopied remaining ps (Whole r) = RecordIsCopied ps r
 OutputRecordIsCopied remaining ps (Rebuilt r x) = ⊤
 OutputRecordIsCopied remaining ps (Chained number l) = AllByRecursion (EntryIsCopied ps) (filter (λ e. e.checkpoint == number) remaining)
 
 -- The output records are copied in these pieces, and in any others that keep the copied ranges of these.
-abbrev pub OutputRecordsAreCopied : List EntryAt → List OutputRecord → List Part → Type 0
-OutputRecordsAreCopied remaining ss ps = (qs : List Part) → Keeps ps qs → AllByRecursion (OutputRecordIsCopied remaining qs) ss
+abbrev pub OutputRecordsAreCopied : List EntryAt → List OutputRecord → List Range → Type 0
+OutputRecordsAreCopied remaining ss ps = (qs : List Range) → Keeps ps qs → AllByRecursion (OutputRecordIsCopied remaining qs) ss
 
 -- The made parts of a pool: its class and its number of entries.
 abbrev pub pool_parts : Group → List MadePart

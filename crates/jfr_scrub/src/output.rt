@@ -23,7 +23,7 @@ pub(crate) struct Output<'a> {
 
 impl<'a> Model for Output<'a> {
     ghost use Rattle.std.specs.Prelude.{length, ◌∷◌, [], ◌++◌, ◌≤◌, ◌≡◌};
-    ghost use Rattle.jfr_scrub.specs.declared.piece.Part.TheVariants.{Copied};
+    ghost use Rattle.jfr_scrub.specs.declared.piece.Range.TheVariants.{Copied};
     ghost use Rattle.jfr_scrub.specs.Pieces.{AreMadeBytes, PieceList};
 
     ghost Value = { PieceList };

@@ -23,7 +23,7 @@ pub enum MadePart {
 
 /// A range of the chunk, or of the made bytes.
 #[derive(Clone, Copy, Debug)]
-pub(crate) enum Part {
+pub(crate) enum Range {
     Copied {
         from: usize,
         to: usize,

@@ -2,9 +2,9 @@
 ghost use Rattle.std.specs.Prelude.{◌≡◌, ℕ, ◌<◌, ◌≤◌, ◌+◌, ◌++◌, [], ◌∷◌, length, slice_get, slice_range, option_map, vec_len, vec_capacity, IfSome, OnOk};
 ghost use Rattle.std.specs.List.{AllByRecursion, flat_map};
 ghost use Rattle.jfr_scrub.specs.declared.piece.MadePart.TheVariants.{ChunkHeader};
-ghost use Rattle.jfr_scrub.specs.Pieces.{AreMadeBytes, Grows, IsCopied, IsHeaded, IsHeader, IsMadeBytes, IsOfChunk, joined, Keeps, laid_in, LieIn, Lies, made_parts, part_bytes, part_of};
+ghost use Rattle.jfr_scrub.specs.Pieces.{AreMadeBytes, Grows, IsCopied, IsHeaded, IsHeader, IsMadeBytes, IsOfChunk, joined, Keeps, laid_in, LieIn, Lies, made_parts, range_bytes, range_of};
 
-use crate::piece::{MadePart, Part, Piece};
+use crate::piece::{MadePart, Piece, Range};
 use crate::ranges::{Ranges, bytes_of};
 use jfr_outside::NoMemory;
 use std::alloc::Global;
@@ -15,7 +15,7 @@ use std::marker::Model;
 pub(crate) struct Pieces<'a> {
     chunk: &'a [u8],
     made: Vec<u8>,
-    parts: Vec<Part>,
+    parts: Vec<Range>,
 }
 
 impl<'a> Model for Pieces<'a> {
@@ -53,7 +53,7 @@ impl<'a> Pieces<'a> {
         if from == to {
             return Ok(());
         }
-        self.parts.push(Part::Copied { from, to })?;
+        self.parts.push(Range::Copied { from, to })?;
         Ok(())
     }
 
@@ -67,7 +67,7 @@ impl<'a> Pieces<'a> {
     {
         let from = self.made.len();
         self.made.extend_from_slice(bytes)?;
-        self.parts.push(Part::Made {
+        self.parts.push(Range::Made {
             part,
             from,
             to: self.made.len(),
@@ -88,7 +88,7 @@ impl<'a> Pieces<'a> {
         self.made.extend_from_slice(bytes)?;
         self.parts.insert(
             0,
-            Part::Made {
+            Range::Made {
                 part: MadePart::ChunkHeader,
                 from,
                 to: self.made.len(),
@@ -113,7 +113,7 @@ impl<'a> Pieces<'a> {
 
     /// The piece with this number, from 0, if there is one.
     pub(crate) fn get(&self, number: usize) -> Option<Piece<'a>>
-        ensures exact { option_map part_of result ≡ slice_get self.now.pieces number }
+        ensures exact { option_map range_of result ≡ slice_get self.now.pieces number }
         ensures of_chunk { IfSome result (IsOfChunk self.now.chunk) }
     {
         let part = *self.parts.get(number)?;
@@ -141,25 +141,25 @@ impl<'a> Pieces<'a> {
 }
 
 // A range as a piece.
-fn piece_of<'a>(chunk: &'a [u8], part: Part) -> Piece<'a>
+fn piece_of<'a>(chunk: &'a [u8], part: Range) -> Piece<'a>
     requires { (m : ℕ) × Lies (length chunk.now) m part }
-    ensures exact { part_of result ≡ part }
+    ensures exact { range_of result ≡ part }
     ensures of_chunk { IsOfChunk chunk.now result }
 {
     match part {
-        Part::Copied { from, to } => Piece::Copied {
+        Range::Copied { from, to } => Piece::Copied {
             at: from,
             bytes: &chunk[from..to],
         },
-        Part::Made { part, from, to } => Piece::Made { part, from, to },
+        Range::Made { part, from, to } => Piece::Made { part, from, to },
     }
 }
 
 // Appends the bytes of the ranges. The vector must have the capacity.
-fn write_parts(out: &mut Vec<u8>, chunk: &[u8], made: &[u8], parts: &[Part])
+fn write_parts(out: &mut Vec<u8>, chunk: &[u8], made: &[u8], parts: &[Range])
     requires lie { AllByRecursion (Lies (length chunk.now) (length made.now)) parts.now }
-    requires room { vec_len out.old + length (flat_map (part_bytes chunk.now made.now) parts.now) ≤ vec_capacity out.old }
-    ensures { out.new.items ≡ out.old.items ++ flat_map (part_bytes chunk.now made.now) parts.now }
+    requires room { vec_len out.old + length (flat_map (range_bytes chunk.now made.now) parts.now) ≤ vec_capacity out.old }
+    ensures { out.new.items ≡ out.old.items ++ flat_map (range_bytes chunk.now made.now) parts.now }
 {
     for part in parts {
         write_part(out, chunk, made, *part);
@@ -167,11 +167,11 @@ fn write_parts(out: &mut Vec<u8>, chunk: &[u8], made: &[u8], parts: &[Part])
 }
 
 // Appends the bytes of a range. The vector must have the capacity.
-fn write_part(out: &mut Vec<u8>, chunk: &[u8], made: &[u8], part: Part)
+fn write_part(out: &mut Vec<u8>, chunk: &[u8], made: &[u8], part: Range)
     requires lies { Lies (length chunk.now) (length made.now) part }
-    requires room { vec_len out.old + length (part_bytes chunk.now made.now part) ≤ vec_capacity out.old }
-    ensures items { out.new.items ≡ out.old.items ++ part_bytes chunk.now made.now part }
-    ensures len { vec_len out.new ≡ vec_len out.old + length (part_bytes chunk.now made.now part) }
+    requires room { vec_len out.old + length (range_bytes chunk.now made.now part) ≤ vec_capacity out.old }
+    ensures items { out.new.items ≡ out.old.items ++ range_bytes chunk.now made.now part }
+    ensures len { vec_len out.new ≡ vec_len out.old + length (range_bytes chunk.now made.now part) }
     ensures capacity { vec_capacity out.old ≤ vec_capacity out.new }
 {
     match out.extend_from_slice(bytes_of(chunk, made, part)) {

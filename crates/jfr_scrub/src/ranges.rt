@@ -1,9 +1,9 @@
 //! Ranges of a chunk, without the chunk itself.
 ghost use Rattle.std.specs.Prelude.{◌≡◌, [], length, IfOk};
 ghost use Rattle.jfr_outside.specs.World.{bytes_in};
-ghost use Rattle.jfr_scrub.specs.Pieces.{joined, laid_in, LieIn, Lies, part_bytes};
+ghost use Rattle.jfr_scrub.specs.Pieces.{joined, laid_in, LieIn, Lies, range_bytes};
 
-use crate::piece::Part;
+use crate::piece::Range;
 use jfr_outside::NoMemory;
 use std::alloc::Global;
 
@@ -12,7 +12,7 @@ use std::alloc::Global;
 #[derive(Drop)]
 pub(crate) struct Ranges {
     pub(crate) made: Vec<u8>,
-    pub(crate) parts: Vec<Part>,
+    pub(crate) parts: Vec<Range>,
 }
 
 impl Ranges {
@@ -45,12 +45,12 @@ impl Ranges {
 }
 
 /// The bytes of a range.
-pub(crate) fn bytes_of<'c>(chunk: &'c [u8], made: &'c [u8], part: Part) -> &'c [u8]
+pub(crate) fn bytes_of<'c>(chunk: &'c [u8], made: &'c [u8], part: Range) -> &'c [u8]
     requires { Lies (length chunk.now) (length made.now) part }
-    ensures { result.now ≡ part_bytes chunk.now made.now part }
+    ensures { result.now ≡ range_bytes chunk.now made.now part }
 {
     match part {
-        Part::Copied { from, to } => &chunk[from..to],
-        Part::Made { from, to, .. } => &made[from..to],
+        Range::Copied { from, to } => &chunk[from..to],
+        Range::Made { from, to, .. } => &made[from..to],
     }
 }

@@ -5,7 +5,7 @@ ghost use Rattle.jfr_laws.specs.Laws.{IsSettled};
 ghost use Rattle.jfr_filter.specs.Filters.{describes};
 ghost use Rattle.jfr_chunk.specs.Metas.{new_metadata};
 ghost use Rattle.jfr_scrub.specs.IsLaidOut.{IsLaidOut};
-ghost use Rattle.jfr_scrub.specs.Pieces.{IsOfChunk, part_of};
+ghost use Rattle.jfr_scrub.specs.Pieces.{IsOfChunk, range_of};
 ghost use Rattle.jfr_scrub.specs.Scrubbing.{all_written};
 
 use crate::Piece;
@@ -102,7 +102,7 @@ impl<'a> Scrubber<'a> {
 
     /// The piece with this number, from 0 in the order of the output, if there is one.
     pub fn piece(&self, number: usize) -> Option<Piece<'a>>
-        ensures exact { option_map part_of result ≡ slice_get self.now.laid.pieces number }
+        ensures exact { option_map range_of result ≡ slice_get self.now.laid.pieces number }
         ensures of_chunk { IfSome result (IsOfChunk self.now.laid.chunk) }
     {
         self.laid.pieces().get(number)

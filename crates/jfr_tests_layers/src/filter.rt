@@ -116,6 +116,52 @@ pub(crate) fn words_of(alloc: Global, texts: &[&str]) -> Result<Words, NoMemory>
     Ok(words)
 }
 
+/// A list of patterns and a class name, and whether some pattern of the list matches it.
+type Listed = (&'static str, &'static str, bool);
+
+static LISTED: [Listed; 18] = [
+    // Names without wildcards beside patterns with them.
+    ("jdk.ThreadPark,my.*,jdk.CPULoad", "jdk.ThreadPark", true),
+    ("jdk.ThreadPark,my.*,jdk.CPULoad", "jdk.CPULoad", true),
+    ("jdk.ThreadPark,my.*,jdk.CPULoad", "my.Event", true),
+    ("jdk.ThreadPark,my.*,jdk.CPULoad", "jdk.CPU", false),
+    ("jdk.ThreadPark,my.*,jdk.CPULoad", "jdk.CPULoads", false),
+    // The same pattern twice.
+    ("t.A,t.A,t.?,t.?", "t.A", true),
+    ("t.A,t.A,t.?,t.?", "t.B", true),
+    ("t.A,t.A", "t.B", false),
+    // The part after the last dot.
+    ("GCPhasePause", "jdk.GCPhasePause", true),
+    ("GCPhasePause", "jdk.GCPhasePauseLevel1", false),
+    ("jdk.GCPhasePause", "GCPhasePause", false),
+    // One character.
+    ("?", "t.A", true),
+    ("?", "t.AB", false),
+    // No character.
+    ("A,?", "", false),
+    ("A,*", "", true),
+    ("A,B", "t.", false),
+    // A character beyond ASCII, and a capital letter.
+    ("t.na\u{EF}ve,t.A", "t.na\u{EF}ve", true),
+    ("T.A,t.a", "t.A", false),
+];
+
+/// Some pattern of the list matches the name, or none does, as the row says.
+fn see_listed(rt: &impl Abort, alloc: Global, (list, name, wanted): Listed) -> Result<(), Fail> {
+    let filter = filter_of(alloc, &[(Side::IncludeEvents, list)])?;
+    let matches = filter.matches(Side::IncludeEvents, name);
+    assert!(rt; matches == wanted, "{list} at {name}");
+    Ok(())
+}
+
+#[test]
+fn listed(rt: HostRuntime) -> Result<(), Fail> {
+    for row in LISTED.iter() {
+        see_listed(&rt, rt.alloc(), *row)?;
+    }
+    Ok(())
+}
+
 /// An event: its class, its categories and its thread, and whether it is kept.
 type Event = (
     &'static str,

@@ -12,7 +12,7 @@ use crate::compact::CompactLine;
 use crate::ranks::{ranked, ranks_of};
 use crate::walk::{kept_lines_in, lines_in};
 use crate::{Line, Parent};
-use jfr_base::{NoMemory, write_var};
+use jfr_base::{NoMemory, push_var};
 use jfr_chunk::{Chunk, Kept};
 use std::alloc::{AllocError, Global};
 use std::marker::Model;
@@ -47,7 +47,7 @@ pub fn receipt_of(alloc: Global, chunk: &Chunk<'_>) -> Result<Receipt, NoMemory>
 {
     let lines = lines_in(alloc, chunk)?;
     let mut bytes = Vec::new(alloc);
-    push_integer(&mut bytes, lines.items.len() as u64)?;
+    push_var(&mut bytes, lines.items.len() as u64)?;
     push_lines(&mut bytes, &lines.items)?;
     Ok(Receipt { bytes })
 }
@@ -61,7 +61,7 @@ pub fn receipt_of_scrub(alloc: Global, chunk: &Chunk<'_>, kept: &Kept) -> Result
     let lines = kept_lines_in(alloc, chunk, kept)?;
     let ranks = ranks_of(alloc, &lines.flags)?;
     let mut bytes = Vec::new(alloc);
-    push_integer(&mut bytes, lines.items.len() as u64)?;
+    push_var(&mut bytes, lines.items.len() as u64)?;
     push_ranked(&mut bytes, &lines.items, &ranks)?;
     Ok(Receipt { bytes })
 }
@@ -90,7 +90,7 @@ fn push_lines(out: &mut Vec<u8>, lines: &[CompactLine]) -> Result<(), AllocError
 fn push_line(out: &mut Vec<u8>, line: Line) -> Result<(), AllocError>
     ensures ok { OnOk result (out.new.items ≡ out.old.items ++ line_bytes line) }
 {
-    push_integer(out, line.entry as u64)?;
+    push_var(out, line.entry as u64)?;
     push_parent(out, line.parent)
 }
 
@@ -103,15 +103,5 @@ fn push_parent(out: &mut Vec<u8>, parent: Parent) -> Result<(), AllocError>
         Parent::OfEntry(number) => (1, number),
     };
     out.push(kind)?;
-    push_integer(out, number as u64)
-}
-
-/// Appends a compressed integer in its shortest form.
-fn push_integer(out: &mut Vec<u8>, value: u64) -> Result<(), AllocError>
-    ensures ok { OnOk result (out.new.items ≡ out.old.items ++ spell value) }
-{
-    let mut spelled = [0; 9];
-    let len = write_var(value, &mut spelled);
-    out.extend_from_slice(&spelled[..len])?;
-    Ok(())
+    push_var(out, number as u64)
 }

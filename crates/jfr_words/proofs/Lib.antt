@@ -1,9 +1,9 @@
-pub mod AnyOrder
-pub mod Fields
-pub mod Given
-pub mod OptionLaws
-pub mod OrderLaws
-pub mod PrintLaws
+mod AnyOrder
+mod Fields
+mod Given
+mod OptionLaws
+mod OrderLaws
+mod PrintLaws
 mod Rows
-pub mod Settings
-pub mod WordLaws
+mod Settings
+mod WordLaws

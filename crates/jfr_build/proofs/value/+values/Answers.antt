@@ -17,14 +17,14 @@ use Rattle.jfr_build.proofs.value.+values.Goals as goal
 pub push_array-loop-init : goal.push_array-loop-init
 push_array-loop-init t c =
     let e : c.in-Some.count - 0 ≡ c.in-Some.count = omega arith in
-    ap (λ n. wrote_all c.push_integer.new.self (times_taken n (shape_taken (class_taken (c.args.levels + 1) c.args.classes.now) (item_of c.args.layout.now.shape)) c.next_word.new.words)) e
+    ap (λ n. wrote_all c.push_var.new.self (times_taken n (shape_taken (class_taken (c.args.levels + 1) c.args.classes.now) (item_of c.args.layout.now.shape)) c.next_word.new.words)) e
 
 pub push_array-returns-in_err-push_layout : goal.push_array-returns-in_err-push_layout
 push_array-returns-in_err-push_layout t c =
     let f = shape_taken (class_taken (c.args.levels + 1) c.args.classes.now) in
     let s = item_of c.args.layout.now.shape in
     let p = err_from_is_err_and c.from_residual-in_err-push_layout.result c.from_residual-in_err-push_layout.ensures.1 in
-    let all = array_after (class_taken (c.args.levels + 1) c.args.classes.now) c.args.layout.now.shape c.in_ok-word.word.now c.next_word.new.words c.args.words.now c.args.out.now c.push_integer.new.self c.in-Some.count c.in_ok-word.ensures c.in_ok-push_integer.ensures.ok c.requires.array c.in-Some.ensures in
+    let all = array_after (class_taken (c.args.levels + 1) c.args.classes.now) c.args.layout.now.shape c.in_ok-word.word.now c.next_word.new.words c.args.words.now c.args.out.now c.push_var.new.self c.in-Some.count c.in_ok-word.ensures c.in_ok-push_var.ensures.ok c.requires.array c.in-Some.ensures in
     let bad = subst (λ (z : FieldLayout). Writes {A = Unit {0}} (wrote c.loop.out (f z.shape c.loop.words)) (Err c.in_err-push_layout.field-0.0) c.push_layout.new.out c.push_layout.new.words) c.item_layout-item.ensures c.in_err-push_layout.ensures.exact in
     record { exact = rw (p.1, p.2) (loop_bad (Unit {0}) _ _ _ _ c.in_err-push_layout.field-0.0 _ _ _ _ (times_wrote (f s) c.in-Some.count c.loop.counter c.loop.words c.loop.out c.loop-test.true) (c.loop.invariant ∙ all) bad) }
 
@@ -37,7 +37,7 @@ push_array-loop-preserved t c =
 pub push_array-returns : goal.push_array-returns
 push_array-returns t c =
     let f = shape_taken (class_taken (c.args.levels + 1) c.args.classes.now) in
-    let all = array_after (class_taken (c.args.levels + 1) c.args.classes.now) c.args.layout.now.shape c.in_ok-word.word.now c.next_word.new.words c.args.words.now c.args.out.now c.push_integer.new.self c.in-Some.count c.in_ok-word.ensures c.in_ok-push_integer.ensures.ok c.requires.array c.in-Some.ensures in
+    let all = array_after (class_taken (c.args.levels + 1) c.args.classes.now) c.args.layout.now.shape c.in_ok-word.word.now c.next_word.new.words c.args.words.now c.args.out.now c.push_var.new.self c.in-Some.count c.in_ok-word.ensures c.in_ok-push_var.ensures.ok c.requires.array c.in-Some.ensures in
     record { exact = sym (c.loop.invariant ∙ all) ∙ times_ended (f (item_of c.args.layout.now.shape)) c.in-Some.count c.loop.counter c.loop.words c.loop.out c.loop-test.false }
 
 pub push_fields-loop-layout-preserved : goal.push_fields-loop-layout-preserved

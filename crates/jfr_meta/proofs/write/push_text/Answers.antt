@@ -7,6 +7,6 @@ returns-then-is_empty c = record { ok = c.in_ok-push.ensures.items ∙ ap (λ z.
 
 pub returns : goal.returns
 returns c = record {
-  ok = text_steps c.args.text.now c.args.out.now.items c.push-2.new.self.items c.push_integer.new.out.items c.extend_from_slice.new.self.items c.as_bytes.result.now c.utf8.text (sym c.if-is_empty.ensures)
-      c.in_ok-push-2.ensures.items c.in_ok-push_integer.ensures.ok c.in_ok-extend_from_slice.ensures.items c.as_bytes.ensures.value;
+  ok = text_steps c.args.text.now c.args.out.now.items c.push-2.new.self.items c.push_var.new.out.items c.extend_from_slice.new.self.items c.as_bytes.result.now c.utf8.text (sym c.if-is_empty.ensures)
+      c.in_ok-push-2.ensures.items c.in_ok-push_var.ensures.ok c.in_ok-extend_from_slice.ensures.items c.as_bytes.ensures.value;
 }

@@ -11,9 +11,9 @@ returns c =
     let marks : List Bool = c.in_ok-lines.lines.flags.items in
     let lines : List Line = c.in_ok-lines.lines.items.items in
     let ranks : List ℕ = c.in_ok-ranks.ranks.items in
-    let head : List ℕ = c.push_integer.new.out.items in
+    let head : List ℕ = c.push_var.new.out.items in
     let m : c.len.result ≡ length lines = omega (arith, c.len.ensures) in
-    let h : head ≡ spell (length lines) = c.in_ok-push_integer.ensures.ok ∙ (ap (λ z. z ++ spell c.len.result) c.new-bytes.ensures.items ∙ ap spell m) in
+    let h : head ≡ spell (length lines) = c.in_ok-push_var.ensures.ok ∙ (ap (λ z. z ++ spell c.len.result) c.new-bytes.ensures.items ∙ ap spell m) in
     let b : c.push_ranked.new.out.items ≡ head ++ flat_map (ranked_bytes ranks) lines =
     c.in_ok-push_ranked.ensures.ok ∙ (ap (λ z. head ++ flat_map (ranked_bytes c.deref-3.result.now) z) c.deref-2.ensures.value ∙ ap (λ z. head ++ flat_map (ranked_bytes z) lines) c.deref-3.ensures.value) in
     record {

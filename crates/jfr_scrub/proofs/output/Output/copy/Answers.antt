@@ -1,5 +1,5 @@
 use Rattle.std.proofs.Common.{arith, refl, sym, subst, ◌≤◌, ◌++◌, ◌∷◌, []}
-use Rattle.jfr_scrub.specs.declared.piece.Part.TheVariants.{Copied}
+use Rattle.jfr_scrub.specs.declared.piece.Range.TheVariants.{Copied}
 use Rattle.jfr_scrub.specs.Pieces.{Grows, PieceList}
 use Rattle.jfr_scrub.proofs.CopiedLaws.{copied_last, grows_left, grows_longer, grows_settled, grows_then, narrower}
 use Rattle.jfr_scrub.proofs.PieceLaws.{longer_laid, next_laid}

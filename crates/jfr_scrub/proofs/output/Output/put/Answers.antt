@@ -1,5 +1,5 @@
 use Rattle.std.proofs.Common.{refl, subst, ◌++◌, ◌∷◌, []}
-use Rattle.jfr_scrub.specs.declared.piece.Part.TheVariants.{Copied}
+use Rattle.jfr_scrub.specs.declared.piece.Range.TheVariants.{Copied}
 use Rattle.jfr_scrub.specs.Pieces.{Grows, PieceList}
 use Rattle.jfr_scrub.proofs.CopiedLaws.{grows_left, grows_settled, grows_then}
 use Rattle.jfr_scrub.proofs.PieceLaws.{made_laid}

@@ -1,6 +1,6 @@
 use Rattle.std.proofs.Common.{length, sym, subst, ◌≤◌, ◌∷◌, []}
 use Rattle.std.specs.List.{AllByRecursion}
-use Rattle.jfr_scrub.specs.declared.piece.Part.TheVariants.{Copied}
+use Rattle.jfr_scrub.specs.declared.piece.Range.TheVariants.{Copied}
 use Rattle.jfr_scrub.specs.Pieces.{AreMadeBytes, Grows, IsMadeBytesIn, PieceList}
 use Rattle.jfr_scrub.proofs.CopiedLaws.{grows_left}
 use Rattle.jfr_scrub.proofs.PieceLaws.{lies_range, numbers_range}

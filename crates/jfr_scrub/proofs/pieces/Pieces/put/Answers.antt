@@ -1,6 +1,6 @@
 use Rattle.std.proofs.Common.{rules, ap, sym, subst, length, ◌∙◌, ◌++◌, ◌∷◌, []}
 use Rattle.std.specs.List.{AllByRecursion}
-use Rattle.jfr_scrub.specs.declared.piece.Part.TheVariants.{Made}
+use Rattle.jfr_scrub.specs.declared.piece.Range.TheVariants.{Made}
 use Rattle.jfr_scrub.specs.Pieces.{AreMadeBytes, Grows, IsMadeBytesIn, PieceList, joined}
 use Rattle.jfr_scrub.proofs.CopiedLaws.{grows_left}
 use Rattle.jfr_scrub.proofs.PieceLaws.{lies_last, numbers_last, numbers_more, put_last}

@@ -1,6 +1,6 @@
 use Rattle.std.proofs.Common.{rules, ap, sym, subst, ◌∙◌, ◌++◌, ◌∷◌}
 use Rattle.jfr_scrub.specs.declared.piece.MadePart.TheVariants.{ChunkHeader}
-use Rattle.jfr_scrub.specs.declared.piece.Part.TheVariants.{Made}
+use Rattle.jfr_scrub.specs.declared.piece.Range.TheVariants.{Made}
 use Rattle.jfr_scrub.specs.Pieces.{AreMadeBytes, Keeps, PieceList, joined, made_parts}
 use Rattle.jfr_scrub.proofs.CopiedLaws.{keeps_behind}
 use Rattle.jfr_scrub.proofs.PieceLaws.{headed_first, put_first}

@@ -1,8 +1,8 @@
 use Rattle.std.specs.Prelude.{◌≡◌, take}
 use Rattle.std.specs.List.{flat_map}
 use Rattle.jfr_outside.specs.World.{bytes_in}
-use Rattle.jfr_scrub.specs.Pieces.{part_bytes}
+use Rattle.jfr_scrub.specs.Pieces.{range_bytes}
 use Rattle.jfr_scrub.proofs.ranges.Ranges.pieces.Given as goal
 
 abbrev pub invariant-loop-part : goal.invariant-loop-part
-invariant-loop-part l = bytes_in l.pieces.items ≡ flat_map (part_bytes l.chunk l.self.made.items) (take l.part-index l.part-items)
+invariant-loop-part l = bytes_in l.pieces.items ≡ flat_map (range_bytes l.chunk l.self.made.items) (take l.part-index l.part-items)

@@ -2,7 +2,7 @@ use Rattle.std.proofs.Common.{ℕ, List, Bool, sym, ◌∙◌, arith}
 use Rattle.std.specs.Str.{chars}
 use Rattle.jfr_filter.specs.Patterns.{glob}
 use Rattle.jfr_filter.proofs.AnyLaws.{any_found, any_next, any_end}
-use Rattle.jfr_filter.proofs.matching.any_text.Goals as goal
+use Rattle.jfr_mask.proofs.fields.any_matches.Goals as goal
 
 pub returns-then-glob : goal.returns-then-glob
 returns-then-glob c =

@@ -1,0 +1,5 @@
+pub mod Fields
+pub mod Held
+pub mod Laws
+pub mod Pseudonyms
+pub mod Written

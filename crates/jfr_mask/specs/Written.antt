@@ -1,0 +1,10 @@
+-- The bytes of what is shown.
+use Rattle.std.specs.Prelude.{ℕ, List}
+use Rattle.jfr_mask.specs.declared.shown.Shown.{Shown}
+use Rattle.jfr_mask.specs.declared.shown.Shown.TheVariants.{Text, Pseudonym}
+use Rattle.jfr_mask.specs.Pseudonyms.{pseudonym}
+
+-- The bytes in UTF-8: those of the text, or of the pseudonym, whose characters are ASCII.
+abbrev pub shown_bytes : Shown → List ℕ
+shown_bytes (Text text) = text.now
+shown_bytes (Pseudonym descriptor number) = pseudonym descriptor number

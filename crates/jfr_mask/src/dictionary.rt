@@ -1,0 +1,126 @@
+//! The dictionary of masked texts.
+ghost use Rattle.std.specs.Prelude.{◌≡◌, ◌+◌, ◌-◌, ◌∷◌, ◌++◌, ◌↔◌, [], length, IfOk, IfSome, IsTrue, OnErr, OnOk, None, Some, false, slice_get, if◌then◌else◌};
+ghost use Rattle.std.specs.Str.{chars};
+ghost use Rattle.jfr_base.specs.Texts.{text_in};
+ghost use Rattle.jfr_mask.specs.Held.{AreNumbersOf, texts_in};
+ghost use Rattle.jfr_mask.specs.Pseudonyms.{has_text, number_of, with_text};
+
+use jfr_base::NoMemory;
+use std::alloc::Global;
+use std::collections::BTreeMap;
+use std::marker::Model;
+use std::rc::RcStr;
+
+/// Distinct texts, each with its number, which is its index in the list, from 1. The list and the map share each text's
+/// bytes. Contracts see the list.
+#[derive(Drop)]
+pub struct Dictionary {
+    alloc: Global,
+    texts: Vec<RcStr>,
+    numbers: BTreeMap<RcStr, u64>,
+}
+
+impl Model for Dictionary {
+    ghost use Rattle.std.specs.Prelude.{ℕ, List};
+    ghost use Rattle.jfr_mask.specs.Held.{AreNumbersOf, texts_in};
+
+    ghost Value = { List (List ℕ) };
+
+    ghost view = { λ d. texts_in d.texts.items };
+
+    ghost invariant = { λ d. AreNumbersOf (texts_in d.texts.items) d.numbers };
+}
+
+impl Dictionary {
+    /// A dictionary without texts. It allocates nothing.
+    pub fn new(alloc: Global) -> Dictionary
+        ensures { result ≡ [] }
+    {
+        Dictionary {
+            alloc,
+            texts: Vec::new(alloc),
+            numbers: BTreeMap::new(alloc),
+        }
+    }
+
+    /// The number of a text, if the dictionary has it. It allocates nothing.
+    pub fn number(&self, text: &str) -> Option<u64>
+        ensures { result ≡ (if has_text self.now (chars text.now) then Some (number_of self.now (chars text.now)) else None) }
+    {
+        self.numbers.get(text).copied()
+    }
+
+    /// The number of a text, or the next number if the dictionary doesn't have it.
+    pub(crate) fn number_or_next(&self, text: &str) -> u64
+        ensures { result ≡ number_of self.now (chars text.now) }
+    {
+        match self.number(text) {
+            Some(number) => number,
+            None => self.texts.len() as u64 + 1,
+        }
+    }
+
+    /// The number of a text, which is added at the end if the dictionary doesn't have it. If memory runs out, nothing is
+    /// added.
+    pub fn add(&mut self, text: &str) -> Result<u64, NoMemory>
+        ensures ok { OnOk result (self.new ≡ with_text self.old (chars text.now)) }
+        ensures number { IfOk result (λ number. number ≡ number_of self.new (chars text.now)) }
+        ensures unchanged { OnErr result (self.new ≡ self.old) }
+    {
+        if let Some(number) = self.number(text) {
+            return Ok(number);
+        }
+        append(self.alloc, &mut self.texts, &mut self.numbers, text)
+    }
+
+    /// The number of texts, which is also the greatest number of a text.
+    pub fn len(&self) -> usize
+        ensures { result ≡ length self.now }
+    {
+        self.texts.len()
+    }
+
+    /// Whether there is no text.
+    pub fn is_empty(&self) -> bool
+        ensures { IsTrue result ↔ (self.now ≡ []) }
+    {
+        self.texts.is_empty()
+    }
+
+    /// The text with this index, from 0, if there is one. Its number is one more.
+    pub fn get(&self, at: usize) -> Option<&str>
+        ensures text { text_in result ≡ slice_get self.now at }
+        ensures number { IfSome result (λ text. number_of self.now (chars text.now) ≡ at + 1) }
+    {
+        match self.texts.get(at) {
+            Some(text) => Some(text.as_str()),
+            None => None,
+        }
+    }
+}
+
+// Adds a text that isn't there, with the next number, which it returns.
+#[tactic(auto, using(crate::proofs::NumberLaws::number_last))]
+fn append(
+    alloc: Global,
+    texts: &mut Vec<RcStr>,
+    numbers: &mut BTreeMap<RcStr, u64>,
+    text: &str,
+) -> Result<u64, NoMemory>
+    requires numbers { AreNumbersOf (texts_in texts.old.items) numbers.old }
+    requires absent { has_text (texts_in texts.old.items) (chars text.now) ≡ false }
+    ensures numbers { AreNumbersOf (texts_in texts.new.items) numbers.new }
+    ensures ok { OnOk result (texts_in texts.new.items ≡ texts_in texts.old.items ++ chars text.now ∷ []) }
+    ensures number { IfOk result (λ number. number ≡ number_of (texts_in texts.new.items) (chars text.now)) }
+    ensures unchanged { OnErr result (texts_in texts.new.items ≡ texts_in texts.old.items) }
+{
+    let number = texts.len() as u64 + 1;
+    let key = RcStr::from_str(alloc, text)?;
+    let shared = key.clone()?;
+    texts.push(shared)?;
+    if let Err(_) = numbers.insert(key, number) {
+        let _ = texts.pop();
+        return Err(NoMemory);
+    }
+    Ok(number)
+}

@@ -1,0 +1,4 @@
+pub mod Changed
+pub mod Rewrite
+pub mod Rewritten
+pub mod Paths
