@@ -5,7 +5,7 @@ import os
 import stat
 import tempfile
 import zlib
-from contextlib import contextmanager
+from contextlib import ExitStack, contextmanager
 from typing import IO, BinaryIO, Iterator, Protocol, cast
 
 from kijorafe.headers import Header
@@ -80,20 +80,25 @@ def readable(name: str) -> Iterator[str]:
 
     A pipe, or what is compressed, is unpacked into a file without a name, which only this process and its children see.
     """
-    try:
-        with open(name, "rb") as file:
-            is_file = stat.S_ISREG(os.fstat(file.fileno()).st_mode)
-            first = file.read(len(GZIP) if is_file else BLOCK)
-            if is_file and not first.startswith(GZIP):
-                yield name if is_utf8(name) else name_of(file)
-                return
-            with tempfile.TemporaryFile() as whole:
-                for block in _of_recording(_blocks(name, _Rejoined(first, file), first.startswith(GZIP))):
-                    whole.write(block)
-                whole.flush()
-                yield name_of(whole)
-    except OSError as fault:
-        raise _unread(name, fault) from fault
+    with ExitStack() as stack:
+        try:
+            place = _readable(name, stack)
+        except OSError as fault:
+            raise _unread(name, fault) from fault
+        yield place
+
+
+def _readable(name: str, stack: ExitStack) -> str:
+    file = stack.enter_context(open(name, "rb"))
+    is_file = stat.S_ISREG(os.fstat(file.fileno()).st_mode)
+    first = file.read(len(GZIP) if is_file else BLOCK)
+    if is_file and not first.startswith(GZIP):
+        return name if is_utf8(name) else name_of(file)
+    whole = stack.enter_context(tempfile.TemporaryFile())
+    for block in _of_recording(_blocks(name, _Rejoined(first, file), first.startswith(GZIP))):
+        whole.write(block)
+    whole.flush()
+    return name_of(whole)
 
 
 def name_of(file: IO[bytes]) -> str:

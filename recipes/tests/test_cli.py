@@ -70,11 +70,15 @@ class Words(Case):
         with open("/dev/full", "wb") as full:
             done = subprocess.run(self.command("left", "in.jfr"), stdout=full, stderr=subprocess.PIPE)
         self.assertEqual((done.returncode, done.stderr.count(b"\n")), (2, 1))
-        reader, writer = os.pipe()
-        os.close(reader)
-        done = subprocess.run(self.command("left", "in.jfr"), stdout=writer, stderr=subprocess.PIPE)
-        os.close(writer)
-        self.assertEqual((done.returncode, done.stderr), (-signal.SIGPIPE, b""))
+        # The second one has more strings than a buffer.
+        texts = "".join(f'record 8 "{number:0100}"\n' for number in range(1000))
+        self.recording("large.jfr", "class 6 java.lang.String\nevent 8 t.A\nfield s 6 -\n" + texts)
+        for name in "in.jfr", "large.jfr":
+            reader, writer = os.pipe()
+            os.close(reader)
+            done = subprocess.run(self.command("left", name), stdout=writer, stderr=subprocess.PIPE)
+            os.close(writer)
+            self.assertEqual((done.returncode, done.stderr), (-signal.SIGPIPE, b""))
 
     def test_no_python(self) -> None:
         os.mkdir("bin")
