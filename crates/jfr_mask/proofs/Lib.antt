@@ -1,5 +1,7 @@
 pub mod FieldLaws
 pub mod KnownLaws
 pub mod MapLaws
+pub mod MaskLaws
 pub mod NumberLaws
 pub mod ShownLaws
+pub mod TextLaws

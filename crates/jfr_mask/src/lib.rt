@@ -15,12 +15,14 @@
 //! The laws say what holds of all dictionaries and pseudonyms (`laws.rt`).
 #![tactic(auto)]
 
+mod chunk_laws;
 mod dictionary;
 mod fields;
 mod known;
 pub mod laws;
 mod shown;
 
+pub use chunk_laws::masked_values_are_read;
 pub use dictionary::Dictionary;
 pub use fields::MaskedFields;
 pub use known::Known;

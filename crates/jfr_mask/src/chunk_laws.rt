@@ -1,0 +1,24 @@
+//! Laws of masked values, chunks and recordings. The functions do nothing; their contracts are the laws.
+ghost use Rattle.std.specs.Prelude.{◌≡◌, ℕ, Bool, true, List, Option, None, Some};
+ghost use lib.Utf8.{scalars};
+ghost use Rattle.jfr_layout.specs.Classes.{Sound};
+ghost use Rattle.jfr_layout.specs.declared.kind.Kind.TheVariants.{Text};
+ghost use Rattle.jfr_layout.specs.declared.shape.Shape.{Shape};
+ghost use Rattle.jfr_value.specs.declared.leaf.Holder.{Holder};
+ghost use Rattle.jfr_value.specs.declared.leaf.LeafKind.TheVariants.{Base};
+ghost use Rattle.jfr_value.specs.Nodes.{IsNode, NodeAt};
+ghost use Rattle.jfr_value.specs.Values.{Fits, Single, Value};
+ghost use Rattle.jfr_chunk.specs.Parts.{Parts};
+ghost use Rattle.jfr_chunk.specs.Paths.{text_of};
+ghost use Rattle.jfr_rewrite.specs.Changed.{IsReadChanged};
+ghost use Rattle.jfr_mask.specs.Masked.{masking, own_text, string_bytes, string_text};
+
+/// A masked value is read by the format of its shape, which it keeps, and its leaves are the changed ones. The text of
+/// a masked string is that of its node, to which keys lead (`text`); what is written for a text has this text (`shown`).
+#[tactic(auto, using(crate::proofs::MaskLaws::read_masked, crate::proofs::MaskLaws::text_written, crate::proofs::TextLaws::text_is))]
+pub fn masked_values_are_read()
+    ensures read { (masked : Option Holder → Bool) (show : List ℕ → List ℕ) (p : Parts) (h : Option Holder) (v : Value) → Sound p.classes → Fits p.classes v → IsReadChanged p.classes (masking masked show p) h v }
+    ensures text { (p : Parts) (n : NodeAt) (s : Shape) (b : List ℕ) (key : Option ℕ) → Sound p.classes → IsNode p.classes p.bytes n (Single s (Base Text) b key) → string_text p s.class b key ≡ text_of p n }
+    ensures shown { (t : List ℕ) → scalars t ≡ true → own_text (string_bytes (Some t)) ≡ Some t }
+    ensures null { own_text (string_bytes None) ≡ None }
+{}
