@@ -3,5 +3,7 @@ pub mod KnownLaws
 pub mod MapLaws
 pub mod MaskLaws
 pub mod NumberLaws
+pub mod ReachBut
+pub mod Remains
 pub mod ShownLaws
 pub mod TextLaws

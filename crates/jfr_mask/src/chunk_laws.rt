@@ -1,5 +1,5 @@
 //! Laws of masked values, chunks and recordings. The functions do nothing; their contracts are the laws.
-ghost use Rattle.std.specs.Prelude.{◌≡◌, ℕ, Bool, true, List, Option, None, Some};
+ghost use Rattle.std.specs.Prelude.{◌≡◌, ◌↔◌, ℕ, Bool, true, List, Option, None, Some};
 ghost use lib.Utf8.{scalars};
 ghost use Rattle.jfr_layout.specs.Classes.{Sound};
 ghost use Rattle.jfr_layout.specs.declared.kind.Kind.TheVariants.{Text};
@@ -8,10 +8,15 @@ ghost use Rattle.jfr_value.specs.declared.leaf.Holder.{Holder};
 ghost use Rattle.jfr_value.specs.declared.leaf.LeafKind.TheVariants.{Base};
 ghost use Rattle.jfr_value.specs.Nodes.{IsNode, NodeAt};
 ghost use Rattle.jfr_value.specs.Values.{Fits, Single, Value};
-ghost use Rattle.jfr_chunk.specs.Parts.{Parts};
+ghost use Rattle.jfr_worklist.specs.Marks.{IsMarked};
+ghost use Rattle.jfr_chunk.specs.Laws.{AreEvents};
+ghost use Rattle.jfr_chunk.specs.Parts.{AreParts, EventAt, Parts};
 ghost use Rattle.jfr_chunk.specs.Paths.{text_of};
+ghost use Rattle.jfr_chunk.specs.Reach.{Reached};
 ghost use Rattle.jfr_rewrite.specs.Changed.{IsReadChanged};
+ghost use Rattle.jfr_rewrite.specs.Paths.{Stops};
 ghost use Rattle.jfr_mask.specs.Masked.{masking, own_text, string_bytes, string_text};
+ghost use Rattle.jfr_mask.specs.ReachBut.{ReachedBut, marks_but};
 
 /// A masked value is read by the format of its shape, which it keeps, and its leaves are the changed ones. The text of
 /// a masked string is that of its node, to which keys lead (`text`); what is written for a text has this text (`shown`).
@@ -21,4 +26,12 @@ pub fn masked_values_are_read()
     ensures text { (p : Parts) (n : NodeAt) (s : Shape) (b : List ℕ) (key : Option ℕ) → Sound p.classes → IsNode p.classes p.bytes n (Single s (Base Text) b key) → string_text p s.class b key ≡ text_of p n }
     ensures shown { (t : List ℕ) → scalars t ≡ true → own_text (string_bytes (Some t)) ≡ Some t }
     ensures null { own_text (string_bytes None) ≡ None }
+{}
+
+/// The entries that remain are exactly those in force that a kept event reaches by a path that goes no further where
+/// Follow stops, as it does at masked strings. So each is reached from the kept events (`reached`).
+#[tactic(auto, using(crate::proofs::Remains::remains_exactly, crate::proofs::Remains::remains_reached))]
+pub fn what_remains_is_reached()
+    ensures exact { (stops : Stops) (p : Parts) (kept : List EventAt) → AreParts p → AreEvents p kept → (number : ℕ) → ReachedBut stops p kept number ↔ IsMarked (marks_but stops p kept) number }
+    ensures reached { (stops : Stops) (p : Parts) (kept : List EventAt) → AreParts p → AreEvents p kept → (number : ℕ) → IsMarked (marks_but stops p kept) number → Reached p kept number }
 {}

@@ -22,7 +22,7 @@ mod known;
 pub mod laws;
 mod shown;
 
-pub use chunk_laws::masked_values_are_read;
+pub use chunk_laws::{masked_values_are_read, what_remains_is_reached};
 pub use dictionary::Dictionary;
 pub use fields::MaskedFields;
 pub use known::Known;
