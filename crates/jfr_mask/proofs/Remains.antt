@@ -1,17 +1,22 @@
 -- The entries that remain of an accepted chunk are exactly those that are reached.
 use Rattle.std.specs.Prelude.{◌↔◌, ℕ, List}
+use Rattle.std.proofs.lemmas.List.Elements.{All-contains_itself}
 use Rattle.jfr_value.specs.Nodes.{IsNode}
 use Rattle.jfr_value.specs.Values.{Value}
 use Rattle.jfr_worklist.specs.Marks.{IsMarked}
 use Rattle.jfr_worklist.specs.Members.{In}
 use Rattle.jfr_chunk.specs.Laws.{AreEvents}
-use Rattle.jfr_chunk.specs.Parts.{AreParts, EventAt, Parts}
+use Rattle.jfr_chunk.specs.Parts.{AreParts, EventAt, Parts, events_of}
 use Rattle.jfr_chunk.specs.Reach.{Reached}
 use Rattle.jfr_chunk.proofs.HasNodesLaws.{has_nodes}
 use Rattle.jfr_laws.proofs.Same.{event_of_chunk}
 use Rattle.jfr_rewrite.specs.Paths.{MarksMet, Stops}
 use Rattle.jfr_mask.specs.ReachBut.{ReachedBut, marks_but}
 use Rattle.jfr_mask.proofs.ReachBut.{marked_exactly, marks_met, reached_too}
+
+-- The events of a chunk are events of it.
+pub all_are : (p : Parts) → AreEvents p (events_of p)
+all_are p = All-contains_itself (events_of p)
 
 module _ (stops : Stops) (p : Parts) (kept : List EventAt) (a : AreParts p) (are : AreEvents p kept) where
   nodes : (e : EventAt) → In kept e → (v : Value) × IsNode p.classes p.bytes e.node v

@@ -1,6 +1,7 @@
 //! Laws of masked values, chunks and recordings. The functions do nothing; their contracts are the laws.
-ghost use Rattle.std.specs.Prelude.{◌≡◌, ◌↔◌, ℕ, Bool, true, List, Option, None, Some};
+ghost use Rattle.std.specs.Prelude.{◌≡◌, ◌↔◌, ℕ, ◌<◌, ◌^◌, Bool, true, List, length, Option, None, Some};
 ghost use lib.Utf8.{scalars};
+ghost use Rattle.jfr_header.specs.Fronts.{Whole};
 ghost use Rattle.jfr_layout.specs.Classes.{Sound};
 ghost use Rattle.jfr_layout.specs.declared.kind.Kind.TheVariants.{Text};
 ghost use Rattle.jfr_layout.specs.declared.shape.Shape.{Shape};
@@ -12,11 +13,18 @@ ghost use Rattle.jfr_worklist.specs.Marks.{IsMarked};
 ghost use Rattle.jfr_chunk.specs.Laws.{AreEvents};
 ghost use Rattle.jfr_chunk.specs.Parts.{AreParts, EventAt, Parts};
 ghost use Rattle.jfr_chunk.specs.Paths.{text_of};
-ghost use Rattle.jfr_chunk.specs.Reach.{Reached};
+ghost use Rattle.jfr_chunk.specs.Reach.{Reached, kept_by};
 ghost use Rattle.jfr_rewrite.specs.Changed.{IsReadChanged};
 ghost use Rattle.jfr_rewrite.specs.Paths.{Stops};
+ghost use Rattle.jfr_mask.specs.Headline.{IsAccepted, MeansTheSame};
+ghost use Rattle.jfr_mask.specs.MaskOf.{Masking, mask_of};
 ghost use Rattle.jfr_mask.specs.Masked.{masking, own_text, string_bytes, string_text};
 ghost use Rattle.jfr_mask.specs.ReachBut.{ReachedBut, marks_but};
+
+use jfr_rewrite::{
+    paths_lead_to_changed_leaves, remaining_classes_are_described, rewritten_chunks_are_accepted,
+    sizes_are_carried,
+};
 
 /// A masked value is read by the format of its shape, which it keeps, and its leaves are the changed ones. The text of
 /// a masked string is that of its node, to which keys lead (`text`); what is written for a text has this text (`shown`).
@@ -35,3 +43,21 @@ pub fn what_remains_is_reached()
     ensures exact { (stops : Stops) (p : Parts) (kept : List EventAt) → AreParts p → AreEvents p kept → (number : ℕ) → ReachedBut stops p kept number ↔ IsMarked (marks_but stops p kept) number }
     ensures reached { (stops : Stops) (p : Parts) (kept : List EventAt) → AreParts p → AreEvents p kept → (number : ℕ) → IsMarked (marks_but stops p kept) number → Reached p kept number }
 {}
+
+/// The masked chunk, if it is below 2^30 bytes, is accepted.
+#[tactic(auto)]
+pub fn masked_chunks_are_accepted()
+    ensures { (m : Masking) (d : List (List ℕ)) (p : Parts) (flags : List Bool) → AreParts p → Whole p.bytes → length (mask_of m d p (kept_by p flags)) < 2 ^ 30 → IsAccepted m d p (kept_by p flags) }
+{
+    remaining_classes_are_described();
+    sizes_are_carried();
+    rewritten_chunks_are_accepted();
+}
+
+/// The events of the masked chunk mean the same as the kept ones, except for the masked strings.
+#[tactic(auto)]
+pub fn masked_chunks_mean_the_same()
+    ensures { (m : Masking) (d : List (List ℕ)) (p : Parts) (flags : List Bool) → AreParts p → (accepted : IsAccepted m d p (kept_by p flags)) → MeansTheSame m d p accepted.parts (kept_by p flags) }
+{
+    paths_lead_to_changed_leaves();
+}

@@ -22,7 +22,10 @@ mod known;
 pub mod laws;
 mod shown;
 
-pub use chunk_laws::{masked_values_are_read, what_remains_is_reached};
+pub use chunk_laws::{
+    masked_chunks_are_accepted, masked_chunks_mean_the_same, masked_values_are_read,
+    what_remains_is_reached,
+};
 pub use dictionary::Dictionary;
 pub use fields::MaskedFields;
 pub use known::Known;
