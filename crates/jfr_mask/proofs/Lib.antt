@@ -1,3 +1,5 @@
+pub mod EqualOutputs
+pub mod ExchangeLaws
 pub mod FieldLaws
 pub mod KnownLaws
 pub mod MapLaws
@@ -5,5 +7,6 @@ pub mod MaskLaws
 pub mod NumberLaws
 pub mod ReachBut
 pub mod Remains
+pub mod SecrecyLaws
 pub mod ShownLaws
 pub mod TextLaws

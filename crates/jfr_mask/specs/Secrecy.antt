@@ -56,8 +56,9 @@ pub record AlikeNode (m : Masking) (g : List ℕ → List ℕ) (p q : Parts) (n 
   pub there : value_of q.classes q.bytes o ≡ Some other
   pub alike : AlikeValue (is_masked_in m p.classes) g p q None value other
 
--- Two events have the same type bytes, such fields, and the same bytes after them.
+-- Two events have the same class, spelled the same, such fields, and the same bytes after them.
 pub record AlikeEvent (m : Masking) (g : List ℕ → List ℕ) (p q : Parts) (e f : EventAt) : Type 0 where
+  pub class : e.record_of.type_id ≡ f.record_of.type_id
   pub type : slice_range p.bytes e.record_of.type_at e.record_of.body ≡ slice_range q.bytes f.record_of.type_at f.record_of.body
   pub fields : AlikeNode m g p q e.node f.node
   pub rest : slice_range p.bytes e.node.end (record_end e.record_of) ≡ slice_range q.bytes f.node.end (record_end f.record_of)
@@ -75,6 +76,7 @@ pub record AlikeGroup (m : Masking) (g : List ℕ → List ℕ) (p q : Parts) (x
 -- Two chained checkpoints have the same type, start, duration and type byte, and such pools, one to one. Their sizes and
 -- deltas can differ.
 pub record AlikePools (m : Masking) (g : List ℕ → List ℕ) (p q : Parts) (l k : Link) (xs ys : List chunk_written.Group) : Type 0 where
+  pub type_id : l.frame.type_id ≡ k.frame.type_id
   pub type : slice_range p.bytes l.frame.type_at l.frame.body ≡ slice_range q.bytes k.frame.type_at k.frame.body
   pub times : slice_range p.bytes l.frame.body l.delta_at ≡ slice_range q.bytes k.frame.body k.delta_at
   pub type_byte : slice_range p.bytes l.delta_end (l.delta_end + 1) ≡ slice_range q.bytes k.delta_end (k.delta_end + 1)

@@ -1,5 +1,5 @@
 //! Laws of masked values, chunks and recordings. The functions do nothing; their contracts are the laws.
-ghost use Rattle.std.specs.Prelude.{◌≡◌, ◌↔◌, ℕ, ◌<◌, ◌^◌, Bool, true, List, length, Option, None, Some};
+ghost use Rattle.std.specs.Prelude.{◌≡◌, ◌↔◌, ℕ, ◌<◌, ◌^◌, Bool, true, List, [], length, map, Option, None, Some};
 ghost use lib.Utf8.{scalars};
 ghost use Rattle.jfr_header.specs.Fronts.{Whole};
 ghost use Rattle.jfr_layout.specs.Classes.{Sound};
@@ -14,12 +14,14 @@ ghost use Rattle.jfr_chunk.specs.Laws.{AreEvents};
 ghost use Rattle.jfr_chunk.specs.Parts.{AreParts, EventAt, Parts};
 ghost use Rattle.jfr_chunk.specs.Paths.{text_of};
 ghost use Rattle.jfr_chunk.specs.Reach.{Reached, kept_by};
-ghost use Rattle.jfr_rewrite.specs.Changed.{IsReadChanged};
+ghost use Rattle.jfr_rewrite.specs.Changed.{IsReadChanged, changed};
 ghost use Rattle.jfr_rewrite.specs.Paths.{Stops};
 ghost use Rattle.jfr_mask.specs.Headline.{IsAccepted, MeansTheSame};
-ghost use Rattle.jfr_mask.specs.MaskOf.{Masking, mask_of};
+ghost use Rattle.jfr_mask.specs.MaskOf.{Chosen, Masking, dictionary_after, mask_all, mask_of};
 ghost use Rattle.jfr_mask.specs.Masked.{masking, own_text, string_bytes, string_text};
+ghost use Rattle.jfr_mask.specs.Pseudonyms.{shown};
 ghost use Rattle.jfr_mask.specs.ReachBut.{ReachedBut, marks_but};
+ghost use Rattle.jfr_mask.specs.Secrecy.{AlikeAll, AlikeChunk, AlikeValue, IsExchange};
 
 use jfr_rewrite::{
     paths_lead_to_changed_leaves, remaining_classes_are_described, rewritten_chunks_are_accepted,
@@ -61,3 +63,19 @@ pub fn masked_chunks_mean_the_same()
 {
     paths_lead_to_changed_leaves();
 }
+
+/// Values that differ only in masked texts are equal when each is masked with its dictionary, if the texts of the second
+/// dictionary are the exchanged ones (`value`). So are whole chunks, byte for byte (`chunk`), and the dictionaries after
+/// them correspond again (`dictionary`).
+#[tactic(auto, using(crate::proofs::SecrecyLaws::masked_alike, crate::proofs::EqualOutputs::masked_equal, crate::proofs::EqualOutputs::dictionary_exchanged))]
+pub fn masks_keep_secrets()
+    ensures value { (known : List ℕ → Bool) (g : List ℕ → List ℕ) → IsExchange known g → (masked : Option Holder → Bool) (p q : Parts) (d : List (List ℕ)) (h : Option Holder) (v w : Value) → AlikeValue masked g p q h v w → changed (masking masked (shown known (map g d)) q) h w ≡ changed (masking masked (shown known d) p) h v }
+    ensures chunk { (m : Masking) (g : List ℕ → List ℕ) → IsExchange m.known g → (p q : Parts) (kept others : List EventAt) → AlikeChunk m g p q kept others → (d : List (List ℕ)) → mask_of m (map g d) q others ≡ mask_of m d p kept }
+    ensures dictionary { (m : Masking) (g : List ℕ → List ℕ) → IsExchange m.known g → (p q : Parts) (kept others : List EventAt) → AlikeChunk m g p q kept others → (d : List (List ℕ)) → dictionary_after m (map g d) q others ≡ map g (dictionary_after m d p kept) }
+{}
+
+/// Two recordings that differ only in masked texts, chunk by chunk, have equal outputs, byte for byte.
+#[tactic(auto, using(crate::proofs::EqualOutputs::all_equal))]
+pub fn equal_outputs()
+    ensures { (m : Masking) (g : List ℕ → List ℕ) → IsExchange m.known g → (cs es : List Chosen) → AlikeAll m g cs es → mask_all m [] es ≡ mask_all m [] cs }
+{}

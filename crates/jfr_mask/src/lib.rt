@@ -23,8 +23,8 @@ pub mod laws;
 mod shown;
 
 pub use chunk_laws::{
-    masked_chunks_are_accepted, masked_chunks_mean_the_same, masked_values_are_read,
-    what_remains_is_reached,
+    equal_outputs, masked_chunks_are_accepted, masked_chunks_mean_the_same, masked_values_are_read,
+    masks_keep_secrets, what_remains_is_reached,
 };
 pub use dictionary::Dictionary;
 pub use fields::MaskedFields;
