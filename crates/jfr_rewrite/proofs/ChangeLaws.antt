@@ -41,13 +41,13 @@ module _ (ch : Change) where
       changed_fit g Nil f = tt
       changed_fit g (Cons v vs) f = (changed_fits (g zero) v f.0, changed_fit (λ i. g (suc i)) vs f.1)
 
-  -- The part with a number is the changed part, in its context.
+  -- The part with a number is the changed part, given its holder.
   pub changed_get : (f : ℕ → Option Holder) (vs : Values) (i : ℕ) → slice_get (list_of (changed_all ch f vs)) i ≡ option_map (changed ch (f i)) (slice_get (list_of vs) i)
   changed_get f Nil i = refl
   changed_get f (Cons v vs) zero = refl
   changed_get f (Cons v vs) (suc i) = changed_get (λ j. f (suc j)) vs i
 
-  -- The context of what a step leads to.
+  -- The holder of the part to which a step leads.
   abbrev pub stepped : Option Holder → Shape → Step → Option Holder
   stepped x s (steps.Field i) = part_holder s x i
   stepped x s (steps.Item i) = part_holder s x i

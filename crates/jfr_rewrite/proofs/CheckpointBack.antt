@@ -21,7 +21,7 @@ use Rattle.jfr_rewrite.proofs.RecordBack.{new_frame, tail_of, record_resized}
 use Rattle.jfr_rewrite.specs.Rewritten.{Carries}
 use Rattle.jfr_chunk.specs.Written.{sized}
 
--- The link of a checkpoint that is written at an offset, with its size in so many bytes.
+-- A checkpoint that is written at an offset, with its size in this many bytes.
 abbrev pub new_checkpoint : ℕ → ℕ → Link → ℕ → ℕ → Link
 new_checkpoint at width l delta n = record {
   frame = new_frame at width n l.frame;

@@ -33,7 +33,7 @@ module _ (k : Classes) (bytes : OutputRecord → ℕ → Option ℕ → List ℕ
   abbrev pub bytes_from : ℕ → Option ℕ → List OutputRecord → List ℕ
   bytes_from at older ss = flat_map (bytes_by bytes) (written_by bytes at older ss)
 
-  -- The records, the links with the oldest first, and the entries.
+  -- The checkpoints, oldest first, the records, and the entries.
   abbrev pub checkpoint_at : ℕ → Option ℕ → ℕ → Link → Link
   checkpoint_at at older i l = new_checkpoint at (width i l at older) l (distance at older) (length (bytes (Chained i l) at older))
 
@@ -106,7 +106,7 @@ module _ (k : Classes) (bytes : OutputRecord → ℕ → Option ℕ → List ℕ
       none x xs e = cc
 
   module _ (b : List ℕ) where
-    -- A checkpoint is read as a record, a link and its pools.
+    -- A checkpoint is read as a record, its head and its pools.
     pub record ChainedRead (i : ℕ) (l : Link) (at : ℕ) (older : Option ℕ) : Type 0 where
       pub is_record : IsRecord b (checkpoint_at at older i l).frame
       pub head : Reads head_format b (record_end (checkpoint_at at older i l).frame) (checkpoint_at at older i l).frame.body (record { at = (checkpoint_at at older i l).delta_at; end = (checkpoint_at at older i l).delta_end; value = (checkpoint_at at older i l).delta }) (checkpoint_at at older i l).delta_end

@@ -315,7 +315,7 @@ module _ (given : Rewriting) where
       → Reads (value_format m (inline id)) b end at v to
   read_under id b end at v to t r = subst (λ (g : Format Value). Reads g b end at v to) (value_agree p.classes m (inline id) (given.suits.agree id t)) r
 
-  -- What is built anew is the metadata record.
+  -- If nothing is written in place of the metadata record, there is no new one.
   not_anew : (r : Framed) → r ≡ a.metadata_record → written_anew w.metadata p r ≡ None → w.metadata ≡ None
   not_anew r f e = sym (new_is w.metadata p a) ∙ (ap (written_anew w.metadata p) (sym f) ∙ e)
 
@@ -337,7 +337,7 @@ module _ (given : Rewriting) where
       subst (λ z. IsRecord b (frame_from 0 given.describes.type_after given.describes.body_after at (length (record_bytes p.bytes z)))) (sym f) x.holds in
       record { holds = subst (λ id. IsRecord b (frame_from id given.describes.type_after given.describes.body_after at (length (record_bytes p.bytes r)))) (sym type) y; fields = λ t. absurd (clash (is_event_class m r.type_id) t no_event) }
 
-  -- One that is built anew.
+  -- What is written in its place is the new one.
   anew_here : (r : Framed) (x : List ℕ) → IsRecord p.bytes r → written_anew w.metadata p r ≡ Some x → w.metadata ≡ Some x
   anew_here r x s e =
       let t : (r.at == metadata_at p.bytes) ≡ true = anew_only w.metadata p r x e in

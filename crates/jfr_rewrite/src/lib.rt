@@ -11,7 +11,8 @@
 //!
 //! The laws ask that the change keeps what fits (`KeepsFit`), and that changed values refer to the new keys
 //! (`Retargets`). The metadata record can be any bytes that describe the classes (`Describes`); those of
-//! `new_metadata` do (law `remaining_classes_are_described`).
+//! `new_metadata` do (law `remaining_classes_are_described`). Where Follow stops is a parameter of the law of paths
+//! (`paths_lead_to_changed_leaves`).
 //!
 //! Read `specs/Changed.antt` first (changed values and leaves), then `specs/Rewrite.antt` (the bytes of the output),
 //! `specs/Rewritten.antt` (what holds of it) and `specs/Paths.antt` (where paths lead).
