@@ -23,27 +23,8 @@ use Rattle.jfr_mask.specs.MaskOf.{Chosen, Event, Masking, Metadata, Piece, Pools
 use Rattle.jfr_mask.specs.Pseudonyms.{shown, with_texts}
 use Rattle.jfr_mask.specs.Secrecy.{IsExchange, AlikeAll, AlikeChunk, AlikeEntry, AlikeEvent, AlikeGroup, AlikeNode, AlikePiece, AlikePools, AlikeRecord}
 use Rattle.jfr_mask.proofs.ExchangeLaws.{all_mapped}
+use Rattle.jfr_mask.proofs.OneToOnes.{flat_map_alike, flat_map_mapped, same_length}
 use Rattle.jfr_mask.proofs.SecrecyLaws.{masked_alike, texts_exchanged}
-
-flat_map_alike : {A B X : Type 0} (R : A → B → Type 0) (f : A → List X) (h : B → List X) → ((x : A) (y : B) → R x y → h y ≡ f x) → (xs : List A) (ys : List B) → OneToOne R xs ys → flat_map h ys ≡ flat_map f xs
-flat_map_alike R f h one [] [] a = refl
-flat_map_alike R f h one [] (y ∷ ys) a = absurd a
-flat_map_alike R f h one (x ∷ xs) [] a = absurd a
-flat_map_alike R f h one (x ∷ xs) (y ∷ ys) a = ap (λ z. z ++ flat_map h ys) (one x y a.0) ∙ ap (λ z. f x ++ z) (flat_map_alike R f h one xs ys a.1)
-
-flat_map_mapped : {A B : Type 0} (R : A → B → Type 0) (g : List ℕ → List ℕ) (f : A → List (List ℕ)) (h : B → List (List ℕ)) → ((x : A) (y : B) → R x y → h y ≡ map g (f x)) → (xs : List A) (ys : List B) → OneToOne R xs ys
-    → flat_map h ys ≡ map g (flat_map f xs)
-flat_map_mapped R g f h one [] [] a = refl
-flat_map_mapped R g f h one [] (y ∷ ys) a = absurd a
-flat_map_mapped R g f h one (x ∷ xs) [] a = absurd a
-flat_map_mapped R g f h one (x ∷ xs) (y ∷ ys) a =
-    ap (λ z. z ++ flat_map h ys) (one x y a.0) ∙ (ap (λ z. map g (f x) ++ z) (flat_map_mapped R g f h one xs ys a.1) ∙ sym (map-append g (f x) (flat_map f xs)))
-
-length_alike : {A B : Type 0} (R : A → B → Type 0) (xs : List A) (ys : List B) → OneToOne R xs ys → length ys ≡ length xs
-length_alike R [] [] a = refl
-length_alike R [] (y ∷ ys) a = absurd a
-length_alike R (x ∷ xs) [] a = absurd a
-length_alike R (x ∷ xs) (y ∷ ys) a = ap suc (length_alike R xs ys a.1)
 
 last_cons : (o : Option ℕ) (x : Written) (ws : List Written) → last_at o (x ∷ ws) ≡ last_at (older_after x.output_record x.at o) ws
 last_cons None x ws = refl
@@ -164,7 +145,7 @@ module _ (m : Masking) (g : List ℕ → List ℕ) (ex : IsExchange m.known g) (
     group_alike : (x y : Group) → AlikeGroup m g p q x y → group_bytes two q y ≡ group_bytes one p x
     group_alike x y a =
         ap (λ z. spell z ++ (spell (length y.entries) ++ flat_map (entry_bytes two q) y.entries)) (sym a.class)
-        ∙ (ap (λ z. spell x.class ++ (spell z ++ flat_map (entry_bytes two q) y.entries)) (length_alike (AlikeEntry m g p q) x.entries y.entries a.entries)
+        ∙ (ap (λ z. spell x.class ++ (spell z ++ flat_map (entry_bytes two q) y.entries)) (same_length (AlikeEntry m g p q) x.entries y.entries a.entries)
         ∙ ap (λ z. spell x.class ++ (spell (length x.entries) ++ z)) (flat_map_alike (AlikeEntry m g p q) (entry_bytes one p) (entry_bytes two q) entry_alike x.entries y.entries a.entries))
 
     checkpoint_alike : (l k : Link) (xs ys : List Group) (delta : ℕ) → AlikePools m g p q l k xs ys → checkpoint_tail two q k delta ys ≡ checkpoint_tail one p l delta xs
@@ -179,7 +160,7 @@ module _ (m : Masking) (g : List ℕ → List ℕ) (ex : IsExchange m.known g) (
         ap (λ z. tail z times kind (length ys) items) (sym a.type)
         ∙ (ap (λ z. tail type_here z kind (length ys) items) (sym a.times)
         ∙ (ap (λ z. tail type_here times_here z (length ys) items) (sym a.type_byte)
-        ∙ (ap (λ z. tail type_here times_here kind_here z items) (length_alike (AlikeGroup m g p q) xs ys a.pools)
+        ∙ (ap (λ z. tail type_here times_here kind_here z items) (same_length (AlikeGroup m g p q) xs ys a.pools)
         ∙ ap (λ z. tail type_here times_here kind_here (length xs) z) (flat_map_alike (AlikeGroup m g p q) (group_bytes one p) (group_bytes two q) group_alike xs ys a.pools))))
 
     piece_alike : (x y : Piece) → AlikePiece m g p q x y → (at : ℕ) (older : Option ℕ) → piece_bytes two q y at older ≡ piece_bytes one p x at older

@@ -1,10 +1,13 @@
+pub mod AllReached
 pub mod EqualOutputs
 pub mod ExchangeLaws
 pub mod FieldLaws
+pub mod HeadlineLaws
 pub mod KnownLaws
 pub mod MapLaws
 pub mod MaskLaws
 pub mod NumberLaws
+pub mod OneToOnes
 pub mod ReachBut
 pub mod Remains
 pub mod SecrecyLaws

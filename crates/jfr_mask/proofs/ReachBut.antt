@@ -27,7 +27,7 @@ use Rattle.jfr_rewrite.specs.Paths.{Held, MarksMet, Met, Stops, held_after, lead
 use Rattle.jfr_rewrite.proofs.ChangeLaws.{stepped, changed_part}
 use Rattle.jfr_mask.specs.ReachBut.{ReachedBut, unkeyed, targets_but, node_targets_but, roots_but, next_but, marks_but}
 
-some_to : {A B : Type 0} (R : A → B → Type 0) (x : Option A) (y : Option B) (a : A) → Both R x y → x ≡ Some a → (b : B) × (y ≡ Some b) × R a b
+pub some_to : {A B : Type 0} (R : A → B → Type 0) (x : Option A) (y : Option B) (a : A) → Both R x y → x ≡ Some a → (b : B) × (y ≡ Some b) × R a b
 some_to R None None a r e = cc
 some_to R (Some c) (Some b) a r e = let h : c ≡ a = cc in (b, refl, subst (λ z. R z b) h r)
 some_to R None (Some c) a r e = absurd r

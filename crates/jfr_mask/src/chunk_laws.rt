@@ -16,7 +16,7 @@ ghost use Rattle.jfr_chunk.specs.Paths.{text_of};
 ghost use Rattle.jfr_chunk.specs.Reach.{Reached, kept_by};
 ghost use Rattle.jfr_rewrite.specs.Changed.{IsReadChanged, changed};
 ghost use Rattle.jfr_rewrite.specs.Paths.{Stops};
-ghost use Rattle.jfr_mask.specs.Headline.{IsAccepted, MeansTheSame};
+ghost use Rattle.jfr_mask.specs.Headline.{AllFit, AllMasked, IsAccepted, IsMasked, MeansTheSame};
 ghost use Rattle.jfr_mask.specs.MaskOf.{Chosen, Masking, dictionary_after, mask_all, mask_of};
 ghost use Rattle.jfr_mask.specs.Masked.{masking, own_text, string_bytes, string_text};
 ghost use Rattle.jfr_mask.specs.Pseudonyms.{shown};
@@ -79,3 +79,14 @@ pub fn masks_keep_secrets()
 pub fn equal_outputs()
     ensures { (m : Masking) (g : List ℕ → List ℕ) → IsExchange m.known g → (cs es : List Chosen) → AlikeAll m g cs es → mask_all m [] es ≡ mask_all m [] cs }
 {}
+
+/// A masked chunk below 2^30 bytes is accepted, its events mean the same, except for the masked strings, and each of its
+/// entries is reached from them (`one`). So for each chunk of a recording, with the dictionary that goes on (`all`).
+#[tactic(auto)]
+pub fn outputs_are_masked()
+    ensures one { (m : Masking) (d : List (List ℕ)) (p : Parts) (flags : List Bool) → AreParts p → Whole p.bytes → length (mask_of m d p (kept_by p flags)) < 2 ^ 30 → IsMasked m d p (kept_by p flags) }
+    ensures all { (m : Masking) (d : List (List ℕ)) (cs : List Chosen) → AllFit m d cs → AllMasked m d cs }
+{
+    masked_chunks_are_accepted();
+    masked_chunks_mean_the_same();
+}

@@ -24,7 +24,7 @@ mod shown;
 
 pub use chunk_laws::{
     equal_outputs, masked_chunks_are_accepted, masked_chunks_mean_the_same, masked_values_are_read,
-    masks_keep_secrets, what_remains_is_reached,
+    masks_keep_secrets, outputs_are_masked, what_remains_is_reached,
 };
 pub use dictionary::Dictionary;
 pub use fields::MaskedFields;
