@@ -10,6 +10,7 @@ pub mod NumberLaws
 pub mod OneToOnes
 pub mod ReachBut
 pub mod Remains
+mod Rows
 pub mod SecrecyLaws
 pub mod ShownLaws
 pub mod TextLaws

@@ -1,10 +1,12 @@
-//! Tests of integers, strings, filters and metadata, as tables.
+//! Tests of integers, strings, filters, masks and metadata, as tables.
 #![tactic(auto)]
 
 #[cfg(test)]
 mod base;
 #[cfg(test)]
 mod filter;
+#[cfg(test)]
+mod mask;
 #[cfg(test)]
 mod meta;
 #[cfg(test)]
