@@ -1,5 +1,10 @@
 pub mod Fields
+pub mod Headline
 pub mod Held
 pub mod Laws
+pub mod MaskOf
+pub mod Masked
 pub mod Pseudonyms
+pub mod ReachBut
+pub mod Secrecy
 pub mod Written

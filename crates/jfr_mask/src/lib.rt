@@ -15,12 +15,17 @@
 //! The laws say what holds of all dictionaries and pseudonyms (`laws.rt`).
 #![tactic(auto)]
 
+mod chunk_laws;
 mod dictionary;
 mod fields;
 mod known;
 pub mod laws;
 mod shown;
 
+pub use chunk_laws::{
+    equal_outputs, masked_chunks_are_accepted, masked_chunks_mean_the_same, masked_values_are_read,
+    masks_keep_secrets, outputs_are_masked, what_remains_is_reached,
+};
 pub use dictionary::Dictionary;
 pub use fields::MaskedFields;
 pub use known::Known;

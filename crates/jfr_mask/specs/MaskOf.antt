@@ -1,0 +1,112 @@
+-- What becomes of a chunk and of a recording when they are masked, and the dictionary that goes on from chunk to chunk.
+use Rattle.std.specs.Prelude.{ℕ, Bool, List, [], ◌∷◌, Option, Some, None}
+use Rattle.std.specs.List.{flat_map}
+use Rattle.std.specs.Option.{option_map_or}
+use Rattle.jfr_frame.specs.declared.framed.Framed.{Framed}
+use Rattle.jfr_frame.specs.Records.{record_bytes}
+use Rattle.jfr_layout.specs.Classes.{Classes}
+use Rattle.jfr_value.specs.declared.leaf.Holder.{Holder}
+use Rattle.jfr_value.specs.Nodes.{NodeAt, value_of}
+use Rattle.jfr_pool.specs.declared.link.Link.{Link}
+use Rattle.jfr_pool.specs.declared.entry.EntryAt.{EntryAt}
+use Rattle.jfr_pool.specs.Entries.{entry_node}
+use Rattle.jfr_chunk.specs.Metas.{Names, new_metadata}
+use Rattle.jfr_chunk.specs.Parts.{Parts, EventAt}
+use Rattle.jfr_chunk.specs.Reach.{kept_by}
+use Rattle.jfr_chunk.specs.Scrub.{OutputRecord, Whole, Chained, Rebuilt, groups_of, output_records}
+use Rattle.jfr_chunk.specs.Written.{Group}
+use Rattle.jfr_rewrite.specs.Changed.{Change}
+use Rattle.jfr_rewrite.specs.Paths.{Stops}
+use Rattle.jfr_rewrite.specs.Rewrite.{Rewrite, event_there, fewest_or_five, rewritten}
+use Rattle.jfr_mask.specs.Fields.{masks_of}
+use Rattle.jfr_mask.specs.Masked.{is_held_masked, is_masked_string, masked_texts, masking}
+use Rattle.jfr_mask.specs.Pseudonyms.{shown, with_texts}
+use Rattle.jfr_mask.specs.ReachBut.{remain_but}
+
+-- How a recording is masked: the patterns of the masked fields and of those that aren't, which texts are known, and
+-- the names of the event classes that the output describes even without events.
+pub record Masking : Type 0 where
+  pub strings : List (List ℕ)
+  pub except : List (List ℕ)
+  pub known : List ℕ → Bool
+  pub described : Names
+
+-- Whether strings with this holder are masked.
+abbrev pub is_masked_in : Masking → Classes → Option Holder → Bool
+is_masked_in m k = is_held_masked (masks_of m.strings m.except k) k
+
+-- Follow stops at masked strings.
+abbrev pub stops_in : Masking → Parts → Stops
+stops_in m p = is_masked_string (is_masked_in m p.classes)
+
+-- What becomes of values with this dictionary.
+abbrev pub masks_in : Masking → List (List ℕ) → Parts → Change
+masks_in m d p = masking (is_masked_in m p.classes) (shown m.known d) p
+
+-- How a chunk is rewritten with this dictionary: its masked strings get other texts, entries keep their keys, and sizes
+-- don't depend on the old ones, which tell the lengths of the texts.
+abbrev pub rewrite_of : Masking → List (List ℕ) → Parts → List EventAt → Rewrite
+rewrite_of m d p kept = record { change = masks_in m d p; key = λ t. t.1; width = fewest_or_five; metadata = new_metadata m.described p kept }
+
+-- The entries that remain: those in force that the kept events reach by paths that go no further at masked strings.
+abbrev pub entries_left : Masking → Parts → List EventAt → List EntryAt
+entries_left m p kept = remain_but (stops_in m p) p kept
+
+-- What an output record is: a kept event; the metadata record with its bytes; or a chained checkpoint with the pools
+-- that it has left.
+pub data Piece : Type 0 where
+  Event : (event : EventAt) → Piece
+  Metadata : (bytes : List ℕ) → Piece
+  Pools : (link : Link) (pools : List Group) → Piece
+
+-- The piece for a record that isn't a chained checkpoint: its event, or the record itself.
+abbrev pub whole_piece : Parts → Framed → Option EventAt → Piece
+whole_piece p r (Some e) = Event e
+whole_piece p r None = Metadata (record_bytes p.bytes r)
+
+abbrev pub piece_of : Parts → List EventAt → List EntryAt → OutputRecord → Piece
+piece_of p kept entries (Whole r) = whole_piece p r (event_there kept r)
+piece_of p kept entries (Rebuilt r bytes) = Metadata bytes
+piece_of p kept entries (Chained number l) = Pools l (groups_of entries number)
+
+-- The texts of the masked strings in a node that is in no field, as an event's and an entry's are.
+abbrev pub node_texts : Masking → Parts → NodeAt → List (List ℕ)
+node_texts m p n = option_map_or (masked_texts (is_masked_in m p.classes) m.known p None) (value_of p.classes p.bytes n) []
+
+-- Those of a piece: of the event's fields, or of the values of the entries.
+abbrev pub group_texts : Masking → Parts → Group → List (List ℕ)
+group_texts m p g = flat_map (λ e. node_texts m p (entry_node e)) g.entries
+
+abbrev pub piece_texts : Masking → Parts → Piece → List (List ℕ)
+piece_texts m p (Event e) = node_texts m p e.node
+piece_texts m p (Metadata bytes) = []
+piece_texts m p (Pools l pools) = flat_map (group_texts m p) pools
+
+-- The output records of a masked chunk.
+abbrev pub records_out : Masking → Parts → List EventAt → List OutputRecord
+records_out m p kept = output_records (new_metadata m.described p kept) p kept
+
+-- The dictionary after a chunk, given the one before it: with the texts of its output records, one after another.
+abbrev pub dictionary_after : Masking → List (List ℕ) → Parts → List EventAt → List (List ℕ)
+dictionary_after m d p kept = with_texts d (flat_map (λ o. piece_texts m p (piece_of p kept (entries_left m p kept) o)) (records_out m p kept))
+
+-- The masked chunk, if these events are kept, given the dictionary before it. All its texts have their numbers from the
+-- dictionary after it.
+unfoldable pub mask_of : Masking → List (List ℕ) → Parts → List EventAt → List ℕ
+mask_of m d p kept = rewritten (rewrite_of m (dictionary_after m d p kept) p kept) p kept (entries_left m p kept)
+
+-- A chunk of a recording, with a flag for each event, which says whether it is kept.
+pub record Chosen : Type 0 where
+  pub parts : Parts
+  pub flags : List Bool
+
+abbrev pub events_kept : Chosen → List EventAt
+events_kept c = kept_by c.parts c.flags
+
+abbrev pub next_dictionary : Masking → List (List ℕ) → Chosen → List (List ℕ)
+next_dictionary m d c = dictionary_after m d c.parts (events_kept c)
+
+-- The masked chunks of a recording. The dictionary after a chunk is the one before the next.
+abbrev pub mask_all : Masking → List (List ℕ) → List Chosen → List (List ℕ)
+mask_all m d [] = []
+mask_all m d (c ∷ cs) = mask_of m d c.parts (events_kept c) ∷ mask_all m (next_dictionary m d c) cs
