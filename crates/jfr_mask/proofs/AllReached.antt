@@ -1,11 +1,10 @@
 -- Each entry of a masked chunk is reached from its events.
-use Rattle.std.specs.Prelude.{◌≡◌, ℕ, ◌<◌, Bool, true, false, List, length, Option, Some, None, if◌then◌else◌}
+use Rattle.std.specs.Prelude.{◌≡◌, ℕ, ◌<◌, Bool, true, false, List, length, Some, None, if◌then◌else◌}
 use Rattle.std.specs.Option.{option_map, option_map_or}
-use Rattle.std.proofs.Common.{ap, refl, sym, ◌∙◌, subst}
-use Rattle.jfr_value.specs.Values.{Value, own_target}
+use Rattle.std.proofs.Common.{ap, sym, ◌∙◌, subst}
+use Rattle.jfr_value.specs.Values.{own_target}
 use Rattle.jfr_value.specs.Nodes.{NodeAt, target}
 use Rattle.jfr_value.proofs.NodeLaws.{target_is, value_is}
-use Rattle.jfr_worklist.specs.Marks.{IsMarked}
 use Rattle.jfr_worklist.specs.Members.{In}
 use Rattle.jfr_worklist.proofs.Members.{contains_in, in_contains}
 use Rattle.jfr_chunk.specs.Laws.{AreEvents}

@@ -6,7 +6,6 @@ use Rattle.std.proofs.Common.{ap, arith, refl, sym, ◌∙◌, subst, inl, inr}
 use Rattle.std.proofs.lemmas.List.{take_all}
 use Rattle.std.proofs.Math.Utf8.{scalars}
 use Rattle.bstr.proofs.lemmas.EncodeLemmas.{lossy_chars-encode}
-use Rattle.jfr_base.specs.Formats.{run}
 use Rattle.jfr_base.specs.Integer.{spell}
 use Rattle.jfr_base.proofs.RunLaws.{Stands, exact_run}
 use Rattle.jfr_base.proofs.Spelling.{spell_spells}
@@ -17,12 +16,11 @@ use Rattle.jfr_layout.specs.declared.kind.Kind.TheVariants as kinds
 use Rattle.jfr_layout.specs.declared.shape.Shape.{Shape}
 use Rattle.jfr_value.specs.declared.leaf.Holder.{Holder}
 use Rattle.jfr_value.specs.declared.leaf.LeafKind.{LeafKind}
-use Rattle.jfr_value.specs.declared.leaf.LeafKind.TheVariants as leaf_kinds
 use Rattle.jfr_value.specs.Values.{Value, Single, Group, key_of, own_target, IsBase, IsSingle, Fits}
 use Rattle.jfr_value.proofs.StringLaws.{is_exact}
 use Rattle.jfr_chunk.specs.Parts.{Parts}
 use Rattle.jfr_chunk.specs.Paths.{content_in}
-use Rattle.jfr_rewrite.specs.Changed.{Change, KeepsFit, IsReadChanged, Plain, changed, plain, single_of}
+use Rattle.jfr_rewrite.specs.Changed.{KeepsFit, IsReadChanged, Plain, plain, single_of}
 use Rattle.jfr_rewrite.specs.Paths.{Retargets, with_key}
 use Rattle.jfr_rewrite.proofs.ChangeLaws.{read_changed}
 use Rattle.jfr_mask.specs.Fields.{is_text}
