@@ -17,7 +17,8 @@ use Rattle.jfr_scrub.specs.Scrubs.{scrubbed, scrubbed_by}
 use Rattle.jfr_scrub.proofs.AgainLaws.{is_scrubbed}
 use Rattle.jfr_verify.specs.Laws.{IsKeptPassed, Passes}
 use Rattle.jfr_verify.specs.Receipts.{receipt_of}
-use Rattle.jfr_receipt.specs.Receipting.{IsReceipted, receipt_by, scrub_receipt}
+use Rattle.jfr_verify.specs.Verdicts.{receipt_by}
+use Rattle.jfr_receipt.specs.Receipting.{IsReceipted, scrub_receipt}
 
 -- The parts of the scrub of a chunk.
 pub scrub_read : (p : Parts) (g : Given) (k : IsKept (describes g) p (kept_of g p)) → read_parts (scrub_of (describes g) p (kept_of g p)) ≡ Ok k.parts

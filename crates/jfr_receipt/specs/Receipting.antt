@@ -1,20 +1,15 @@
 -- The receipts of a recording.
-use Rattle.std.specs.Prelude.{◌≡◌, ℕ, List, [], Result, Ok, Err}
-use Rattle.jfr_base.specs.declared.flaw.Flaw.{Flaw}
+use Rattle.std.specs.Prelude.{◌≡◌, ℕ, List, Option}
 use Rattle.jfr_filter.specs.Filters.{Given}
 use Rattle.jfr_plan.specs.Rules.{Rule}
 use Rattle.jfr_plan.specs.Makes.{making}
 use Rattle.jfr_chunk.specs.Parts.{Parts, AreParts}
 use Rattle.jfr_chunk.specs.Chosen.{kept_of}
 use Rattle.jfr_chunk.specs.Refusal.{read_parts, refusal_of}
+use Rattle.jfr_output.specs.Recordings.{recording_output}
 use Rattle.jfr_scrub.specs.Scrubs.{scrubbed}
 use Rattle.jfr_verify.specs.Laws.{Passes}
-use Rattle.jfr_verify.specs.Receipts.{receipt_of}
-
--- The receipt of a chunk with these parts; empty for a chunk that is refused.
-abbrev pub receipt_by : Result Parts Flaw → List ℕ
-receipt_by (Ok q) = receipt_of q
-receipt_by (Err flaw) = []
+use Rattle.jfr_verify.specs.Verdicts.{receipt_by}
 
 -- The receipt of a chunk's scrub with this filter; empty for a chunk that is refused.
 unfoldable pub scrub_receipt : Given → List ℕ → List ℕ
@@ -24,6 +19,14 @@ scrub_receipt g c = receipt_by (read_parts (scrubbed g c))
 -- finished.
 abbrev pub receipting : Given → List ℕ → Rule
 receipting g receipt = making receipt refusal_of (scrub_receipt g)
+
+-- The receipts of a recording's scrub: those of the chunks before the first that is refused, one after another.
+abbrev pub recording_receipts : Given → List ℕ → List ℕ
+recording_receipts g = recording_output refusal_of (scrub_receipt g)
+
+-- The filter with these patterns of classes that are described even without events.
+abbrev pub describing : Option (List (List ℕ)) → Given → Given
+describing patterns g = record g { describe = patterns }
 
 -- The chunk c and its scrub pass the checks of `verify` with the receipt r.
 pub record IsReceipted (g : Given) (c r : List ℕ) : Type 0 where
