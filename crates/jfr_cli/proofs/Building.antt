@@ -42,6 +42,7 @@ module _ (text output t o : List ℕ) (a b : State) (s : SinkState) (is_text : t
             (λ w v. left_build (file_name text) (file_name output) a.steady (command_end e) w v (snapshot w None) (snapshot v None));
         counts = lifted (command_end e) a b s ran.counts;
         sink = refl;
+        text = tt;
         place = tt;
         wrote = λ is. renamed (λ x y. IfKnown a.contents b.contents (streams.Builds x y)) (wrote is);
         can_read = λ can. (ran.can_read can).0;

@@ -64,6 +64,7 @@ module _ (g : Given) (input output receipt : List ℕ) (a b : State) (s z : Sink
         (λ x y k h. (verdicts.Verified n, h, record { end = refl; holds = stand_kept x y z.written z.written k refl ∙ ap (snapshot x) w.0 }));
     counts = (tt, (counts.reads, counts.writes, w.1, counts.same));
     sink = tt;
+    text = tt;
     place = tt;
     wrote = λ e. by_told a.contents all;
     can_read = λ can. (λ h. cc);
@@ -79,6 +80,7 @@ module _ (g : Given) (input output receipt : List ℕ) (a b : State) (s z : Sink
         (λ x y k h. (verdicts.Verified n, h, record { first = []; failed = Write (verified_line n); rest = []; bytes = w.0.0; parts = refl; holds = stand_kept x y z.written z.written k refl ∙ ap (snapshot x) w.0.1; cause = λ h. tt }));
     counts = (counts.reads, counts.writes, w.1, counts.same);
     sink = tt;
+    text = tt;
     place = tt;
     wrote = λ e. cc;
     can_read = λ can. (λ h. cc);
@@ -88,6 +90,7 @@ module _ (g : Given) (input output receipt : List ℕ) (a b : State) (s z : Sink
     leaves = leaves_by (λ w. Unit {0}) (λ w v. WorkOutcome a.steady work RanOut w v) (all_known a.contents) (λ x y k h. stand_kept x y s.written z.written k w.0);
     counts = (counts.reads, counts.writes, w.1, counts.same);
     sink = tt;
+    text = tt;
     place = tt;
     wrote = λ e. cc;
     can_read = λ can. (λ h. cc);
@@ -112,6 +115,7 @@ module _ (g : Given) (input output receipt : List ℕ) (a b : State) (s : SinkSt
         (λ x y k h. (verdicts.Refused r, h, record { end = refl; holds = stand_kept x y s.written s.written k refl }));
     counts = (tt, (counts.reads, counts.writes, refl, counts.same));
     sink = tt;
+    text = refl;
     place = tt;
     wrote = λ e. cc;
     can_read = λ can. (λ h. cc);
@@ -126,6 +130,7 @@ module _ (g : Given) (input output receipt : List ℕ) (a b : State) (s : SinkSt
         (λ x y k h. (stand_kept x y s.written s.written k refl, h));
     counts = (counts.reads, counts.writes, refl, counts.same);
     sink = tt;
+    text = refl;
     place = tt;
     wrote = λ e. cc;
     can_read = λ can. (λ h. has_all g input output receipt a b s s kept verdicts.ReadFault lacks can refl);
@@ -143,6 +148,7 @@ module _ (g : Given) (input output receipt : List ℕ) (a b : State) (s : SinkSt
         (λ x y k h. stand_kept x y s.written s.written k refl);
     counts = (counts.reads, counts.writes, refl, counts.same);
     sink = tt;
+    text = tt;
     place = tt;
     wrote = λ e. cc;
     can_read = λ can. (λ h. cc);

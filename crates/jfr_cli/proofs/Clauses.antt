@@ -30,14 +30,14 @@ use Rattle.jfr_build.specs.declared.reason.BuildReason.{BuildReason}
 use Rattle.jfr_build.specs.Builds.{Build, build_of}
 use Rattle.jfr_build.specs.Streams as streams
 use Rattle.jfr_build.specs.Streams.{IsRefusedText, building, plan_by}
-use Rattle.jfr_cli.specs.Works.{Work, Over, Joins, Planned, Checks, Builds, Plans, StopsAs, work_of, verdict_plan, target_of, text_on, IsAfterWork, KeepsSink, KeepsPlace, CanReadAll, CanCreateFor}
+use Rattle.jfr_cli.specs.Works.{Work, Over, Joins, Planned, Checks, Builds, Plans, StopsAs, work_of, verdict_plan, target_of, text_on, IfFilesKnown, IsAfterWork, KeepsSink, KeepsPlace, CanReadAll, CanCreateFor}
 use Rattle.jfr_cli.specs.declared.answer.Answer.{Answer}
 use Rattle.jfr_cli.specs.declared.answer.Answer.TheVariants as answer_kinds
 use Rattle.jfr_cli.specs.Answers.{status_of, line_of, answer_status, answer_line, doubt_line, unbuilt_line, usage_line, read_line, write_line, memory_line, parts_line, IsAnswered, Fully, IsLineWritten, IsMemoryLineWritten}
 use Rattle.jfr_cli.specs.Answers as answers
 use Rattle.jfr_cli.proofs.Leaving.{known_by}
 use Rattle.jfr_cli.proofs.Counting.{none_rose, tallied_once, text_leaves, place_passed, sink_passed, writes_stay}
-use Rattle.jfr_cli.specs.Runs.{Carries, Obeys, NoOrder, NotRead, CarriedOut, Under, Ended, Halted, Broken, IsPartlyDone, Prefix, Whole, Met, Torn, CarriesTo, CountsOnce, Doubts, HasStatus, IsCheck, IsDoubted, IsUnbuilt, IsVerdictStatus, Unbuilds, ByEnd, ByMemory, status_of_end, status_of_verdict, IsRefused}
+use Rattle.jfr_cli.specs.Runs.{Carries, Obeys, NoOrder, NotRead, CarriedOut, Under, Ended, Halted, Broken, IsPartlyDone, Prefix, Whole, Met, Torn, CarriesTo, CountsOnce, Doubts, HasStatus, KeepsText, Partly, IsCheck, IsDoubted, IsUnbuilt, IsVerdictStatus, Unbuilds, ByEnd, ByMemory, status_of_end, status_of_verdict, IsRefused}
 use Rattle.jfr_cli.specs.Runs as runs
 
 -- The state after an ending, if memory ran out for its line.
@@ -51,18 +51,21 @@ partly k Memory a b l t = Prefix l
 
 -- Nothing is done.
 unchanged : (k : Work) (a : Outside) → IsPartlyDone k a a
-unchanged k a = Prefix (none a.place.contents k)
+unchanged k a = Prefix (by_work k)
   where
     nothing : (es : List Effect) (s : Snapshot) → SomeDone es s s
     nothing es s = record { first = []; rest = es; parts = refl; holds = refl }
 
-    none : (t : Option World) (k : Work) → IfKnown t t (λ w v. StopsAs k w (snapshot w (text_on (target_of k) a.sink)) (snapshot v (text_on (target_of k) a.sink)))
-    none None k = tt
-    none (Some w) (Over r input) = nothing (effects (plan_in r input w).steps) (snapshot w (text_on r.target a.sink))
-    none (Some w) (Joins folder output) = nothing (effects (assembling folder output w.files).steps) (snapshot w None)
-    none (Some w) (Planned p) = nothing (effects p.steps) (snapshot w a.sink.written)
-    none (Some w) (Checks g input output receipt) = refl
-    none (Some w) (Builds text output) = nothing (effects (building output (file w text)).steps) (snapshot w None)
+    same : (t : Option World) (P : World → World → Type 0) → ((w : World) → P w w) → IfKnown t t P
+    same None P h = tt
+    same (Some w) P h = h w
+
+    by_work : (k : Work) → Partly k a a
+    by_work (Over r input) = same a.place.contents (λ w v. StopsAs (Over r input) w (snapshot w (text_on r.target a.sink)) (snapshot v (text_on r.target a.sink))) (λ w. nothing (effects (plan_in r input w).steps) (snapshot w (text_on r.target a.sink)))
+    by_work (Joins folder output) = same a.place.contents (λ w v. StopsAs (Joins folder output) w (snapshot w None) (snapshot v None)) (λ w. nothing (effects (assembling folder output w.files).steps) (snapshot w None))
+    by_work (Planned p) = λ w. nothing (effects p.steps) (snapshot w a.sink.written)
+    by_work (Checks g input output receipt) = same a.place.contents (λ w v. snapshot v a.sink.written ≡ snapshot w a.sink.written) (λ w. refl)
+    by_work (Builds text output) = same a.place.contents (λ w v. StopsAs (Builds text output) w (snapshot w None) (snapshot v None)) (λ w. nothing (effects (building output (file w text)).steps) (snapshot w None))
 
 -- A doubt changes nothing.
 doubt_partly : (k : Work) (chunk : ℕ) (doubt : Doubt) (a b : Outside) → Doubts k chunk doubt a b → IsPartlyDone k a b
@@ -154,6 +157,18 @@ from_told None s P Q h f = tt
 from_told (Some w) None P Q h f = absurd h
 from_told (Some w) (Some v) P Q h f = f w v h
 
+from_files : (k : Work) (a b : Outside) (P : World → World → Snapshot → Snapshot → Type 0) (Q : World → Type 0) → IfFilesKnown k a b P
+    → ((w v : World) → P w v (snapshot w (text_on (target_of k) a.sink)) (snapshot v (text_on (target_of k) b.sink)) → Q w) → IfSome a.place.contents Q
+from_files (Over r input) a b P Q h f = from_told a.place.contents b.place.contents (λ w v. P w v (snapshot w (text_on r.target a.sink)) (snapshot v (text_on r.target b.sink))) Q h f
+from_files (Joins folder output) a b P Q h f = from_told a.place.contents b.place.contents (λ w v. P w v (snapshot w None) (snapshot v None)) Q h f
+from_files (Checks g input output receipt) a b P Q h f = from_told a.place.contents b.place.contents (λ w v. P w v (snapshot w a.sink.written) (snapshot v b.sink.written)) Q h f
+from_files (Builds text output) a b P Q h f = from_told a.place.contents b.place.contents (λ w v. P w v (snapshot w None) (snapshot v None)) Q h f
+from_files (Planned p) a b P Q h f = by_told a.place.contents
+  where
+    by_told : (t : Option World) → IfSome t Q
+    by_told None = tt
+    by_told (Some w) = f w w (h w)
+
 -- The status of a verdict whose plan has this end.
 verdict_end : (x : Verdict) (e : End) → (verdict_plan x).end ≡ Some e → status_of_verdict x ≡ status_of_end e
 verdict_end (verdicts.Verified n) Fine h = refl
@@ -182,7 +197,7 @@ built_end text output w r x p h = by_build (option_map build_of (file w text)) r
 
 -- The ending is the plan's, and its status is answered.
 planned : (k : Work) (a b : Outside) (r : ℕ) (x : End) → r ≡ status_of_end x → Ended k x a b → IfSome a.place.contents (HasStatus k r)
-planned k a b r x p h = from_told a.place.contents b.place.contents (λ w v. Plans k w (λ q. AllDone q x (snapshot w (text_on (target_of k) a.sink)) (snapshot v (text_on (target_of k) b.sink)))) (HasStatus k r) h (λ w v. by_work k w (snapshot w (text_on (target_of k) a.sink)) (snapshot v (text_on (target_of k) b.sink)))
+planned k a b r x p h = from_files k a b (λ w v s t. Plans k w (λ q. AllDone q x s t)) (HasStatus k r) h (λ w v. by_work k w (snapshot w (text_on (target_of k) a.sink)) (snapshot v (text_on (target_of k) b.sink)))
   where
     by_work : (k : Work) (w : World) (s t : Snapshot) → Plans k w (λ q. AllDone q x s t) → HasStatus k r w
     by_work (Over rule input) w s t d = ByEnd x d.end p
@@ -567,6 +582,16 @@ module _ {ws : List (List ℕ)} {r : ℕ} {a b : Outside} {e f : SinkState} wher
   place_told (Unread s t) o is = keeps_place (work_of o) a.place b.place (ap (λ (z : Outside). z.place) s)
   place_told (Carried p known end c t) o is = subst (λ z. KeepsPlace (work_of z) a.place b.place) (order_same ws p o known is) c.place
   place_told (Stayed p known x d j t) o is = subst (λ z. KeepsPlace (work_of z) a.place b.place) (order_same ws p o known is) j.place
+
+  -- A check with status 2 or 3 writes no text.
+  pub text_told : Answers ws r a b e f → (r ≡ 2) ⊎ (r ≡ 3) → (g : Given) (i o p : List ℕ) → order_of ws ≡ Some (orders.Verify g i o p) → b.sink ≡ a.sink
+  text_told x (inl h) g i o p is =
+      let k = obeyed x 2 h (λ z. omega (arith, z)) (λ z. omega (arith, z)) (omega arith) in
+      let d = refused_status k.end k.status_is in
+      subst (λ z. KeepsText (work_of z) (Refused d.0) a.sink b.sink) (order_same ws k.order (orders.Verify g i o p) k.is is) (subst (λ z. KeepsText (work_of k.order) z a.sink b.sink) d.1 k.carries.text)
+  text_told x (inr h) g i o p is =
+      let k = obeyed x 3 h (λ z. omega (arith, z)) (λ z. omega (arith, z)) (omega arith) in
+      subst (λ z. KeepsText (work_of z) ReadFault a.sink b.sink) (order_same ws k.order (orders.Verify g i o p) k.is is) (subst (λ z. KeepsText (work_of k.order) z a.sink b.sink) (read_status k.end k.status_is) k.carries.text)
 
   -- What an order wrote that ended as its plan does.
   wrote_told : Answers ws r a b e f → (r ≡ 0) ⊎ (r ≡ 2) → (k : Order) → order_of ws ≡ Some k → (end : Ending) × IsByPlan end × runs.Wrote k end a.place b.place

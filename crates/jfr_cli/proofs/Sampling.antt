@@ -25,23 +25,18 @@ module _ (seed events : ℕ) (a : State) (s z : SinkState) where
   abbrev Leaving : CommandEnd → Type 0
   Leaving ended = IsAfterWork (work_of (Sample seed events)) ended (outside a s) (outside a z)
 
-  -- What a way leaves of the plan, where nothing changed but the text.
-  leaves_so : (ended : CommandEnd) (t : Option World) → ((w : World) → WorkOutcome a.steady (Planned plan) ended w w (snapshot w s.written) (snapshot w z.written)) → IfKnown t t (λ w v. WorkOutcome a.steady (Planned plan) ended w v (snapshot w s.written) (snapshot v z.written))
-  leaves_so ended None h = tt
-  leaves_so ended (Some w) h = h w
-
   carries : (e : Ending) → e ≢ ReadFault → Leaving (command_end e) → Tallied Text (command_end e) (outside a s) (outside a z) → Carries (Sample seed events) e (outside a s) (outside a z)
-  carries e n l t = record { leaves = l; counts = t; sink = tt; place = refl; wrote = tt; can_read = λ can. n; can_create = λ can. absurd can }
+  carries e n l t = record { leaves = l; counts = t; sink = tt; text = tt; place = refl; wrote = tt; can_read = λ can. n; can_create = λ can. absurd can }
 
   abbrev text : List ℕ
   text = encode_utf8_all (sampled seed events)
 
   -- The text was written, or a part of it, or nothing.
   pub carries_sample : (e : Ending) → IsWritten text e s z → Carries (Sample seed events) e (outside a s) (outside a z)
-  carries_sample Done w = carries Done (λ h. cc) (leaves_so (Ends Fine) a.contents (λ v. record { end = refl; holds = ap (snapshot v) w.0 })) (tt, (refl, refl, w.1, refl))
+  carries_sample Done w = carries Done (λ h. cc) (λ v. record { end = refl; holds = ap (snapshot v) w.0 }) (tt, (refl, refl, w.1, refl))
   carries_sample WriteFault w =
-      carries WriteFault (λ h. cc) (leaves_so NotWritten a.contents (λ v. record { first = []; failed = Write text; rest = []; bytes = w.0.0; parts = refl; holds = ap (snapshot v) w.0.1; cause = λ h. tt })) (refl, refl, w.1, refl)
-  carries_sample Memory w = carries Memory (λ h. cc) (leaves_so RanOut a.contents (λ v. record { first = []; rest = effects plan.steps; parts = refl; holds = ap (snapshot v) w.0 })) (refl, refl, w.1, refl)
+      carries WriteFault (λ h. cc) (λ v. record { first = []; failed = Write text; rest = []; bytes = w.0.0; parts = refl; holds = ap (snapshot v) w.0.1; cause = λ h. tt }) (refl, refl, w.1, refl)
+  carries_sample Memory w = carries Memory (λ h. cc) (λ v. record { first = []; rest = effects plan.steps; parts = refl; holds = ap (snapshot v) w.0 }) (refl, refl, w.1, refl)
   carries_sample (Refused r) w = absurd w
   carries_sample ReadFault w = absurd w
   carries_sample TooManyParts w = absurd w

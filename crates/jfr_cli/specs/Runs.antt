@@ -84,11 +84,18 @@ pub record Unbuilds (k : Work) (line : ℕ) (reason : BuildReason) (a b : Outsid
   pub sink : b.sink ≡ a.sink
   pub counts : Counted Unchanged Unchanged Unchanged a b
 
+-- A check writes text only if it ends well, or tries to.
+abbrev pub KeepsText : Work → Ending → SinkState → SinkState → Type 0
+KeepsText (Checks g input output receipt) (ending.Refused refusal) a b = b ≡ a
+KeepsText (Checks g input output receipt) ending.ReadFault a b = b ≡ a
+KeepsText _ e a b = ⊤
+
 -- The state and the counts of faults after an order, for each ending.
 pub record Carries (o : Order) (e : Ending) (a b : Outside) : Type 0 where
   pub leaves : IsAfterWork (work_of o) (command_end e) a b
   pub counts : Tallied (target_of (work_of o)) (command_end e) a b
   pub sink : KeepsSink (target_of (work_of o)) a.sink b.sink
+  pub text : KeepsText (work_of o) e a.sink b.sink
   pub place : KeepsPlace (work_of o) a.place b.place
   pub wrote : Wrote o e a.place b.place
   pub can_read : CanReadAll (work_of o) a.place → e ≢ ending.ReadFault

@@ -110,8 +110,10 @@ text_on Text s = s.written
 text_on File s = None
 text_on Parts s = None
 
--- A claim about the states before and after the work, if the files of the place are known.
+-- A claim about the states before and after the work, if the files of the place are known. Work that reads no
+-- file does the same to the text whatever the files are.
 abbrev pub IfFilesKnown : Work → Outside → Outside → (World → World → Snapshot → Snapshot → Type 0) → Type 0
+IfFilesKnown (Planned p) a b P = (w : World) → P w w (snapshot w a.sink.written) (snapshot w b.sink.written)
 IfFilesKnown k a b P = IfKnown a.place.contents b.place.contents (λ w v. P w v (snapshot w (text_on (target_of k) a.sink)) (snapshot v (text_on (target_of k) b.sink)))
 
 -- The state after the work, for each way in which it ended.

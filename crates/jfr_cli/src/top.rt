@@ -138,8 +138,10 @@ pub fn run<P: Place, O: Sink, E: Sink>(
     ensures can_read { (o : Order) → order_of words.now ≡ Some o → CanReadAll (work_of o) (P.state place.old) → (result ≢ 3) × ((P.state place.new).read_faults ≡ (P.state place.old).read_faults) }
     ensures can_create { (o : Order) → order_of words.now ≡ Some o → CanCreateFor o (P.state place.old) → (result ≢ 4) × ((P.state place.new).write_faults ≡ (P.state place.old).write_faults) }
 
-    // An order that writes files leaves the output sink unchanged; one that reads no file leaves the place unchanged.
+    // An order that writes files leaves the output sink unchanged, as a check does if a chunk is refused or a read
+    // failed; one that reads no file leaves the place unchanged.
     ensures out { (o : Order) → order_of words.now ≡ Some o → KeepsSink (target_of (work_of o)) (O.state out.old) (O.state out.new) }
+    ensures check_out { (result ≡ 2) ⊎ (result ≡ 3) → (g : Given) (input output receipt : List ℕ) → order_of words.now ≡ Some (orders.Verify g input output receipt) → O.state out.new ≡ O.state out.old }
     ensures place { (o : Order) → order_of words.now ≡ Some o → KeepsPlace (work_of o) (P.state place.old) (P.state place.new) }
     ensures same { (P.state place.new).steady ≡ (P.state place.old).steady }
 {

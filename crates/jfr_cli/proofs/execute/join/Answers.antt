@@ -22,6 +22,7 @@ returns g c =
       leaves = join_leaves (file_name c.args.folder.now) (file_name c.args.output.now) (command_end c.assemble.result) p q ran.contents;
       counts = lifted (command_end c.assemble.result) p q (g.O.Sink.state c.args._out.now) ran.counts;
       sink = refl;
+      text = tt;
       place = tt;
       wrote = tt;
       can_read = λ can. (ran.can_read can).0;

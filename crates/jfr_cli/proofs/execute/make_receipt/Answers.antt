@@ -23,6 +23,7 @@ returns g c =
       leaves = over_leaves (receipting c.args.filter.now (file_name c.args.files.now.output.now)) (file_name c.args.files.now.input.now) (command_end c.receipt_stream.result) p q None None ran.contents;
       counts = lifted (command_end c.receipt_stream.result) p q (g.O.Sink.state c.args._out.now) ran.counts;
       sink = refl;
+      text = tt;
       place = tt;
       wrote = tt;
       can_read = λ can. (ran.can_read can).0;

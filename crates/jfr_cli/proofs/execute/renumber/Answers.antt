@@ -26,6 +26,7 @@ returns g c =
       leaves = over_leaves (renumbering c.args.filter.now (file_name c.args.files.now.output.now)) (file_name c.args.files.now.input.now) (command_end c.renumber_stream.result) p q None None ran.contents;
       counts = lifted (command_end c.renumber_stream.result) p q (g.O.Sink.state c.args._out.now) ran.counts;
       sink = refl;
+      text = tt;
       place = tt;
       wrote =
           subst (λ z. IsByPlan c.renumber_stream.result → IfKnown p.contents q.contents (Renumbers c.args.filter.now z (file_name c.args.files.now.output.now))) input

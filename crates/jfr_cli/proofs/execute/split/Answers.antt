@@ -22,6 +22,7 @@ returns g c =
       leaves = over_leaves (splitting rule (file_name c.args.file.now)) (file_name c.args.file.now) (command_end c.disassemble.result) p q None None ran.contents;
       counts = lifted_parts (command_end c.disassemble.result) p q (g.O.Sink.state c.args._out.now) ran.counts;
       sink = refl;
+      text = tt;
       place = tt;
       wrote = tt;
       can_read = λ can. (ran.can_read can).0;

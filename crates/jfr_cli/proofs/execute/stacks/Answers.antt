@@ -17,6 +17,7 @@ returns g c =
       leaves = over_leaves (folding c.args.filter.now) (file_name c.args.file.now) (command_end c.stacks_stream.result) a.place b.place a.sink.written b.sink.written ran.contents;
       counts = ran.counts;
       sink = tt;
+      text = tt;
       place = tt;
       wrote = tt;
       can_read = λ can. (ran.can_read can).0;

@@ -5,7 +5,7 @@ use Rattle.jfr_scrub.proofs.AgreementLaws as scrubs
 use Rattle.jfr_renumber.proofs.HeadlineLaws.{is_output}
 use Rattle.jfr_renumber.proofs.AgreementLaws as renumbers
 use Rattle.jfr_receipt.proofs.ReceiptLaws.{is_receipted}
-use Rattle.jfr_cli.proofs.Clauses.{Answers, answers_by, only_parts, text_writes, usage_told, usage_only, untouched, headline_told, done_told, refused_told, halted_told, broken_told, parts_told, memory_told, memory_line_written, statuses, no_read_passed, no_write_passed, no_text_passed, one_count, complete, can_read, can_create, sink_told, place_told, same_told, doubted_told, renumbered_told, verified_told, scrubs_told, built_told, unbuilt_told}
+use Rattle.jfr_cli.proofs.Clauses.{Answers, answers_by, only_parts, text_writes, usage_told, usage_only, untouched, headline_told, done_told, refused_told, halted_told, broken_told, parts_told, memory_told, memory_line_written, statuses, no_read_passed, no_write_passed, no_text_passed, one_count, complete, can_read, can_create, sink_told, text_told, place_told, same_told, doubted_told, renumbered_told, verified_told, scrubs_told, built_told, unbuilt_told}
 use Rattle.jfr_cli.proofs.top.run.Given.{Over}
 use Rattle.jfr_cli.proofs.top.run.Goals as goal
 
@@ -131,6 +131,9 @@ returns-clause-can_create g c = can_create (answered g c)
 
 pub returns-clause-out : goal.returns-clause-out
 returns-clause-out g c = sink_told (answered g c)
+
+pub returns-clause-check_out : goal.returns-clause-check_out
+returns-clause-check_out g c = text_told (answered g c)
 
 pub returns-clause-place : goal.returns-clause-place
 returns-clause-place g c = place_told (answered g c)
