@@ -5,6 +5,8 @@ use Rattle.std.specs.Option.{option_map_or}
 use Rattle.std.proofs.Common.{ap, refl, sym, ◌∙◌}
 use Rattle.jfr_base.specs.Integer.{spell}
 use Rattle.jfr_frame.specs.Records.{record_end}
+use Rattle.jfr_header.specs.declared.header.Header.{Header}
+use Rattle.jfr_header.specs.Headers.{header_bytes}
 use Rattle.jfr_value.specs.declared.leaf.Holder.{Holder}
 use Rattle.jfr_value.specs.Values.{bytes_of}
 use Rattle.jfr_value.specs.Nodes.{NodeAt}
@@ -244,7 +246,7 @@ module _ (m : Masking) (g : List ℕ → List ℕ) (ex : IsExchange m.known g) (
         ap (λ z. header_with q.bytes (68 + length z) (last_at None ws) (moved ws (metadata_at q.bytes)) ++ z) i.bytes
         ∙ (ap (λ z. header_with q.bytes (68 + length b) z (moved ws (metadata_at q.bytes)) ++ b) i.last
         ∙ (ap (λ z. header_with q.bytes (68 + length b) l z ++ b) i.position
-        ∙ ap (λ z. z ++ b) (sym (alike.header (68 + length b) l position))))
+        ∙ ap (λ (h : Header). header_bytes (record h { size = 68 + length b; pools = l; metadata = position }) ++ b) (sym alike.header)))
 
   -- Chunks that differ only in masked texts become equal.
   pub masked_equal : (d : List (List ℕ)) → mask_of m (map g d) q others ≡ mask_of m d p kept

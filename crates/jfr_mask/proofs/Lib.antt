@@ -1,16 +1,16 @@
-pub mod AllReached
-pub mod EqualOutputs
-pub mod ExchangeLaws
+mod ChunkRows
+mod EqualOutputs
+mod ExchangeLaws
 pub mod FieldLaws
-pub mod HeadlineLaws
+mod HeadlineLaws
 pub mod KnownLaws
 pub mod MapLaws
-pub mod MaskLaws
+mod MaskLaws
 pub mod NumberLaws
-pub mod OneToOnes
-pub mod ReachBut
-pub mod Remains
+mod OneToOnes
+mod ReachBut
+mod Remains
 mod Rows
-pub mod SecrecyLaws
+mod SecrecyLaws
 pub mod ShownLaws
-pub mod TextLaws
+mod TextLaws

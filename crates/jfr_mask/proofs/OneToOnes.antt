@@ -1,9 +1,8 @@
 -- Lists whose members correspond one to one, in order.
 use Rattle.std.specs.Prelude.{◌≡◌, ℕ, suc, List, [], ◌∷◌, ◌++◌, map, length}
 use Rattle.std.specs.List.{flat_map}
-use Rattle.std.proofs.Common.{ap, refl, sym, ◌∙◌, subst, inl, inr}
+use Rattle.std.proofs.Common.{ap, refl, sym, ◌∙◌}
 use Rattle.std.proofs.lemmas.List.{map-append}
-use Rattle.jfr_worklist.specs.Members.{In}
 use Rattle.jfr_rewrite.specs.Rewritten.{OneToOne}
 
 pub flat_map_alike : {A B X : Type 0} (R : A → B → Type 0) (f : A → List X) (h : B → List X) → ((x : A) (y : B) → R x y → h y ≡ f x) → (xs : List A) (ys : List B) → OneToOne R xs ys → flat_map h ys ≡ flat_map f xs
@@ -25,15 +24,3 @@ same_length R [] [] a = refl
 same_length R [] (y ∷ ys) a = absurd a
 same_length R (x ∷ xs) [] a = absurd a
 same_length R (x ∷ xs) (y ∷ ys) a = ap suc (same_length R xs ys a.1)
-
--- What corresponds to a member.
-pub record Partner {A B : Type 0} (R : A → B → Type 0) (ys : List B) (x : A) : Type 0 where
-  pub other : B
-  pub is_there : In ys other
-  pub related : R x other
-
-pub partner : {A B : Type 0} (R : A → B → Type 0) (xs : List A) (ys : List B) → OneToOne R xs ys → (x : A) → In xs x → Partner R ys x
-partner R [] ys a x i = absurd i
-partner R (z ∷ xs) [] a x i = absurd a
-partner R (z ∷ xs) (y ∷ ys) a x (inl h) = record { other = y; is_there = inl refl; related = subst (λ u. R u y) h a.0 }
-partner R (z ∷ xs) (y ∷ ys) a x (inr i) = let r = partner R xs ys a.1 x i in record { other = r.other; is_there = inr r.is_there; related = r.related }

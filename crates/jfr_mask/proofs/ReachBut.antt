@@ -23,11 +23,11 @@ use Rattle.jfr_chunk.specs.Reach.{Reached}
 use Rattle.jfr_chunk.proofs.PathLaws.{HasNodes}
 use Rattle.jfr_rewrite.specs.Changed.{changed, plain, single_of}
 use Rattle.jfr_rewrite.specs.Paths as paths
-use Rattle.jfr_rewrite.specs.Paths.{Held, MarksMet, Met, Stops, held_after, leads_but, node_after, target_but}
+use Rattle.jfr_rewrite.specs.Paths.{Held, MarksMet, MarksOnlyMet, Met, Stops, held_after, leads_but, node_after, target_but}
 use Rattle.jfr_rewrite.proofs.ChangeLaws.{stepped, changed_part}
-use Rattle.jfr_mask.specs.ReachBut.{ReachedBut, unkeyed, targets_but, node_targets_but, roots_but, next_but, marks_but}
+use Rattle.jfr_mask.specs.ReachBut.{unkeyed, targets_but, node_targets_but, roots_but, next_but, marks_but}
 
-pub some_to : {A B : Type 0} (R : A → B → Type 0) (x : Option A) (y : Option B) (a : A) → Both R x y → x ≡ Some a → (b : B) × (y ≡ Some b) × R a b
+some_to : {A B : Type 0} (R : A → B → Type 0) (x : Option A) (y : Option B) (a : A) → Both R x y → x ≡ Some a → (b : B) × (y ≡ Some b) × R a b
 some_to R None None a r e = cc
 some_to R (Some c) (Some b) a r e = let h : c ≡ a = cc in (b, refl, subst (λ z. R z b) h r)
 some_to R None (Some c) a r e = absurd r
@@ -67,6 +67,12 @@ own_unkeyed stops h (Group s head vs) = by_stop (stops h (Group s head vs))
     by_stop : (t : Bool) → none ≡ (if t then none else none)
     by_stop true = refl
     by_stop false = refl
+
+-- An entry with this number is in force for a class and a key that are met.
+record ReachedBut (stops : Stops) (p : Parts) (kept : List EventAt) (number : ℕ) : Type 0 where
+  key : ℕ × ℕ
+  met : Met stops p kept key
+  in_force : number_in_force p.entries key ≡ Some number
 
 module _ (stops : Stops) (p : Parts) where
   -- A path that goes no further where Follow stops is a path.
@@ -125,7 +131,7 @@ module _ (stops : Stops) (p : Parts) where
       by_step (Some m) h = h (held_after n st m)
 
   -- What is reached so is reached.
-  pub reached_too : (kept : List EventAt) (n : ℕ) → ReachedBut stops p kept n → Reached p kept n
+  reached_too : (kept : List EventAt) (n : ℕ) → ReachedBut stops p kept n → Reached p kept n
   reached_too kept n r = record {
     event = r.met.event;
     is_kept = r.met.is_kept;
@@ -306,12 +312,18 @@ module _ (stops : Stops) (p : Parts) where
             in_force = t.2;
           }
 
-      -- An entry is marked exactly if it is reached so.
-      pub marked_exactly : (n : ℕ) → ReachedBut stops p kept n ↔ IsMarked (marks_but stops p kept) n
+      marked_exactly : (n : ℕ) → ReachedBut stops p kept n ↔ IsMarked (marks_but stops p kept) n
       unfolding marks_but
       marked_exactly n =
           let marks = marks_reach (length p.entries) (next_but stops p) (roots_but stops p kept) (below event_targets) (λ j. below (entry_targets j)) n in
           ((λ r. marks.1 (found r.key r.met n r.in_force)), (λ m. reach_but (marks.0 m)))
 
+      -- The marked entries are exactly those that are met, so each is reached.
       pub marks_met : MarksMet stops p kept (marks_but stops p kept)
       marks_met t m n f = (marked_exactly n).0 (record { key = t; met = m; in_force = f })
+
+      pub only_met : MarksOnlyMet stops p kept (marks_but stops p kept)
+      only_met n m = let r = (marked_exactly n).1 m in (r.key, r.met, r.in_force)
+
+      pub marks_reached : (n : ℕ) → IsMarked (marks_but stops p kept) n → Reached p kept n
+      marks_reached n m = reached_too kept n ((marked_exactly n).1 m)

@@ -17,11 +17,15 @@ IsAccepted m d p kept = IsRewritten (rewrite_of m (dictionary_after m d p kept) 
 abbrev pub MeansTheSame : Masking → List (List ℕ) → Parts → Parts → List EventAt → Type 0
 MeansTheSame m d p q kept = OneToOne (MeansChanged (masks_in m (dictionary_after m d p kept) p) (stops_in m p) p q) kept (events_of q)
 
+-- Each entry of a chunk is reached from its events.
+abbrev pub AllReached : Parts → Type 0
+AllReached p = (number : ℕ) → number < length p.entries → Reached p (events_of p) number
+
 -- The masked chunk is accepted, its events mean the same, and each of its entries is reached from them.
 pub record IsMasked (m : Masking) (d : List (List ℕ)) (p : Parts) (kept : List EventAt) : Type 0 where
   pub accepted : IsAccepted m d p kept
   pub meaning : MeansTheSame m d p accepted.parts kept
-  pub reached : (number : ℕ) → number < length accepted.parts.entries → Reached accepted.parts (events_of accepted.parts) number
+  pub reached : AllReached accepted.parts
 
 -- Each chunk of a recording is accepted, and its masked chunk is below 2^30 bytes.
 abbrev pub AllFit : Masking → List (List ℕ) → List Chosen → Type 0

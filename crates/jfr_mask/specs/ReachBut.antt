@@ -1,6 +1,6 @@
--- The entries that the kept events reach by paths that go no further where Follow stops, such as at masked strings: by
--- paths of any length, and the same by a computation.
-use Rattle.std.specs.Prelude.{◌≡◌, ℕ, Bool, false, List, [], length, replicate, slice_get, Option, None, Some, if◌then◌else◌}
+-- The entries that the kept events reach by paths that go no further where Follow stops, such as at masked strings, by
+-- a computation. `MarksMet` and `MarksOnlyMet` of jfr_rewrite say the same by paths of any length.
+use Rattle.std.specs.Prelude.{ℕ, Bool, false, List, [], length, replicate, slice_get, Option, None, if◌then◌else◌}
 use Rattle.std.specs.List.{flat_map}
 use Rattle.std.specs.Option.{option_map_or}
 use Rattle.jfr_worklist.specs.Marks.{those, marked_at, swept}
@@ -12,14 +12,7 @@ use Rattle.jfr_pool.specs.Entries.{number_in_force, entry_node}
 use Rattle.jfr_chunk.specs.Parts.{Parts, EventAt}
 use Rattle.jfr_chunk.specs.Reach.{marked}
 use Rattle.jfr_rewrite.specs.Changed.{Change, changed, plain, single_of}
-use Rattle.jfr_rewrite.specs.Paths.{Met, Stops}
-
--- Such a path from a kept event leads to a node that refers to a class and a key, and the entry in force for them has
--- this number.
-pub record ReachedBut (stops : Stops) (p : Parts) (kept : List EventAt) (number : ℕ) : Type 0 where
-  pub key : ℕ × ℕ
-  pub met : Met stops p kept key
-  pub in_force : number_in_force p.entries key ≡ Some number
+use Rattle.jfr_rewrite.specs.Paths.{Stops}
 
 -- A value without parts, without its key if Follow stops there.
 abbrev pub unkeyed : Stops → Change

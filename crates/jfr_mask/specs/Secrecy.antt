@@ -10,8 +10,9 @@ use Rattle.jfr_pool.specs.declared.link.Link.{Link}
 use Rattle.jfr_pool.specs.declared.entry.EntryAt.{EntryAt}
 use Rattle.jfr_pool.specs.Entries.{entry_node}
 use Rattle.jfr_chunk.specs.Parts.{Parts, EventAt, metadata_at}
-use Rattle.jfr_chunk.specs.Scrub.{OutputRecord, header_with, record_of}
+use Rattle.jfr_chunk.specs.Scrub.{OutputRecord, record_of}
 use Rattle.jfr_chunk.specs.Written as chunk_written
+use Rattle.jfr_laws.specs.Told.{told_header}
 use Rattle.jfr_rewrite.specs.Rewritten.{OneToOne}
 use Rattle.jfr_mask.specs.Masked.{is_masked_string, string_text}
 use Rattle.jfr_mask.specs.MaskOf.{Chosen, Event, Masking, Metadata, Piece, Pools, entries_left, events_kept, is_masked_in, piece_of, records_out}
@@ -105,7 +106,7 @@ pub record AlikeRecord (m : Masking) (g : List ℕ → List ℕ) (p q : Parts) (
 -- strings.
 pub record AlikeChunk (m : Masking) (g : List ℕ → List ℕ) (p q : Parts) (kept others : List EventAt) : Type 0 where
   pub classes : p.classes ≡ q.classes
-  pub header : (size pools metadata : ℕ) → header_with p.bytes size pools metadata ≡ header_with q.bytes size pools metadata
+  pub header : told_header p.bytes ≡ told_header q.bytes
   pub records : OneToOne (AlikeRecord m g p q kept others) (records_out m p kept) (records_out m q others)
 
 -- Two recordings: such chunks, one to one.

@@ -1,5 +1,5 @@
 //! Laws of masked values, chunks and recordings. The functions do nothing; their contracts are the laws.
-ghost use Rattle.std.specs.Prelude.{◌≡◌, ◌↔◌, ℕ, ◌<◌, ◌^◌, Bool, true, List, [], length, map, Option, None, Some};
+ghost use Rattle.std.specs.Prelude.{◌≡◌, ℕ, ◌<◌, ◌^◌, Bool, true, List, [], length, map, Option, None, Some};
 ghost use lib.Utf8.{scalars};
 ghost use Rattle.jfr_header.specs.Fronts.{Whole};
 ghost use Rattle.jfr_layout.specs.Classes.{Sound};
@@ -15,12 +15,12 @@ ghost use Rattle.jfr_chunk.specs.Parts.{AreParts, EventAt, Parts};
 ghost use Rattle.jfr_chunk.specs.Paths.{text_of};
 ghost use Rattle.jfr_chunk.specs.Reach.{Reached, kept_by};
 ghost use Rattle.jfr_rewrite.specs.Changed.{IsReadChanged, changed};
-ghost use Rattle.jfr_rewrite.specs.Paths.{Stops};
-ghost use Rattle.jfr_mask.specs.Headline.{AllFit, AllMasked, IsAccepted, IsMasked, MeansTheSame};
+ghost use Rattle.jfr_rewrite.specs.Paths.{MarksMet, MarksOnlyMet, Stops};
+ghost use Rattle.jfr_mask.specs.Headline.{AllFit, AllMasked, AllReached, IsAccepted, IsMasked, MeansTheSame};
 ghost use Rattle.jfr_mask.specs.MaskOf.{Chosen, Masking, dictionary_after, mask_all, mask_of};
 ghost use Rattle.jfr_mask.specs.Masked.{masking, own_text, string_bytes, string_text};
 ghost use Rattle.jfr_mask.specs.Pseudonyms.{shown};
-ghost use Rattle.jfr_mask.specs.ReachBut.{ReachedBut, marks_but};
+ghost use Rattle.jfr_mask.specs.ReachBut.{marks_but};
 ghost use Rattle.jfr_mask.specs.Secrecy.{AlikeAll, AlikeChunk, AlikeValue, IsExchange};
 
 use jfr_rewrite::{
@@ -39,10 +39,12 @@ pub fn masked_values_are_read()
 {}
 
 /// The entries that remain are exactly those in force that a kept event reaches by a path that goes no further where
-/// Follow stops, as it does at masked strings. So each is reached from the kept events (`reached`).
-#[tactic(auto, using(crate::proofs::Remains::remains_exactly, crate::proofs::Remains::remains_reached))]
+/// Follow stops, as it does at masked strings: all of these (`met`), and only these (`only`). So each is reached from the
+/// kept events (`reached`).
+#[tactic(auto, using(crate::proofs::Remains::remains_met, crate::proofs::Remains::only_remains_met, crate::proofs::Remains::remains_reached))]
 pub fn what_remains_is_reached()
-    ensures exact { (stops : Stops) (p : Parts) (kept : List EventAt) → AreParts p → AreEvents p kept → (number : ℕ) → ReachedBut stops p kept number ↔ IsMarked (marks_but stops p kept) number }
+    ensures met { (stops : Stops) (p : Parts) (kept : List EventAt) → AreParts p → AreEvents p kept → MarksMet stops p kept (marks_but stops p kept) }
+    ensures only { (stops : Stops) (p : Parts) (kept : List EventAt) → AreParts p → AreEvents p kept → MarksOnlyMet stops p kept (marks_but stops p kept) }
     ensures reached { (stops : Stops) (p : Parts) (kept : List EventAt) → AreParts p → AreEvents p kept → (number : ℕ) → IsMarked (marks_but stops p kept) number → Reached p kept number }
 {}
 
@@ -56,10 +58,12 @@ pub fn masked_chunks_are_accepted()
     rewritten_chunks_are_accepted();
 }
 
-/// The events of the masked chunk mean the same as the kept ones, except for the masked strings.
+/// The events of the masked chunk mean the same as the kept ones, except for the masked strings (`paths`), and each of
+/// its entries is reached from them (`reached`).
 #[tactic(auto)]
 pub fn masked_chunks_mean_the_same()
-    ensures { (m : Masking) (d : List (List ℕ)) (p : Parts) (flags : List Bool) → AreParts p → (accepted : IsAccepted m d p (kept_by p flags)) → MeansTheSame m d p accepted.parts (kept_by p flags) }
+    ensures paths { (m : Masking) (d : List (List ℕ)) (p : Parts) (flags : List Bool) → AreParts p → (accepted : IsAccepted m d p (kept_by p flags)) → MeansTheSame m d p accepted.parts (kept_by p flags) }
+    ensures reached { (m : Masking) (d : List (List ℕ)) (p : Parts) (flags : List Bool) → AreParts p → (accepted : IsAccepted m d p (kept_by p flags)) → AllReached accepted.parts }
 {
     paths_lead_to_changed_leaves();
 }
