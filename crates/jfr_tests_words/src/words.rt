@@ -395,6 +395,14 @@ fn see_line(rt: &impl Abort, alloc: Global, line: &[&str], asked: &Asked) -> Res
     Ok(())
 }
 
+// Whether an order has a filter with these options and this window.
+fn has_filter(order: &Order, options: &[Side], from: Option<i64>, to: Option<i64>) -> bool {
+    match filter_of(order) {
+        Some(filter) => has_sides(filter, options) && has_window(filter, from, to),
+        None => false,
+    }
+}
+
 // Whether a line was read as an order with these options and this window.
 fn is_windowed(
     read: Result<Order, WordsFault>,
@@ -402,12 +410,9 @@ fn is_windowed(
     from: Option<i64>,
     to: Option<i64>,
 ) -> bool {
-    let Ok(order) = read else {
-        return false;
-    };
-    match filter_of(&order) {
-        Some(filter) => has_sides(filter, options) && has_window(filter, from, to),
-        None => false,
+    match read {
+        Ok(order) => has_filter(&order, options, from, to),
+        Err(_) => false,
     }
 }
 
