@@ -54,7 +54,7 @@ keeps_meaning new k v sound f =
       fits = g;
       shape = rekeyed_shape new v;
       read = subst (λ z. Exactly (value_format k z) (bytes_of (rekeyed new v)) (rekeyed new v)) (rekeyed_shape new v) (fits_good k (rekeyed new v) sound g);
-      leaves = λ at to. rekeyed_leaves new k v at to f;
+      leaves = λ holder at to. rekeyed_leaves new k v holder at to f;
       refers = rekeyed_targets new v;
       short = rekeyed_short new k v f;
     }

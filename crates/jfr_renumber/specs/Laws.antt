@@ -1,8 +1,9 @@
 -- What holds of values with new keys, and of chunks whose events and entries have new keys.
-use Rattle.std.specs.Prelude.{◌≡◌, ◌≤◌, ℕ, List, [], ◌∷◌, length, map, slice_range, Contains, ⊤}
+use Rattle.std.specs.Prelude.{◌≡◌, ◌≤◌, ℕ, List, [], ◌∷◌, length, map, slice_range, Contains, Option, ⊤}
 use Rattle.jfr_base.specs.Formats.{Exactly}
 use Rattle.jfr_layout.specs.Classes.{Classes, Agree}
 use Rattle.jfr_frame.specs.Records.{record_end}
+use Rattle.jfr_value.specs.declared.leaf.Holder.{Holder}
 use Rattle.jfr_value.specs.Values.{Value, shape_of, bytes_of, targets_of, Fits}
 use Rattle.jfr_value.specs.Reading.{value_format}
 use Rattle.jfr_value.specs.Nodes.{node_bytes}
@@ -18,7 +19,7 @@ pub record KeepsMeaning (new : ℕ × ℕ → ℕ) (k : Classes) (v : Value) : T
   pub fits : Fits k (rekeyed new v)
   pub shape : shape_of (rekeyed new v) ≡ shape_of v
   pub read : Exactly (value_format k (shape_of v)) (bytes_of (rekeyed new v)) (rekeyed new v)
-  pub leaves : (at new_at : ℕ) → map content (leaves_at new_at (rekeyed new v)) ≡ map (rekeyed_leaf new) (leaves_at at v)
+  pub leaves : (holder : Option Holder) (at new_at : ℕ) → map content (leaves_at holder new_at (rekeyed new v)) ≡ map (rekeyed_leaf new) (leaves_at holder at v)
   pub refers : targets_of (rekeyed new v) ≡ map (rekeyed_pair new) (targets_of v)
   pub short : ((t : ℕ × ℕ) → Contains (targets_of v) t → new t ≤ t.1) → length (bytes_of (rekeyed new v)) ≤ length (bytes_of v)
 

@@ -13,8 +13,7 @@ use jfr_chunk::Chunk;
 use jfr_layout::Shape;
 use jfr_output::pool_len;
 use jfr_pool::{EntryAt, Link};
-use jfr_value::{Node, Steps};
-use std::sync::ledger::Ledger;
+use jfr_value::Node;
 
 /// A chained checkpoint of the output: the checkpoint that it comes from, its delta in the output, and those of
 /// its entries that are in the output.
@@ -26,12 +25,11 @@ pub(crate) struct OutputCheckpoint<'e> {
 }
 
 // Appends an entry: its new key, and its value with new keys.
-fn put_entry<N: NewKeys, L: Ledger>(
+fn put_entry<N: NewKeys>(
     out: &mut Vec<u8>,
     chunk: &Chunk<'_>,
     entry: &EntryAt,
     new: &N,
-    steps: &mut Steps<L>,
 ) -> Result<(), NoMemory>
     requires holds { IsEntryIn chunk.now.bytes chunk.now.classes entry.now }
     ensures ok { OnOk result (out.new.items ≡ out.old.items ++ entry_bytes (N.keys new.now) chunk.now entry.now) }
@@ -44,33 +42,31 @@ fn put_entry<N: NewKeys, L: Ledger>(
         end: entry.end,
     };
     put_integer(out, new.new_key(entry.class, entry.key))?;
-    put_value(out, chunk.classes(), node, new, steps)
+    put_value(out, chunk.classes(), node, new)
 }
 
 // Appends the entries of a pool.
-fn put_entries<N: NewKeys, L: Ledger>(
+fn put_entries<N: NewKeys>(
     out: &mut Vec<u8>,
     chunk: &Chunk<'_>,
     entries: &[EntryAt],
     new: &N,
-    steps: &mut Steps<L>,
 ) -> Result<(), NoMemory>
     requires valid { AllByRecursion (IsEntryIn chunk.now.bytes chunk.now.classes) entries.now }
     ensures ok { OnOk result (out.new.items ≡ out.old.items ++ flat_map (entry_bytes (N.keys new.now) chunk.now) entries.now) }
 {
     for entry in entries {
-        put_entry(out, chunk, entry, new, steps)?;
+        put_entry(out, chunk, entry, new)?;
     }
     Ok(())
 }
 
 // Appends the pools of a checkpoint that have one of these entries.
-fn put_pools<N: NewKeys, L: Ledger>(
+fn put_pools<N: NewKeys>(
     out: &mut Vec<u8>,
     chunk: &Chunk<'_>,
     entries: &[EntryAt],
     new: &N,
-    steps: &mut Steps<L>,
 ) -> Result<(), NoMemory>
     requires valid { AllByRecursion (IsEntryIn chunk.now.bytes chunk.now.classes) entries.now }
     ensures ok { OnOk result (out.new.items ≡ out.old.items ++ flat_map (group_bytes (N.keys new.now) chunk.now) (by_pool entries.now)) }
@@ -80,7 +76,7 @@ fn put_pools<N: NewKeys, L: Ledger>(
         let (pool, others) = rest.split_at(pool_len(first, rest));
         put_integer(out, first.class)?;
         put_integer(out, pool.len() as u64)?;
-        put_entries(out, chunk, pool, new, steps)?;
+        put_entries(out, chunk, pool, new)?;
         rest = others;
     }
     Ok(())
@@ -88,12 +84,11 @@ fn put_pools<N: NewKeys, L: Ledger>(
 
 /// Appends a checkpoint with its delta and its entries. Its size takes the same number of bytes
 /// as before.
-pub(crate) fn put_checkpoint<N: NewKeys, L: Ledger>(
+pub(crate) fn put_checkpoint<N: NewKeys>(
     out: &mut Vec<u8>,
     chunk: &Chunk<'_>,
     checkpoint: OutputCheckpoint<'_>,
     new: &N,
-    steps: &mut Steps<L>,
 ) -> Result<(), NoMemory>
     requires link { IsLinkIn chunk.now.bytes checkpoint.link }
     requires valid { AllByRecursion (IsEntryIn chunk.now.bytes chunk.now.classes) checkpoint.entries.now }
@@ -108,7 +103,7 @@ pub(crate) fn put_checkpoint<N: NewKeys, L: Ledger>(
     put_integer(out, checkpoint.delta)?;
     out.extend_from_slice(&bytes[link.delta_end..link.delta_end + 1])?;
     put_integer(out, pool_count(checkpoint.entries) as u64)?;
-    put_pools(out, chunk, checkpoint.entries, new, steps)?;
+    put_pools(out, chunk, checkpoint.entries, new)?;
     put_size(out, from, frame.type_at - frame.at);
     Ok(())
 }

@@ -9,9 +9,8 @@ use crate::same::{is_zero, text_end};
 use jfr_base::{NoMemory, Var, read_within};
 use jfr_layout::{Classes, FieldLayout, Form};
 use jfr_text::{KEY_BYTE, is_key};
-use jfr_value::{Node, Steps, end_of};
+use jfr_value::{Node, end_of};
 use std::alloc::AllocError;
-use std::sync::ledger::Ledger;
 
 /// What stays the same while the fields of a value are written with new keys.
 pub(crate) struct RekeyContext<'a, N> {
@@ -43,12 +42,11 @@ pub(crate) struct Passed {
 
 /// Passes the field with this layout.
 #[inline(always)]
-pub(crate) fn pass_field<N: NewKeys, L: Ledger>(
+pub(crate) fn pass_field<N: NewKeys>(
     out: &mut Vec<u8>,
     context: RekeyContext<'_, N>,
     layout: &FieldLayout,
     passed: &mut Passed,
-    steps: &mut Steps<L>,
 ) -> Result<(), NoMemory>
     requires field { FieldFollows context layout.now passed.old }
     ensures ok { OnOk result (IsPassed N.keys context.entry layout.now out.old.items passed.old out.new.items passed.new) }
@@ -64,7 +62,7 @@ pub(crate) fn pass_field<N: NewKeys, L: Ledger>(
         }
         Form::Key => pass_key(out, context, layout, passed),
         Form::Text => pass_text(out, context, layout, passed),
-        Form::Array | Form::Fields => pass_parts(out, context, layout, passed, steps),
+        Form::Array | Form::Fields => pass_parts(out, context, layout, passed),
     }
 }
 
@@ -121,17 +119,16 @@ fn pass_text<N: NewKeys>(
 
 // Passes the field with this layout leaf by leaf.
 #[inline(always)]
-fn pass_parts<N: NewKeys, L: Ledger>(
+fn pass_parts<N: NewKeys>(
     out: &mut Vec<u8>,
     context: RekeyContext<'_, N>,
     layout: &FieldLayout,
     passed: &mut Passed,
-    steps: &mut Steps<L>,
 ) -> Result<(), NoMemory>
     requires field { FieldFollows context layout.now passed.old }
     ensures ok { OnOk result (IsPassed N.keys context.entry layout.now out.old.items passed.old out.new.items passed.new) }
 {
-    let end = put_parts(out, context, layout, *passed, steps)?;
+    let end = put_parts(out, context, layout, *passed)?;
     passed.at = end;
     passed.from = end;
     Ok(())
@@ -141,12 +138,11 @@ fn pass_parts<N: NewKeys, L: Ledger>(
 // This is out of line, and gets a copy of `passed`, so that the loop in `pass_fields` keeps its own in
 // registers.
 #[inline(never)]
-fn put_parts<N: NewKeys, L: Ledger>(
+fn put_parts<N: NewKeys>(
     out: &mut Vec<u8>,
     context: RekeyContext<'_, N>,
     layout: &FieldLayout,
     passed: Passed,
-    steps: &mut Steps<L>,
 ) -> Result<usize, NoMemory>
     requires field { FieldFollows context layout.now passed }
     ensures ok { IfOk result (λ end. IsPassed N.keys context.entry layout.now out.old.items passed out.new.items (record { from = end; at = end })) }
@@ -167,7 +163,7 @@ fn put_parts<N: NewKeys, L: Ledger>(
         at: passed.at,
         end,
     };
-    put_rekeyed(out, context.classes, field, context.new, steps)?;
+    put_rekeyed(out, context.classes, field, context.new)?;
     Ok(end)
 }
 

@@ -13,17 +13,15 @@ use crate::field::{Passed, RekeyContext, pass_field};
 use crate::rewriting::NewKeys;
 use jfr_base::NoMemory;
 use jfr_layout::{Classes, FieldLayout, Form, Shape};
-use jfr_value::{Node, Steps, layout_of};
-use std::sync::ledger::Ledger;
+use jfr_value::{Node, layout_of};
 
 /// Appends an inline value with new keys, as `put_rekeyed` does, but walks leaf by leaf only over those of its
 /// fields that are arrays or composite.
-pub(crate) fn put_value<N: NewKeys, L: Ledger>(
+pub(crate) fn put_value<N: NewKeys>(
     out: &mut Vec<u8>,
     classes: &Classes,
     node: Node<'_>,
     new: &N,
-    steps: &mut Steps<L>,
 ) -> Result<(), NoMemory>
     requires sound { Sound classes.now }
     requires array { node.shape.array ≡ false }
@@ -45,7 +43,6 @@ pub(crate) fn put_value<N: NewKeys, L: Ledger>(
             from: node.at,
             at: node.at,
         },
-        steps,
     )?;
     out.extend_from_slice(&node.bytes[from..node.end])?;
     Ok(())
@@ -53,12 +50,11 @@ pub(crate) fn put_value<N: NewKeys, L: Ledger>(
 
 /// Passes the inline value of this shape from `start` to `context.end`. Returns the offset of the first byte that
 /// isn't written yet; from there on the bytes stay the same.
-pub(crate) fn pass_value<N: NewKeys, L: Ledger>(
+pub(crate) fn pass_value<N: NewKeys>(
     out: &mut Vec<u8>,
     context: RekeyContext<'_, N>,
     shape: Shape,
     start: Passed,
-    steps: &mut Steps<L>,
 ) -> Result<usize, NoMemory>
     requires sound { Sound context.classes.now }
     requires from { start.from ≤ start.at }
@@ -71,9 +67,9 @@ pub(crate) fn pass_value<N: NewKeys, L: Ledger>(
     match layout.form {
         Form::Fields => {
             let layouts = context.classes.layouts(layout.class_index);
-            pass_fields(out, context, layouts, start, steps)
+            pass_fields(out, context, layouts, start)
         }
-        _ => pass_single(out, context, shape, start, steps),
+        _ => pass_single(out, context, shape, start),
     }
 }
 
@@ -81,12 +77,11 @@ pub(crate) fn pass_value<N: NewKeys, L: Ledger>(
 // caller. Other values are handled here, out of line, so that the compiler keeps the caller's variables in
 // registers.
 #[inline(never)]
-fn pass_single<N: NewKeys, L: Ledger>(
+fn pass_single<N: NewKeys>(
     out: &mut Vec<u8>,
     context: RekeyContext<'_, N>,
     shape: Shape,
     start: Passed,
-    steps: &mut Steps<L>,
 ) -> Result<usize, NoMemory>
     requires sound { Sound context.classes.now }
     requires known { IsSome (find_class context.classes.now shape.class) }
@@ -98,18 +93,17 @@ fn pass_single<N: NewKeys, L: Ledger>(
 {
     let layout = layout_of(context.classes, shape);
     let mut passed = start;
-    pass_field(out, context, &layout, &mut passed, steps)?;
+    pass_field(out, context, &layout, &mut passed)?;
     Ok(passed.from)
 }
 
 // Passes the fields with these layouts, as `pass_value` does. The first starts at `start.at`. Numbers at the end of
 // the list stay the same, and aren't walked.
-fn pass_fields<N: NewKeys, L: Ledger>(
+fn pass_fields<N: NewKeys>(
     out: &mut Vec<u8>,
     context: RekeyContext<'_, N>,
     layouts: &[FieldLayout],
     start: Passed,
-    steps: &mut Steps<L>,
 ) -> Result<usize, NoMemory>
     requires sound { Sound context.classes.now }
     requires layouts { AllByRecursion (IsFieldLayout context.classes.now) layouts.now }
@@ -121,7 +115,7 @@ fn pass_fields<N: NewKeys, L: Ledger>(
     let count = referring_len(layouts);
     let mut passed = start;
     for i in 0..count {
-        pass_field(out, context, &layouts[i], &mut passed, steps)?;
+        pass_field(out, context, &layouts[i], &mut passed)?;
     }
     Ok(passed.from)
 }

@@ -19,8 +19,6 @@ use jfr_chunk::{Chunk, Kept};
 use jfr_frame::Framed;
 use jfr_output::{Cursor, OutputRecord, delta_to, entries_of, next_output_record, output_header};
 use jfr_pool::{EntryAt, Link};
-use jfr_value::Steps;
-use std::sync::ledger::Ledger;
 
 /// What an output chunk is made from: the chunk, the new metadata record, if there is one, the entries of the
 /// output, and the new keys of all that is used.
@@ -43,11 +41,10 @@ pub(crate) struct Output {
 
 /// Writes the output chunk into `out`, which is cleared first: the kept events, the metadata record, and the
 /// checkpoints.
-pub(crate) fn put_chunk<L: Ledger>(
+pub(crate) fn put_chunk(
     mut out: Vec<u8>,
     source: Source<'_>,
     kept: &Kept,
-    steps: &mut Steps<L>,
 ) -> Result<Vec<u8>, NoMemory>
     requires slim { IsNewMetadata source.chunk.now (kept_by source.chunk.now kept.now) (option_map (λ s. s.now) source.slim) }
     requires entries { source.entries.now ≡ firsts source.chunk.now (kept_by source.chunk.now kept.now) }
@@ -62,7 +59,7 @@ pub(crate) fn put_chunk<L: Ledger>(
         newest: None,
         metadata: None,
     };
-    put_records(&mut output, source, kept, steps)?;
+    put_records(&mut output, source, kept)?;
     let Output {
         mut bytes,
         newest,
@@ -74,12 +71,7 @@ pub(crate) fn put_chunk<L: Ledger>(
 }
 
 // Writes all output records.
-fn put_records<L: Ledger>(
-    output: &mut Output,
-    source: Source<'_>,
-    kept: &Kept,
-    steps: &mut Steps<L>,
-) -> Result<(), NoMemory>
+fn put_records(output: &mut Output, source: Source<'_>, kept: &Kept) -> Result<(), NoMemory>
     requires empty { progress_of output.old ≡ record { bytes = replicate 68 0; newest = None; metadata = None } }
     requires slim { IsNewMetadata source.chunk.now (kept_by source.chunk.now kept.now) (option_map (λ s. s.now) source.slim) }
     requires entries { source.entries.now ≡ firsts source.chunk.now (kept_by source.chunk.now kept.now) }
@@ -97,17 +89,16 @@ fn put_records<L: Ledger>(
         kept,
         &mut cursor,
     ) {
-        put_record(output, source, output_record, steps)?;
+        put_record(output, source, output_record)?;
     }
     Ok(())
 }
 
 // Writes an output record.
-fn put_record<L: Ledger>(
+fn put_record(
     output: &mut Output,
     source: Source<'_>,
     output_record: OutputRecord,
-    steps: &mut Steps<L>,
 ) -> Result<(), NoMemory>
     requires order { NotFalling 0 source.entries.now }
     requires below { (t : ℕ × ℕ) → number_or_zero source.keys.now t ≤ t.1 }
@@ -118,7 +109,7 @@ fn put_record<L: Ledger>(
     source.chunk.parts_are_valid();
     match output_record {
         OutputRecord::Event(number, _) => {
-            put_chunk_event(&mut output.bytes, source.chunk, number, source.keys, steps)
+            put_chunk_event(&mut output.bytes, source.chunk, number, source.keys)
         }
         OutputRecord::Metadata(frame) => put_metadata(
             output,
@@ -126,7 +117,7 @@ fn put_record<L: Ledger>(
             frame,
             source.slim,
         ),
-        OutputRecord::Chained(number, link) => { put_chained(output, source, number, link, steps) }
+        OutputRecord::Chained(number, link) => { put_chained(output, source, number, link) }
     }
 }
 
@@ -148,12 +139,11 @@ fn put_metadata(
 }
 
 // Writes a chained checkpoint.
-fn put_chained<L: Ledger>(
+fn put_chained(
     output: &mut Output,
     source: Source<'_>,
     number: usize,
     link: Link,
-    steps: &mut Steps<L>,
 ) -> Result<(), NoMemory>
     requires order { NotFalling 0 source.entries.now }
     requires before { IsBefore output.old.newest (length output.old.bytes.items) }
@@ -166,13 +156,7 @@ fn put_chained<L: Ledger>(
         delta: delta_to(output.newest, at),
         entries: entries_of(source.entries, number),
     };
-    put_checkpoint(
-        &mut output.bytes,
-        source.chunk,
-        checkpoint,
-        source.keys,
-        steps,
-    )?;
+    put_checkpoint(&mut output.bytes, source.chunk, checkpoint, source.keys)?;
     output.newest = Some(at);
     Ok(())
 }

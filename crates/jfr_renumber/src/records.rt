@@ -14,16 +14,13 @@ use crate::size::put_size;
 use jfr_base::NoMemory;
 use jfr_chunk::{Chunk, Event};
 use jfr_layout::Classes;
-use jfr_value::Steps;
-use std::sync::ledger::Ledger;
 
 /// Appends an event with new keys. Its size takes the same number of bytes as before.
-pub(crate) fn put_event<N: NewKeys, L: Ledger>(
+pub(crate) fn put_event<N: NewKeys>(
     out: &mut Vec<u8>,
     classes: &Classes,
     event: Event<'_>,
     new: &N,
-    steps: &mut Steps<L>,
 ) -> Result<(), NoMemory>
     requires sound { Sound classes.now }
     requires record { IsRecord event.node.bytes.now event.frame }
@@ -49,7 +46,7 @@ pub(crate) fn put_event<N: NewKeys, L: Ledger>(
         from: frame.at,
         at: node.at,
     };
-    let from = pass_value(out, context, node.shape, passed, steps)?;
+    let from = pass_value(out, context, node.shape, passed)?;
     out.extend_from_slice(&node.bytes[from..frame.end()])?;
     put_size(out, start, frame.type_at - frame.at);
     Ok(())
@@ -57,12 +54,11 @@ pub(crate) fn put_event<N: NewKeys, L: Ledger>(
 
 /// Appends the event of the chunk with this number, if there is one, with new keys. Its size takes the same number
 /// of bytes as before.
-pub(crate) fn put_chunk_event<N: NewKeys, L: Ledger>(
+pub(crate) fn put_chunk_event<N: NewKeys>(
     out: &mut Vec<u8>,
     chunk: &Chunk<'_>,
     number: usize,
     new: &N,
-    steps: &mut Steps<L>,
 ) -> Result<(), NoMemory>
     requires below { (t : ℕ × ℕ) → N.keys new.now t ≤ t.1 }
     ensures none { slice_get (events_of chunk.now) number ≡ None → out.new ≡ out.old }
@@ -70,7 +66,7 @@ pub(crate) fn put_chunk_event<N: NewKeys, L: Ledger>(
 {
     chunk.parts_are_valid();
     match chunk.event(number) {
-        Some(event) => put_event(out, chunk.classes(), event, new, steps),
+        Some(event) => put_event(out, chunk.classes(), event, new),
         None => Ok(()),
     }
 }

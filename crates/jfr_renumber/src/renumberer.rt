@@ -18,10 +18,8 @@ use jfr_filter::Filter;
 use jfr_output::slim_metadata;
 use jfr_path::choose;
 use jfr_reach::Marks;
-use jfr_value::Steps;
 use std::alloc::Global;
-use std::marker::{Brand, Model};
-use std::sync::ledger::{Blank, Ledger};
+use std::marker::Model;
 
 /// The output of an accepted chunk with new keys, and the new keys.
 #[derive(Drop)]
@@ -68,8 +66,19 @@ impl Renumberer {
         ensures bytes { IfOk result (λ r. r.bytes ≡ renumber_of (describes filter.now) chunk.now (kept_of filter.now chunk.now)) }
         ensures renumbered { IfOk result (λ r. IsRenumbered (describes filter.now) chunk.now (kept_of filter.now chunk.now)) }
     {
+        // For the proof: its clauses say that the chunk is whole and has parts.
+        chunk.bytes();
         let kept = choose(alloc, chunk, filter)?;
-        renumbered::<Brand>(alloc, Blank::new(1), memory, chunk, &kept, filter)
+        let marks = Marks::of(alloc, chunk, &kept)?;
+        let keys = NumberedKeys::make(alloc, chunk, &kept, &marks)?;
+        let chosen = Chosen {
+            chunk,
+            kept: &kept,
+            filter,
+            marks: &marks,
+        };
+        let bytes = put_output(alloc, memory, chosen, &keys)?;
+        Ok(Renumberer { keys, bytes })
     }
 
     /// The output chunk. Allocates nothing.
@@ -95,39 +104,6 @@ impl Renumberer {
     }
 }
 
-// The new keys, and the output with them, if these events are kept.
-fn renumbered<L: Ledger>(
-    alloc: Global,
-    blank: Blank,
-    memory: Vec<u8>,
-    chunk: &Chunk<'_>,
-    kept: &Kept,
-    filter: &Filter,
-) -> Result<Renumberer, NoMemory>
-    requires name { blank.name ≡ L.name }
-    requires parts { blank.parts ≡ L.parts }
-    requires some { 0 < blank.parts }
-    requires kept { length kept.now ≡ length (events_of chunk.now) }
-    ensures keys { IfOk result (λ r. (t : ℕ × ℕ) → number_of r.keys t ≡ new_key_of chunk.now (kept_by chunk.now kept.now) t) }
-    ensures bytes { IfOk result (λ r. r.bytes ≡ renumber_of (describes filter.now) chunk.now (kept_by chunk.now kept.now)) }
-    ensures renumbered { IfOk result (λ r. IsRenumbered (describes filter.now) chunk.now (kept_by chunk.now kept.now)) }
-{
-    // For the proof: its clauses say that the chunk is whole and has parts.
-    chunk.bytes();
-    let mut steps: Steps<L> = Steps::new(blank);
-    let mut marks = Marks::make(alloc, chunk.pools())?;
-    marks.mark(chunk, kept, &mut steps);
-    let keys = NumberedKeys::make(alloc, chunk, kept, &marks)?;
-    let chosen = Chosen {
-        chunk,
-        kept,
-        filter,
-        marks: &marks,
-    };
-    let bytes = put_output(alloc, memory, chosen, &keys, &mut steps)?;
-    Ok(Renumberer { keys, bytes })
-}
-
 // A chunk, its events that are kept, and the entries that these reach.
 #[derive(Clone, Copy)]
 struct Chosen<'c> {
@@ -138,12 +114,11 @@ struct Chosen<'c> {
 }
 
 // Writes the output with these new keys.
-fn put_output<L: Ledger>(
+fn put_output(
     alloc: Global,
     memory: Vec<u8>,
     chosen: Chosen<'_>,
     keys: &NumberedKeys,
-    steps: &mut Steps<L>,
 ) -> Result<Vec<u8>, NoMemory>
     requires kept { length chosen.kept.now ≡ length (events_of chosen.chunk.now) }
     requires size { length chosen.marks.now ≡ length chosen.chunk.now.entries }
@@ -161,5 +136,5 @@ fn put_output<L: Ledger>(
         entries: &entries,
         keys: &new,
     };
-    put_chunk(memory, source, chosen.kept, steps)
+    put_chunk(memory, source, chosen.kept)
 }

@@ -12,9 +12,8 @@ ghost use Rattle.jfr_renumber.specs.Rewriting.{KeyFollowsKind, leaf_with};
 use jfr_base::{NoMemory, read_within, write_var};
 use jfr_layout::{Classes, Kind};
 use jfr_text::{KEY_BYTE, is_key};
-use jfr_value::{Leaf, LeafKind, Leaves, Node, Steps};
+use jfr_value::{Leaf, LeafKind, Leaves, Node};
 use std::alloc::AllocError;
-use std::sync::ledger::Ledger;
 
 /// The new key of each class and key.
 pub(crate) trait NewKeys {
@@ -31,19 +30,19 @@ pub(crate) trait NewKeys {
 }
 
 /// Appends a value with new keys.
-pub(crate) fn put_rekeyed<N: NewKeys, L: Ledger>(
+pub(crate) fn put_rekeyed<N: NewKeys>(
     out: &mut Vec<u8>,
     classes: &Classes,
     node: Node<'_>,
     new: &N,
-    steps: &mut Steps<L>,
 ) -> Result<(), NoMemory>
     requires sound { Sound classes.now }
     requires value { IsValue classes.now node }
     ensures ok { OnOk result (out.new.items ≡ out.old.items ++ rekeyed_bytes (N.keys new.now) classes.now node.entry.bytes.now (node_of node.entry)) }
 {
+    // A `for` would copy the iterator, which is large.
     let mut leaves = Leaves::new(classes, node);
-    while let Some(leaf) = leaves.next_leaf(steps) {
+    while let Some(leaf) = leaves.next() {
         put_leaf(out, leaf, new)?;
     }
     Ok(())

@@ -10,11 +10,8 @@ ghost use Rattle.jfr_verify.specs.Closed.{ChecksMarks, are_marked, entries_close
 ghost use Rattle.jfr_verify.specs.Decided.{Decided};
 
 use jfr_chunk::{Chunk, Kept};
-use jfr_layout::Classes;
 use jfr_pool::Pools;
-use jfr_value::{Node, Steps, Visit, visit_targets};
-use std::marker::Brand;
-use std::sync::ledger::{Blank, Ledger};
+use jfr_value::{Visit, visit_targets};
 
 /// Marks of entries, and whether all entries that were referred to so far are marked.
 #[derive(Drop)]
@@ -52,18 +49,6 @@ pub(crate) fn is_closed(chunk: &Chunk<'_>, kept: &Kept, marks: Vec<bool>) -> boo
     requires size { length marks.items ≡ length chunk.now.entries }
     ensures { Decided (AreClosed chunk.now (kept_by chunk.now kept.now) marks.items) result }
 {
-    closed_by::<Brand>(chunk, kept, marks, Blank::new(1))
-}
-
-/// As `is_closed`, with a ledger for the steps.
-fn closed_by<L: Ledger>(chunk: &Chunk<'_>, kept: &Kept, marks: Vec<bool>, blank: Blank) -> bool
-    requires kept { length kept.now ≡ length (events_of chunk.now) }
-    requires name { blank.name ≡ L.name }
-    requires parts { blank.parts ≡ L.parts }
-    requires some { 0 < blank.parts }
-    ensures { result ≡ (events_closed chunk.now marks.items (kept_by chunk.now kept.now) && entries_closed chunk.now marks.items (length chunk.now.entries)) }
-{
-    let mut steps: Steps<L> = Steps::new(blank);
     if !events_closed(chunk, kept, &marks) {
         return false;
     }
@@ -71,7 +56,7 @@ fn closed_by<L: Ledger>(chunk: &Chunk<'_>, kept: &Kept, marks: Vec<bool>, blank:
         marks,
         closed: true,
     };
-    check_entries(&mut check, chunk, &mut steps);
+    check_entries(&mut check, chunk);
     check.closed
 }
 
@@ -114,43 +99,24 @@ fn event_closed(chunk: &Chunk<'_>, kept: &Kept, marks: &[bool], number: usize) -
 }
 
 /// Checks that all that the marked entries refer to is marked.
-fn check_entries<L: Ledger>(check: &mut ClosedCheck, chunk: &Chunk<'_>, steps: &mut Steps<L>)
+fn check_entries(check: &mut ClosedCheck, chunk: &Chunk<'_>)
     ensures { check.new.closed ≡ (check.old.closed && entries_closed chunk.now check.old.marks.items (length chunk.now.entries)) }
 {
     for number in 0..chunk.pools().len() {
-        check_entry(check, chunk, number, steps);
+        check_entry(check, chunk, number);
     }
 }
 
 /// Checks that all that entry `number` refers to is marked, if the entry is marked.
-fn check_entry<L: Ledger>(
-    check: &mut ClosedCheck,
-    chunk: &Chunk<'_>,
-    number: usize,
-    steps: &mut Steps<L>,
-)
+fn check_entry(check: &mut ClosedCheck, chunk: &Chunk<'_>, number: usize)
     ensures { ChecksMarks (marked_refs chunk.now check.old.marks.items number) check.old check.new }
 {
     if !is_marked(&check.marks, number) {
         return;
     }
     if let Some(node) = chunk.entry_node(number) {
-        check_node(check, chunk.classes(), chunk.pools(), node, steps);
+        visit_targets(chunk.classes(), node, check, chunk.pools());
     }
-}
-
-/// Checks that the entries in force to which a node refers are marked.
-fn check_node<L: Ledger>(
-    check: &mut ClosedCheck,
-    classes: &Classes,
-    pools: &Pools,
-    node: Node<'_>,
-    steps: &mut Steps<L>,
-)
-    requires value { IsValue classes.now node }
-    ensures { ChecksMarks (node_entries pools.now classes.now node.entry.bytes.now (node_of node.entry)) check.old check.new }
-{
-    visit_targets(classes, node, check, pools, steps);
 }
 
 /// Whether the entries with these numbers are marked.

@@ -13,12 +13,9 @@ use crate::Parent;
 use crate::claims::Claims;
 use jfr_base::NoMemory;
 use jfr_chunk::Chunk;
-use jfr_layout::Classes;
 use jfr_pool::Pools;
-use jfr_value::{Node, Steps, Visit, visit_targets};
+use jfr_value::{Visit, visit_targets};
 use std::alloc::Global;
-use std::marker::Brand;
-use std::sync::ledger::{Blank, Ledger};
 
 impl Visit<Pools> for Claims {
     ghost use Rattle.std.specs.Prelude.{◌≡◌, [], ◌∷◌, length};
@@ -50,27 +47,10 @@ pub(crate) fn are_confirmed(
     requires size { length parents.items ≡ length chunk.now.entries }
     ensures { IfOk result (Decided (AreConfirmed chunk.now parents.items)) }
 {
-    confirm_all::<Brand>(alloc, chunk, parents, Blank::new(1))
-}
-
-/// As `are_confirmed`, with a ledger for the steps.
-fn confirm_all<L: Ledger>(
-    alloc: Global,
-    chunk: &Chunk<'_>,
-    parents: Vec<Parent>,
-    blank: Blank,
-) -> Result<bool, NoMemory>
-    requires size { length parents.items ≡ length chunk.now.entries }
-    requires name { blank.name ≡ L.name }
-    requires parts { blank.parts ≡ L.parts }
-    requires some { 0 < blank.parts }
-    ensures { IfOk result (Decided (AreConfirmed chunk.now parents.items)) }
-{
     let claimed = claimed_events(alloc, &parents, chunk.event_count())?;
     let mut claims = Claims::new(alloc, parents)?;
-    let mut steps: Steps<L> = Steps::new(blank);
     confirm_events(&mut claims, chunk, &claimed);
-    confirm_entries(&mut claims, chunk, &mut steps);
+    confirm_entries(&mut claims, chunk);
     Ok(all_set(&claims.confirmed))
 }
 
@@ -142,44 +122,24 @@ fn confirm_each(claims: &mut Claims, entries: &[u32])
 }
 
 /// Confirms the claims that name an entry as parent, if it refers to the claiming entry.
-fn confirm_entries<L: Ledger>(claims: &mut Claims, chunk: &Chunk<'_>, steps: &mut Steps<L>)
+fn confirm_entries(claims: &mut Claims, chunk: &Chunk<'_>)
     requires size { length claims.old.confirmed.items ≡ length chunk.now.entries }
     ensures { ConfirmsEntries chunk.now (length chunk.now.entries) claims.old claims.new }
 {
     for number in 0..chunk.pools().len() {
-        confirm_entry(claims, chunk, number, steps);
+        confirm_entry(claims, chunk, number);
     }
 }
 
 /// Confirms the claims that name entry `number` as parent, if it refers to the claiming entry.
-fn confirm_entry<L: Ledger>(
-    claims: &mut Claims,
-    chunk: &Chunk<'_>,
-    number: usize,
-    steps: &mut Steps<L>,
-)
+fn confirm_entry(claims: &mut Claims, chunk: &Chunk<'_>, number: usize)
     requires size { length claims.old.confirmed.items ≡ length chunk.now.entries }
     ensures { ConfirmsOf (kinds.OfEntry number) (next_entries chunk.now number) claims.old claims.new }
 {
     claims.parent = Parent::OfEntry(number);
     if let Some(node) = chunk.entry_node(number) {
-        confirm_node(claims, chunk.classes(), chunk.pools(), node, steps);
+        visit_targets(chunk.classes(), node, claims, chunk.pools());
     }
-}
-
-/// Confirms the claims of those entries in force to which a node refers that name the current parent.
-fn confirm_node<L: Ledger>(
-    claims: &mut Claims,
-    classes: &Classes,
-    pools: &Pools,
-    node: Node<'_>,
-    steps: &mut Steps<L>,
-)
-    requires size { length claims.old.confirmed.items ≡ length pools.now }
-    requires value { IsValue classes.now node }
-    ensures { Confirms (node_entries pools.now classes.now node.entry.bytes.now (node_of node.entry)) claims.old claims.new }
-{
-    visit_targets(classes, node, claims, pools, steps);
 }
 
 /// Whether every flag is set.

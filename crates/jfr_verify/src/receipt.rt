@@ -15,8 +15,7 @@ use crate::{Line, Parent};
 use jfr_base::{NoMemory, push_var};
 use jfr_chunk::{Chunk, Kept};
 use std::alloc::{AllocError, Global};
-use std::marker::{Brand, Model};
-use std::sync::ledger::Blank;
+use std::marker::Model;
 
 /// A receipt of a chunk. Contracts see its bytes.
 #[derive(Drop)]
@@ -46,7 +45,7 @@ impl Receipt {
 pub fn receipt_of(alloc: Global, chunk: &Chunk<'_>) -> Result<Receipt, NoMemory>
     ensures ok { IfOk result (λ receipt. receipt ≡ receipt_of chunk.now) }
 {
-    let lines = lines_in::<Brand>(alloc, chunk, Blank::new(1))?;
+    let lines = lines_in(alloc, chunk)?;
     let mut bytes = Vec::new(alloc);
     push_var(&mut bytes, lines.items.len() as u64)?;
     push_lines(&mut bytes, &lines.items)?;
@@ -59,7 +58,7 @@ pub fn receipt_of_scrub(alloc: Global, chunk: &Chunk<'_>, kept: &Kept) -> Result
     ensures ok { IfOk result (λ receipt. (names : Names) (scrub : IsKept names chunk.now (kept_by chunk.now kept.now)) → receipt ≡ receipt_of scrub.parts) }
 {
     chunk.parts_are_valid();
-    let lines = kept_lines_in::<Brand>(alloc, chunk, kept, Blank::new(1))?;
+    let lines = kept_lines_in(alloc, chunk, kept)?;
     let ranks = ranks_of(alloc, &lines.flags)?;
     let mut bytes = Vec::new(alloc);
     push_var(&mut bytes, lines.items.len() as u64)?;

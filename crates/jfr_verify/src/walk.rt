@@ -14,11 +14,9 @@ use crate::Parent;
 use crate::lines::Lines;
 use jfr_base::NoMemory;
 use jfr_chunk::{Chunk, Kept};
-use jfr_layout::Classes;
 use jfr_pool::Pools;
-use jfr_value::{Node, Steps, Visit, visit_targets};
+use jfr_value::{Visit, visit_targets};
 use std::alloc::Global;
-use std::sync::ledger::{Blank, Ledger};
 
 impl Visit<Pools> for Lines {
     ghost use Rattle.std.specs.Prelude.{◌≡◌, [], ◌∷◌, length};
@@ -41,41 +39,28 @@ impl Visit<Pools> for Lines {
 
 /// The lines of a chunk's receipt: first for what the events refer to, then, line by line, for what the
 /// entries of the lines refer to.
-pub(crate) fn lines_in<L: Ledger>(
-    alloc: Global,
-    chunk: &Chunk<'_>,
-    blank: Blank,
-) -> Result<Lines, NoMemory>
-    requires name { blank.name ≡ L.name }
-    requires parts { blank.parts ≡ L.parts }
-    requires some { 0 < blank.parts }
+pub(crate) fn lines_in(alloc: Global, chunk: &Chunk<'_>) -> Result<Lines, NoMemory>
     ensures { IfOk result (λ lines. lines.items.items ≡ lines_of chunk.now) }
 {
     let mut lines = no_lines(alloc, chunk)?;
-    let mut steps: Steps<L> = Steps::new(blank);
     add_events(&mut lines, chunk);
-    add_entries(&mut lines, chunk, &mut steps);
+    add_entries(&mut lines, chunk);
     Ok(lines)
 }
 
 /// The lines for a chunk's kept events: first for what the events refer to, then, line by line, for what the
 /// entries of the lines refer to. Events are numbered among the kept ones.
-pub(crate) fn kept_lines_in<L: Ledger>(
+pub(crate) fn kept_lines_in(
     alloc: Global,
     chunk: &Chunk<'_>,
     kept: &Kept,
-    blank: Blank,
 ) -> Result<Lines, NoMemory>
-    requires name { blank.name ≡ L.name }
-    requires parts { blank.parts ≡ L.parts }
-    requires some { 0 < blank.parts }
     ensures lines { IfOk result (λ lines. lines.items.items ≡ kept_lines chunk.now (kept_by chunk.now kept.now)) }
     ensures size { IfOk result (λ lines. length lines.flags.items ≡ length chunk.now.entries) }
 {
     let mut lines = no_lines(alloc, chunk)?;
-    let mut steps: Steps<L> = Steps::new(blank);
     add_kept_events(&mut lines, chunk, kept);
-    add_entries(&mut lines, chunk, &mut steps);
+    add_entries(&mut lines, chunk);
     Ok(lines)
 }
 
@@ -173,7 +158,7 @@ fn add_each(lines: &mut Lines, entries: &[u32])
 }
 
 /// Adds lines for what the entries of the lines refer to, line by line, the added lines included.
-fn add_entries<L: Ledger>(lines: &mut Lines, chunk: &Chunk<'_>, steps: &mut Steps<L>)
+fn add_entries(lines: &mut Lines, chunk: &Chunk<'_>)
     requires size { length lines.old.flags.items ≡ length chunk.now.entries }
     ensures lines { lines.new.items.items ≡ lines_from (length chunk.now.entries) chunk.now lines.old.flags.items lines.old.items.items }
     ensures size { length lines.new.flags.items ≡ length chunk.now.entries }
@@ -181,34 +166,19 @@ fn add_entries<L: Ledger>(lines: &mut Lines, chunk: &Chunk<'_>, steps: &mut Step
     let mut next: usize = 0;
     while next < lines.items.len() {
         let line = lines.items[next].line();
-        add_entry(lines, chunk, line.entry, steps);
+        add_entry(lines, chunk, line.entry);
         next += 1;
     }
 }
 
 /// Adds lines for what entry `number` refers to.
-fn add_entry<L: Ledger>(lines: &mut Lines, chunk: &Chunk<'_>, number: usize, steps: &mut Steps<L>)
+fn add_entry(lines: &mut Lines, chunk: &Chunk<'_>, number: usize)
     requires size { length lines.old.flags.items ≡ length chunk.now.entries }
     requires low { number < 2 ^ 31 }
     ensures { AddsOf (kinds.OfEntry number) (next_entries chunk.now number) lines.old lines.new }
 {
     lines.parent = Parent::OfEntry(number);
     if let Some(node) = chunk.entry_node(number) {
-        add_node(lines, chunk.classes(), chunk.pools(), node, steps);
+        visit_targets(chunk.classes(), node, lines, chunk.pools());
     }
-}
-
-/// Adds lines for the entries in force to which a node refers.
-fn add_node<L: Ledger>(
-    lines: &mut Lines,
-    classes: &Classes,
-    pools: &Pools,
-    node: Node<'_>,
-    steps: &mut Steps<L>,
-)
-    requires size { length lines.old.flags.items ≡ length pools.now }
-    requires value { IsValue classes.now node }
-    ensures { Adds (node_entries pools.now classes.now node.entry.bytes.now (node_of node.entry)) lines.old lines.new }
-{
-    visit_targets(classes, node, lines, pools, steps);
 }

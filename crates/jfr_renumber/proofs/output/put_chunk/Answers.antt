@@ -10,10 +10,10 @@ use Rattle.jfr_renumber.proofs.WritingLaws.{all_assembled, all_renumbered, numbe
 use Rattle.jfr_renumber.proofs.output.put_chunk.Goals as goal
 
 pub put_records-requires-clause-below : goal.put_records-requires-clause-below
-put_records-requires-clause-below g c = numbers_below c.args.source.chunk.now c.parts_are_valid.ensures.parts c.args.kept.now c.args.source.keys.now c.requires.keys
+put_records-requires-clause-below c = numbers_below c.args.source.chunk.now c.parts_are_valid.ensures.parts c.args.kept.now c.args.source.keys.now c.requires.keys
 
 pub returns : goal.returns
-returns g c =
+returns c =
     let p = c.args.source.chunk.now in
     let flags = c.args.kept.now in
     let keys = c.args.source.keys.now in

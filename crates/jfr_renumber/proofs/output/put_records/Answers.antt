@@ -12,7 +12,7 @@ use Rattle.jfr_renumber.proofs.WritingLaws.{Going, firsts_can, firsts_order, goi
 use Rattle.jfr_renumber.proofs.output.put_records.Goals as goal
 
 pub output_records-init : goal.output_records-init
-output_records-init g c =
+output_records-init c =
     let p = c.args.source.chunk.now in
     let flags = c.args.kept.now in
     let slim = option_map (λ s. s.now) c.args.source.slim in
@@ -24,10 +24,10 @@ output_records-init g c =
     }
 
 pub put_record-requires-clause-order : goal.put_record-requires-clause-order
-put_record-requires-clause-order g c = subst (NotFalling 0) (sym c.requires.entries) (firsts_order c.args.source.chunk.now c.parts_are_valid.ensures.parts c.args.kept.now)
+put_record-requires-clause-order c = subst (NotFalling 0) (sym c.requires.entries) (firsts_order c.args.source.chunk.now c.parts_are_valid.ensures.parts c.args.kept.now)
 
 pub put_record-requires-clause-can : goal.put_record-requires-clause-can
-put_record-requires-clause-can g c =
+put_record-requires-clause-can c =
     let p = c.args.source.chunk.now in
     let slim = option_map (λ s. s.now) c.args.source.slim in
     let new = number_or_zero c.args.source.keys.now in
@@ -36,7 +36,7 @@ put_record-requires-clause-can g c =
     going.can.0
 
 pub output_records-preserved : goal.output_records-preserved
-output_records-preserved g c =
+output_records-preserved c =
     let p = c.args.source.chunk.now in
     let flags = c.args.kept.now in
     let slim = option_map (λ s. s.now) c.args.source.slim in

@@ -6,14 +6,14 @@ use Rattle.jfr_verify.proofs.walk.add_entries.Goals as goal
 use Rattle.jfr_verify.proofs.ParentLaws.{get_here}
 
 pub loop-next-smaller : goal.loop-next-smaller
-loop-next-smaller g c =
+loop-next-smaller c =
     let a : vec_len c.loop-next.lines.items ≡ marked_count c.loop-next.lines.flags.items = c.loop-next.lines.each in
     let b = count_le c.loop-next.lines.flags.items in
     let s : length c.loop-next.lines.flags.items ≡ length c.args.chunk.now.entries = c.loop-next.invariant.size in
     omega arith
 
 pub loop-next-preserved : goal.loop-next-preserved
-loop-next-preserved g c =
+loop-next-preserved c =
     let a : vec_len c.loop-next.lines.items ≡ marked_count c.loop-next.lines.flags.items = c.loop-next.lines.each in
     let b = count_le c.loop-next.lines.flags.items in
     let s : length c.loop-next.lines.flags.items ≡ length c.args.chunk.now.entries = c.loop-next.invariant.size in
@@ -24,6 +24,6 @@ loop-next-preserved g c =
     c.loop-next.next c.line-line.result e h c.loop-next.invariant c.add_entry.ensures.marks c.add_entry.ensures.lines
 
 pub returns-clause-lines : goal.returns-clause-lines
-returns-clause-lines g c =
+returns-clause-lines c =
     let h : length c.loop-next.lines.items.items ≤ c.loop-next.next = omega arith in
     in_lines_ends c.args.chunk.now c.args.lines.now.flags.items c.loop-next.lines.flags.items c.args.lines.now.items.items c.loop-next.lines.items.items c.loop-next.next h c.loop-next.invariant
