@@ -262,7 +262,7 @@ def _add_looks(recipe: Callable[..., Parser]) -> None:
     left = recipe(
         "left",
         "list the strings that a recording has, or look for words in it",
-        "Each line of the file WORDS is a word; it is looked for in all strings and numbers, in the names of the"
+        "Each line of the file WORDS is a word; it is looked for in all strings and numbers, also of the"
         " metadata, and in the bytes: in any case, with . for / and $, and as URL, JSON or base64. FILE may be a pipe,"
         " or compressed by gzip. The status is 0 if none is found, 1 if one is, and 2 if that isn't known.",
         wrong_words=2,

@@ -4,9 +4,9 @@ from collections import Counter
 from itertools import zip_longest
 from typing import BinaryIO, Counter as Counts, Iterable, Iterator, List, Optional, Tuple
 
-from kijorafe.headers import NO_RECORDING, Header, headers_of
+from kijorafe.headers import NO_RECORDING, Header, checkpoints_of, headers_of
 from kijorafe.inputs import BLOCK, chunk_of
-from kijorafe.jdk import integer_at
+from kijorafe.integers import integer_at
 from kijorafe.messages import Fault
 from kijorafe.program import Class, Program, Totals
 from kijorafe.shown import file_name, in_a_row
@@ -128,25 +128,10 @@ def _part_at(chunk: str, at: int) -> Optional[str]:
         header = next(headers_of(file))
         if _is_in_record(file, header.metadata, at):
             return "the metadata"
-        is_in_checkpoint = any(_is_in_record(file, each, at) for each in _checkpoints(file, header))
+        is_in_checkpoint = any(_is_in_record(file, each, at) for each in checkpoints_of(file, header))
     return "a checkpoint" if is_in_checkpoint else None
 
 
 def _is_in_record(file: BinaryIO, start: int, at: int) -> bool:
     file.seek(start)
     return start <= at < start + integer_at(file.read(9), 0)[0]
-
-
-def _checkpoints(file: BinaryIO, header: Header) -> Iterator[int]:
-    """Where the checkpoints of a chunk that the program accepts begin, from the last one on."""
-    place = header.checkpoint
-    while True:
-        yield place
-        file.seek(place)
-        record, at = file.read(45), 0
-        for _ in ("size", "type", "start", "duration"):
-            _, at = integer_at(record, at)
-        delta, _ = integer_at(record, at)
-        if delta == 0:
-            return
-        place = (place + delta) % 2**64

@@ -4,6 +4,8 @@ import os
 import struct
 from typing import BinaryIO, Iterator, NamedTuple
 
+from kijorafe.integers import integer_at
+
 _HEADER = struct.Struct(">4s4xQQQqq20x")
 # What reading a file that isn't a recording raises.
 NO_RECORDING = ValueError, IndexError, struct.error
@@ -32,3 +34,26 @@ def headers_of(file: BinaryIO) -> Iterator[Header]:
             raise ValueError
         yield header
         at += size
+
+
+def checkpoints_of(file: BinaryIO, header: Header) -> Iterator[int]:
+    """The offsets of the checkpoints of a chunk that the program accepts, from the last one on. The file has only it."""
+    place = header.checkpoint
+    while True:
+        yield place
+        file.seek(place)
+        record, at = file.read(45), 0
+        for _ in ("size", "type", "start", "duration"):
+            _, at = integer_at(record, at)
+        delta, _ = integer_at(record, at)
+        if delta == 0:
+            return
+        place = (place + delta) % 2**64
+
+
+def record_at(file: BinaryIO, place: int) -> bytes:
+    """The record at an offset of such a chunk."""
+    file.seek(place)
+    size, _ = integer_at(file.read(9), 0)
+    file.seek(place)
+    return file.read(size)

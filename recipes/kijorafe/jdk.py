@@ -12,6 +12,7 @@ from typing import BinaryIO, Iterator, List, NamedTuple, Optional, Tuple
 
 from kijorafe.headers import NO_RECORDING, headers_of
 from kijorafe.inputs import check_input, recording_of
+from kijorafe.integers import integer_at, spelled
 from kijorafe.messages import Fault, say
 from kijorafe.shown import file_name
 from kijorafe.staging import Output
@@ -24,23 +25,6 @@ class Metadata(NamedTuple):
     number: int
     width: int
     rest: bytes
-
-
-def integer_at(data: bytes, at: int) -> Tuple[int, int]:
-    """The integer at an offset, and the offset after it."""
-    value = shift = 0
-    while True:
-        byte = data[at]
-        at += 1
-        value |= (byte if shift == 56 else byte & 127) << shift
-        if byte < 128 or shift == 56:
-            return value, at
-        shift += 7
-
-
-def spelled(value: int, width: int) -> bytes:
-    """The value as an integer of this many bytes."""
-    return bytes([value >> 7 * n & 127 | 128 for n in range(width - 1)] + [value >> 7 * (width - 1)])
 
 
 def metadata_of(file: BinaryIO) -> Iterator[Metadata]:

@@ -5,12 +5,15 @@ import re
 from collections import Counter, defaultdict
 from typing import Counter as Counts, DefaultDict, Dict, Iterator, Optional, Set, Tuple
 
+from kijorafe import genuine
 from kijorafe.inputs import readable
+from kijorafe.known import known_types
 from kijorafe.messages import Fault, say
+from kijorafe.metadata import is_of_jdk
 from kijorafe.program import Failure, Program, find
 from kijorafe.shown import file_name, quoted, shown
 from kijorafe.spellings import Search, base64_of
-from kijorafe.strings import Progress, Strings, strings_in, types_of
+from kijorafe.strings import METADATA, Progress, Strings, strings_in, types_of
 
 # The words to look for, by the number of their lines; and a find, which is the number and a place.
 Words = Dict[int, str]
@@ -43,14 +46,17 @@ def left(recording: str, file: Optional[str], is_exact: bool) -> int:
 
 def _list_strings(program: Program, recording: str) -> int:
     strings = strings_in(program, recording, set())
-    for (path, string), kinds in sorted(strings.items(), key=lambda item: (sum(item[1].values()), item[0])):
-        print(sum(kinds.values()), shown(types_of(kinds)), shown(path), quoted(string), sep="\t")
+    own = genuine.own_types(program.classes(recording))
+    types = {name for name in known_types() if name not in own}
+    in_order = sorted(strings.items(), key=lambda item: (METADATA not in item[1], sum(item[1].values()), item[0]))
+    for (path, string), kinds in in_order:
+        if set(kinds) != {METADATA} or not is_of_jdk(path, types):
+            print(sum(kinds.values()), shown(types_of(kinds)), shown(path), quoted(string), sep="\t")
     return 0
 
 
 def _find_words(program: Program, name: str, recording: str, words: Words, search: Search) -> int:
     finds = list(_in_strings(words, search, strings_in(program, recording, _numbers_in(words))))
-    finds += _in_metadata(program, words, search, recording)
     finds += _in_bytes(words, search, recording)
     for number, place in sorted(finds, key=lambda find: find[0]):
         print(f"line {number}: {shown(place)}")
@@ -94,18 +100,6 @@ def _in_strings(words: Words, search: Search, strings: Strings) -> Iterator[Find
                 places[path].update(kinds)
         for path, kinds in places.items():
             yield number, f"{types_of(kinds)} {path}, {sum(kinds.values())} times"
-
-
-def _in_metadata(program: Program, words: Words, search: Search, recording: str) -> Iterator[Find]:
-    """Looks for the words in the names of classes and fields, and in categories."""
-    names = []
-    for each in program.classes(recording):
-        names += [search.plain(name) for name in (each.name, *each.categories, *(field.name for field in each.fields))]
-    for number, word in words.items():
-        text = search.plain(word)
-        count = sum(text in name for name in names)
-        if count:
-            yield number, f"the metadata, in {count} names"
 
 
 def _in_bytes(words: Words, search: Search, recording: str) -> Iterator[Find]:

@@ -46,10 +46,11 @@ class Totals(NamedTuple):
 
 
 class Field(NamedTuple):
-    """A field of a class, and its marks."""
+    """A field of a class, its class, and its marks."""
 
     name: str
     class_name: str
+    class_id: int
     constant: bool
     array: bool
 
@@ -59,6 +60,7 @@ class Class(NamedTuple):
 
     chunk: int
     name: str
+    id: int
     super_name: Optional[str]
     categories: Tuple[str, ...]
     fields: Tuple[Field, ...]
@@ -150,9 +152,11 @@ def _types_in(summary: Dict[str, Any]) -> List[TypeTotal]:
 
 def _class_of(described: Dict[str, Any]) -> Class:
     fields = tuple(
-        Field(field["name"], field["class"], field["constant"], field["array"]) for field in described["fields"]
+        Field(field["name"], field["class"], field["class_id"], field["constant"], field["array"])
+        for field in described["fields"]
     )
-    return Class(described["chunk"], described["name"], described["super"], tuple(described["categories"]), fields)
+    categories = tuple(described["categories"])
+    return Class(described["chunk"], described["name"], described["id"], described["super"], categories, fields)
 
 
 def _end(process: "subprocess.Popen[bytes]") -> None:

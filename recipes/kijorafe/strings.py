@@ -1,29 +1,37 @@
-"""The strings of a recording, and the numbers that are looked for, and how often events lead to each."""
+"""The strings of a recording, and the numbers that are looked for; how often events lead to each, or the metadata has it."""
 
-import json
 import os
 import time
 from collections import Counter, defaultdict
-from typing import Any, Counter as Counts, DefaultDict, Dict, Iterator, List, NamedTuple, Optional, Set, Tuple, Union
+from mmap import ACCESS_READ, mmap
+from typing import BinaryIO, Counter as Counts, DefaultDict, Dict, Iterator, List, Set, Tuple
 
-from kijorafe.headers import NO_RECORDING, headers_of
+from kijorafe.headers import NO_RECORDING, Header, checkpoints_of, headers_of, record_at
 from kijorafe.inputs import chunk_of
+from kijorafe.integers import integer_at
 from kijorafe.messages import Fault, say
-from kijorafe.program import Field, Program
+from kijorafe.metadata import texts_in
+from kijorafe.program import Program
 from kijorafe.shown import file_name
+from kijorafe.values import Leaf, Reader, Reference, entries_in
 
+# How many references are followed from an event. What is further away, or isn't reached, is found by its class.
 DEPTH = 8
-STRING = "java.lang.String"
+FURTHER = f"(not within {DEPTH} references)"
+# What the texts of the metadata count as, at the name of their class.
+METADATA = "(metadata)"
+# Where there are more paths than this, a path is only that from the last constant.
+PATHS = 1_000_000
+ANY = "*"
 LARGE = 50_000_000
+HEADER_BYTES = 68
 
 Path = str
-Steps = Tuple[Union[str, int], ...]
-Reference = Tuple[str, int]
-# For each (path, string), how often events of each type lead to it.
+# For each (path, string), how often events of each type lead to it, or the metadata has it.
 Strings = DefaultDict[Tuple[Path, str], Counts[str]]
-# The fields of each class of a chunk by their names; a name that several classes have is left out.
-Fields = Dict[str, Dict[str, Field]]
-NOTHING_KNOWN: Dict[str, Field] = {}
+# How often events of a type lead to each constant by a path.
+Referred = Counts[Tuple[str, Path, Reference]]
+Constants = Dict[Reference, List[Leaf]]
 
 
 class Progress:
@@ -38,14 +46,6 @@ class Progress:
             say(f"{what}: {100 * done // self.total} %")
 
 
-class Leaf(NamedTuple):
-    """A string, a number or a reference in a value, with the path and the steps to it."""
-
-    path: Path
-    steps: Steps
-    found: Union[str, int, Reference]
-
-
 def strings_in(program: Program, recording: str, numbers: Set[int]) -> Strings:
     """The strings of a recording, and these numbers."""
     strings: Strings = defaultdict(Counter)
@@ -55,11 +55,10 @@ def strings_in(program: Program, recording: str, numbers: Set[int]) -> Strings:
             headers = list(headers_of(file))
         except NO_RECORDING as fault:
             raise Fault(2, f"{file_name(recording)} isn't a recording that jfr accepts") from fault
-        for header in headers:
-            with chunk_of(recording, header) as chunk:
-                for (kind, path, string), count in _strings_in_chunk(program, chunk, numbers).items():
-                    strings[path, string][kind] += count
-            progress.at(header.at + header.size, "strings")
+    for header in headers:
+        with chunk_of(recording, header) as chunk:
+            _add_chunk(Reader(program.classes(chunk), numbers), chunk, strings)
+        progress.at(header.at + header.size, "strings")
     return strings
 
 
@@ -69,97 +68,80 @@ def types_of(kinds: Counts[str]) -> str:
     return first if len(kinds) == 1 else f"{first} +{len(kinds) - 1}"
 
 
-def _fields_of(program: Program, chunk: str) -> Fields:
-    fields: Fields = {}
-    twice: Set[str] = set()
-    for each in program.classes(chunk):
-        these = {field.name: field for field in each.fields}
-        if fields.setdefault(each.name, these) != these:
-            twice.add(each.name)
-    return {name: these for name, these in fields.items() if name not in twice}
+def _add_chunk(reader: Reader, chunk: str, strings: Strings) -> None:
+    """Adds the strings of a chunk that the program accepts."""
+    with open(chunk, "rb") as file:
+        header = next(headers_of(file))
+        for name, text in texts_in(record_at(file, header.metadata)):
+            strings[name, text][METADATA] += 1
+        referred = _add_events(reader, file, header, strings)
+        constants: Constants = {}
+        for place in reversed(list(checkpoints_of(file, header))):
+            # The last constant with a class and a key counts.
+            constants.update(entries_in(reader, record_at(file, place)))
+    missed = set(constants)
+    for _ in range(DEPTH):
+        missed -= {reference for _, _, reference in referred}
+        referred = _add_constants(constants, referred, strings)
+    for reference in missed:
+        name = reader.classes[reference[0]].name
+        for path, found in constants[reference]:
+            if not isinstance(found, tuple):
+                strings[_joined(name, path), str(found)][FURTHER] += 0
 
 
-def _looks_like_reference(value: Dict[str, Any]) -> bool:
-    return isinstance(value.get("key"), int) and isinstance(value.get("class"), str) and len(value) <= 3
+def _add_events(reader: Reader, file: BinaryIO, header: Header, strings: Strings) -> Referred:
+    """Adds the strings that events have themselves; how often they refer to constants."""
+    referred: Referred = Counter()
+    kinds = {each.id: each.name for each in reader.classes.values() if each.is_event and each.id > 1}
+    for kind, record, at in _records(file, header):
+        if kind in kinds:
+            leaves: List[Leaf] = []
+            reader.read(kind, "", record, at, leaves.append)
+            for path, found in leaves:
+                if isinstance(found, tuple):
+                    referred[kinds[kind], path, found] += 1
+                else:
+                    strings[path, str(found)][kinds[kind]] += 1
+    return referred
 
 
-class Walk(NamedTuple):
-    """A walk over a value: the fields of the chunk's classes, and how many references the value follows."""
-
-    fields: Fields
-    depth: int
-
-    def members(self, class_name: str, value: Dict[str, Any], path: Path, steps: Steps, passed: int) -> Iterator[Leaf]:
-        """The leaves of a value of this class, after this many references."""
-        known = self.fields.get(class_name, NOTHING_KNOWN)
-        for name, member in value.items():
-            below = f"{path}.{name}" if path or passed else name
-            yield from self.leaves(known.get(name), member, below, steps + (name,), passed)
-
-    def leaves(self, field: Optional[Field], value: Any, path: Path, steps: Steps, passed: int) -> Iterator[Leaf]:
-        """The leaves of a field's value. If nothing is known of the field, what looks like a reference is one."""
-        if isinstance(value, (str, int)):
-            # The text of these has the digits of their bytes.
-            if not (field and field.class_name in ("float", "double")):
-                yield Leaf(path, steps, value)
-        elif isinstance(value, list):
-            for at, item in enumerate(value):
-                yield from self.leaves(field, item, path + "[]", steps + (at,), passed)
-        elif isinstance(value, dict):
-            # A string may be in the pool, without a mark.
-            is_reference = field.constant or field.class_name == STRING if field else _looks_like_reference(value)
-            if is_reference and _looks_like_reference(value) and (passed == self.depth or "missing" in value):
-                if "missing" not in value:
-                    yield Leaf(path, steps, (value["class"], value["key"]))
-                return
-            class_name = field.class_name if field else ""
-            yield from self.members(class_name, value, path, steps, passed + is_reference)
+def _records(file: BinaryIO, header: Header) -> Iterator[Tuple[int, bytes, int]]:
+    """The records of a chunk: the type, the bytes, and the offset in them of what comes after the type."""
+    with mmap(file.fileno(), 0, access=ACCESS_READ) as data:
+        place = HEADER_BYTES
+        while place < header.size:
+            size, _ = integer_at(data[place : place + 9], 0)
+            record = data[place : place + size]
+            _, at = integer_at(record, 0)
+            kind, at = integer_at(record, at)
+            yield kind, record, at
+            place += size
 
 
-def _strings_in_chunk(program: Program, chunk: str, numbers: Set[int]) -> Counts[Tuple[str, Path, str]]:
-    """How often events lead to each string and path from each type.
-
-    The chunk is printed twice. The short lines have the key of each constant that an event refers to; the long line
-    of an event is read only if it has a constant that wasn't met before.
-    """
-    direct: Counts[Tuple[str, Path, str]] = Counter()
-    referred: Counts[Tuple[str, Path, Reference]] = Counter()
-    constants: Dict[Reference, Counts[Tuple[Path, str]]] = {}
-    fields = _fields_of(program, chunk)
-    near, far = Walk(fields, 0), Walk(fields, DEPTH)
-    short, long = program.events(chunk, 0), program.events(chunk, DEPTH)
-    for line in short:
-        event, whole, long_line = json.loads(line), None, next(long)
-        for path, steps, found in near.members(event["type"], event["values"], "", (), 0):
+def _add_constants(constants: Constants, referred: Referred, strings: Strings) -> Referred:
+    """Adds the strings of constants that events lead to; how often they lead to those to which these refer."""
+    further: Referred = Counter()
+    is_short = True
+    for (kind, path, reference), count in referred.items():
+        if is_short and max(len(further), len(strings)) > PATHS:
+            further, is_short = _without_paths(further), False
+        path = path if is_short else ANY
+        for below, found in constants.get(reference, ()):
             if isinstance(found, tuple):
-                referred[event["type"], path, found] += 1
-                if found not in constants:
-                    whole = whole or json.loads(long_line)
-                    constants[found] = _strings_of(far, found[0], _at(whole["values"], steps), numbers)
-            elif isinstance(found, str) or found in numbers:
-                direct[event["type"], path, str(found)] += 1
-    for _ in long:
-        pass
-    for (kind, path, constant), count in referred.items():
-        for (below, string), times in constants[constant].items():
-            direct[kind, path + below, string] += count * times
-    return direct
+                further[kind, _joined(path, below) if is_short else ANY, found] += count
+            else:
+                strings[_joined(path, below), str(found)][kind] += count
+    return further
 
 
-def _at(value: Any, steps: Steps) -> Any:
-    for step in steps:
-        value = value[step]
-    return value
+def _without_paths(referred: Referred) -> Referred:
+    """The same by one path for all, so that constants that share others don't have a path for each way to them."""
+    counts: Referred = Counter()
+    for (kind, _, reference), count in referred.items():
+        counts[kind, ANY, reference] += count
+    return counts
 
 
-def _strings_of(walk: Walk, class_name: str, value: Any, numbers: Set[int]) -> Counts[Tuple[Path, str]]:
-    """The strings of a constant, and these numbers, by the path to them."""
-    if isinstance(value, dict):
-        leaves: List[Leaf] = list(walk.members(class_name, value, "", (), 1))
-    else:
-        leaves = list(walk.leaves(None, value, "", (), 1))
-    return Counter(
-        (leaf.path, str(leaf.found))
-        for leaf in leaves
-        if isinstance(leaf.found, str) or (isinstance(leaf.found, int) and leaf.found in numbers)
-    )
+def _joined(path: Path, below: Path) -> Path:
+    return f"{path}.{below}" if path and below else path or below

@@ -8,7 +8,7 @@ import unittest
 import xml.dom.minidom
 
 from kijorafe.explain import reasons
-from kijorafe.jdk import integer_at, spelled
+from kijorafe.integers import integer_at, spelled
 from tests.support import EVENTS, SHUTDOWN, TOP, TYPES, Case
 
 NAMES = "vendor", "strict", "tenant", "many", "check", "left", "strangers", "threads", "flame", "jdk", "explain"

@@ -15,14 +15,14 @@ def chunk_of(jdk: str, number: int = 1) -> List[Class]:
 
 def described(name: str, fields: str, number: int = 1) -> Class:
     parts: Iterable[Tuple[str, str, str]] = (field.partition(":") for field in fields.split())
-    return Class(number, name, EVENT, (), tuple(_field(field, kind) for field, _, kind in parts))
+    return Class(number, name, 100, EVENT, (), tuple(_field(field, kind) for field, _, kind in parts))
 
 
 def _field(name: str, kind: str) -> Field:
     constant = kind.endswith("*")
     kind = kind[:-1] if constant else kind
     array = kind.endswith("[]")
-    return Field(name, kind[:-2] if array else kind, constant, array)
+    return Field(name, kind[:-2] if array else kind, 7, constant, array)
 
 
 class Genuine(unittest.TestCase):

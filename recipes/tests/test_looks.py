@@ -11,6 +11,18 @@ from kijorafe.threads import ADDRESS, pattern_of
 from tests.support import EVENTS, SHUTDOWN, TYPES, Case
 
 TEXTS = "class 6 java.lang.String\nevent 8 t.A\nfield s 6 -\nfield t 6 -\n"
+# What the metadata is listed with.
+LISTED = "".join(f'1\t(metadata)\tt.A\t"{text}"\n' for text in ("s", "t", "t.A"))
+# A constant that refers to others, and an event that refers to one.
+NODES = """\
+class 6 java.lang.String
+class 9 t.Node
+field all 9 ca
+field text 6 -
+event 8 t.A
+field node 9 c
+record 8 #1
+"""
 
 
 def encoded(text: str) -> str:
@@ -54,16 +66,52 @@ class Looks(Case):
     def test_left(self) -> None:
         self.recording("a.jfr", TEXTS + 'record 8 "one\\u001b" "two"\nrecord 8 "com/shop/Order" null\n')
         run = self.recipe("left", "a.jfr")
-        self.assertEqual(run.out, '1\tt.A\ts\t"com/shop/Order"\n1\tt.A\ts\t"one\\u001b"\n1\tt.A\tt\t"two"\n')
+        expected = '1\tt.A\ts\t"com/shop/Order"\n1\tt.A\ts\t"one\\u001b"\n1\tt.A\tt\t"two"\n'
+        self.assertEqual(run.out, LISTED + expected)
         self.write("words", "com.shop.Order\nthree\nt.A\n")
         run = self.recipe("left", "a.jfr", "words")
         self.assert_run(run, 1, "2 of 3 words found in a.jfr")
         self.assertIn("line 1: t.A s, 1 times\n", run.out)
-        self.assertIn("line 3: the metadata, in 1 names\n", run.out)
+        self.assertIn("line 3: (metadata) t.A, 1 times\n", run.out)
         self.write("words", "three\n")
         self.assert_run(self.recipe("left", "a.jfr", "words"), 0, "0 of 1 words found")
         self.recording("b.jfr", TEXTS + 'constant 6 1 "in\\u0020the\\u0020pool"\nrecord 8 #1 null\n')
-        self.assertEqual(self.recipe("left", "b.jfr").out, '1\tt.A\ts\t"in the pool"\n')
+        self.assertEqual(self.recipe("left", "b.jfr").out, LISTED + '1\tt.A\ts\t"in the pool"\n')
+
+    def test_metadata(self) -> None:
+        self.recording("a.jfr", "region xx_YY 3600000\n" + TYPES)
+        own = [f'1\t(metadata)\t{where}\t"{text}"\n' for where, text in (
+            ("(no class)", "xx_YY"), ("farm.Own", "farm.Own"), ("farm.Own", "text")
+        )]
+        self.assertEqual(self.recipe("left", "a.jfr").out, "".join(own))
+        self.recording("b.jfr", TYPES.replace("field jvmUser", "field hunter2"))
+        self.assertIn('1\t(metadata)\tjdk.CPULoad\t"hunter2"\n', self.recipe("left", "b.jfr").out)
+        self.write("words", "XX_yy\nhunter2\n")
+        self.assertIn("line 1: (metadata) (no class), 1 times\n", self.recipe("left", "a.jfr", "words").out)
+        self.assertIn("line 2: (metadata) jdk.CPULoad, 1 times\n", self.recipe("left", "b.jfr", "words").out)
+
+    def test_constants_that_share_others(self) -> None:
+        nodes = [f'constant 9 {n} [100{f" #{n + 1}" * 100} "text {n}"\n'.replace("text ", "text\\u0020") for n in range(1, 12)]
+        self.recording("a.jfr", NODES + "".join(nodes))
+        out = self.recipe("left", "a.jfr").out
+        for number in range(1, 9):
+            path = "node" + (number - 1) * ".all[]" + ".text"
+            self.assertIn(f'{100 ** (number - 1)}\tt.A\t{path}\t"text {number}"\n', out)
+        for number in range(9, 12):
+            self.assertIn(f'0\t(not within 8 references)\tt.Node.text\t"text {number}"\n', out)
+        self.write("words", "TEXT 11\n")
+        run = self.recipe("left", "a.jfr", "words")
+        self.assertIn("line 1: (not within 8 references) t.Node.text, 0 times\n", run.out)
+
+    def test_many_paths(self) -> None:
+        self.replace("kijorafe.strings.PATHS", 50)
+        fields = "".join(f"field f{n} 9 c\n" for n in range(10))
+        text = NODES.replace("field all 9 ca\n", fields)
+        self.recording("a.jfr", text + f'constant 9 1{" #1" * 10} "deep"\n')
+        out = self.recipe("left", "a.jfr").out
+        self.assertIn('1\tt.A\tnode.f0.text\t"deep"\n', out)
+        self.assertRegex(out, r'\n[0-9]+\tt.A\t\*\.text\t"deep"\n')
+        self.assertEqual(sum(int(line.split()[0]) for line in out.splitlines() if "deep" in line), 11111111)
 
     def test_left_of_several_chunks(self) -> None:
         self.recording("a.jfr")
@@ -87,7 +135,16 @@ class Looks(Case):
         text = TEXTS.replace("event", own + "event", 1) + 'constant 9 1 "inside" 7\nrecord 10 "direct" 9 #1\n'
         self.recording("a.jfr", text)
         run = self.recipe("left", "a.jfr")
-        self.assertEqual(run.out, '1\tt.B\tother.class\t"inside"\n1\tt.B\tpair.class\t"direct"\n')
+        self.assertTrue(run.out.endswith('"t.Pair"\n1\tt.B\tother.class\t"inside"\n1\tt.B\tpair.class\t"direct"\n'))
+
+    def test_types_of_one_name(self) -> None:
+        own = "class 3 boolean\nclass 5 long\nclass 9 t.Same\nfield class 6 -\nfield key 5 -\nfield missing 3 -\n"
+        own += "class 10 t.Same\nfield text 6 -\nfield key 5 -\n"
+        own += "event 11 t.B\nfield one 9 -\nfield other 10 -\nevent 12 t.B\nfield one 10 c\n"
+        text = TEXTS.replace("event", own + "event", 1) + 'constant 10 7 "inside" 1\n'
+        self.recording("a.jfr", text + 'record 11 "direct" 7 true "two" 7\nrecord 12 #7\n')
+        found = [line.split("\t")[2:] for line in self.recipe("left", "a.jfr").out.splitlines() if "metadata" not in line]
+        self.assertEqual(found, [["one.class", '"direct"'], ["one.text", '"inside"'], ["other.text", '"two"']])
 
     def test_how_words_are_found(self) -> None:
         types = TEXTS + "class 5 long\nevent 9 t.N\nfield n 5 -\n"

@@ -35,8 +35,8 @@ class Data(Case):
         fake = Program("send/jfr")
         self.assertEqual(fake.summary("x"), [TypeTotal("t.A x\n9 9", 1, 5)])
         node, event = fake.classes("x")
-        self.assertEqual(node, Class(1, "t.Node", None, (), (Field("next", "t.Node", True, False),)))
-        self.assertEqual(event, Class(2, "t.A", "jdk.jfr.Event", ("a", "b"), ()))
+        self.assertEqual(node, Class(1, "t.Node", 7, None, (), (Field("next", "t.Node", 7, True, False),)))
+        self.assertEqual(event, Class(2, "t.A", 8, "jdk.jfr.Event", ("a", "b"), ()))
         self.assertTrue(event.is_event and not node.is_event)
 
     def test_a_recording(self) -> None:
@@ -44,9 +44,9 @@ class Data(Case):
         real = Program(self.program)
         self.assertEqual([each[:2] for each in real.summary("a.jfr")], [("t.A", 2)])
         classes = {each.name: each for each in real.classes("a.jfr")}
-        fields = (Field("next", "t.Node", True, False), Field("all", "t.Node", True, True))
+        fields = (Field("next", "t.Node", 36, True, False), Field("all", "t.Node", 36, True, True))
         self.assertEqual(classes["t.Node"].fields, fields)
-        self.assertEqual(classes["jdk.types.StackTrace"].fields[1], Field("frames", "long", False, True))
+        self.assertEqual(classes["jdk.types.StackTrace"].fields[1], Field("frames", "long", 5, False, True))
         self.assertEqual((classes["t.A"].chunk, classes["t.A"].is_event, classes["long"].is_event), (1, True, False))
 
     def test_failures(self) -> None:

@@ -3,3 +3,4 @@ pub mod KnownLaws
 pub mod MapLaws
 pub mod NumberLaws
 pub mod ShownLaws
+mod Rows

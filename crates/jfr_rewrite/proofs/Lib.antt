@@ -15,3 +15,4 @@ mod Rewriting
 mod Rows
 mod Sizes
 mod SpelledBack
+mod UsedLaws

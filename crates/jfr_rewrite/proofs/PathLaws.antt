@@ -58,7 +58,7 @@ module _ (p q : Parts) (ch : Change) where
         (changed_part ch n.holder r.value st ∙ ap (λ s. option_map (changed ch (stepped ch n.holder s st)) (part r.value st)) (sym r.before.shape))
 
     -- What the second refers to is what the first does, by the new key, unless Follow stops there.
-    target_paired : (n : Held) (o : NodeAt) → Paired n o → target q.classes q.bytes o ≡ option_map (with_key key) (target_but stops p n)
+    pub target_paired : (n : Held) (o : NodeAt) → Paired n o → target q.classes q.bytes o ≡ option_map (with_key key) (target_but stops p n)
     target_paired n o r =
         target_is q.classes q.bytes o (changed ch n.holder r.value) also r.now ∙ (targets n.holder r.value r.before.fits ∙ (by_stop (stops n.holder r.value) ∙ sym there))
       where

@@ -72,14 +72,22 @@ pub record Met (stops : Stops) (p : Parts) (kept : List EventAt) (t : ℕ × ℕ
   pub leads_there : leads_but stops p (root event.node) path ≡ Some node
   pub refers : target_but stops p node ≡ Some t
 
+-- A class and a key are met whose new key is this.
+abbrev pub MetBy : (ℕ × ℕ → ℕ) → Stops → Parts → List EventAt → ℕ × ℕ → Type 0
+MetBy key stops p kept u = (t : ℕ × ℕ) × Met stops p kept t × (with_key key t ≡ u)
+
 -- For each class and key that are met, the entry in force for the new key has the changed value of the entry in
 -- force, or there is none for either.
 abbrev pub MeetsChanged : Change → (ℕ × ℕ → ℕ) → Stops → Parts → Parts → List EventAt → Type 0
 MeetsChanged ch key stops p q kept = (t : ℕ × ℕ) → Met stops p kept t → Both (HasChangedValue ch p q) (in_force p.entries t) (in_force q.entries (with_key key t))
 
--- The marks of entries have each entry in force for a class and key that are met.
+-- Marked is each entry that is in force for a class and key that are met.
 abbrev pub MarksMet : Stops → Parts → List EventAt → List Bool → Type 0
 MarksMet stops p kept marks = (t : ℕ × ℕ) → Met stops p kept t → (n : ℕ) → number_in_force p.entries t ≡ Some n → IsMarked marks n
+
+-- And no other entry is marked.
+abbrev pub MarksOnlyMet : Stops → Parts → List EventAt → List Bool → Type 0
+MarksOnlyMet stops p kept marks = (n : ℕ) → IsMarked marks n → (t : ℕ × ℕ) × Met stops p kept t × (number_in_force p.entries t ≡ Some n)
 
 -- Two nodes have the same shape, and the second has the changed bytes and the changed leaves of the first.
 pub record IsChangedNode (ch : Change) (p q : Parts) (n : Held) (o : NodeAt) : Type 0 where

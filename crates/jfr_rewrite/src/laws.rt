@@ -1,5 +1,5 @@
 //! The laws. The functions do nothing; their contracts are the laws.
-ghost use Rattle.std.specs.Prelude.{◌≡◌, ℕ, ◌+◌, ◌<◌, ◌≤◌, ◌^◌, Bool, List, Option, length};
+ghost use Rattle.std.specs.Prelude.{◌≡◌, ◌↔◌, ℕ, ◌+◌, ◌<◌, ◌≤◌, ◌^◌, Bool, List, Option, length};
 ghost use Rattle.jfr_header.specs.Fronts.{Whole};
 ghost use Rattle.jfr_layout.specs.Classes.{Classes, Sound};
 ghost use Rattle.jfr_frame.specs.declared.framed.Framed.{Framed};
@@ -11,9 +11,9 @@ ghost use Rattle.jfr_worklist.specs.Marks.{IsMarked};
 ghost use Rattle.jfr_chunk.specs.Laws.{AreEvents};
 ghost use Rattle.jfr_chunk.specs.Metas.{Names, new_metadata, remaining_classes};
 ghost use Rattle.jfr_chunk.specs.Parts.{AreParts, EventAt, Parts};
-ghost use Rattle.jfr_chunk.specs.Reach.{Reached, kept_by, marked};
+ghost use Rattle.jfr_chunk.specs.Reach.{Reached, Used, kept_by, marked};
 ghost use Rattle.jfr_rewrite.specs.Changed.{Change, IsReadChanged, KeepsFit};
-ghost use Rattle.jfr_rewrite.specs.Paths.{MarksMet, MeansChanged, MeetsChanged, Retargets, Stops};
+ghost use Rattle.jfr_rewrite.specs.Paths.{MarksMet, MarksOnlyMet, MeansChanged, MeetsChanged, MetBy, Retargets, Stops};
 ghost use Rattle.jfr_rewrite.specs.Rewrite.{Rewrite, fewest_or_five, old_width, rewritten};
 ghost use Rattle.jfr_rewrite.specs.Rewritten.{Carries, CarriesAll, Describes, IsChangedEntry, IsChangedEvent, IsRewritten, OneToOne, Suits, metadata_bytes};
 
@@ -52,9 +52,12 @@ pub fn rewritten_chunks_are_accepted()
 
 /// The law of paths with changed values: if the events of two chunks correspond, and so do the entries in force
 /// that paths from them meet, each path leads to a node from the first and to the changed node from the second, or
-/// from both nowhere. If entries keep their keys, it suffices that all that are met remain (`same_keys`).
-#[tactic(auto, using(crate::proofs::MeaningLaws::means_changed, crate::proofs::InForce::same_keys_meet))]
+/// from both nowhere. The events of the second use exactly the new keys of what is met (`used`). If entries keep
+/// their keys, it suffices that all that are met remain (`same_keys`); if no others do, all are reached (`reached`).
+#[tactic(auto, using(crate::proofs::MeaningLaws::means_changed, crate::proofs::InForce::same_keys_meet, crate::proofs::UsedLaws::used_is_met, crate::proofs::UsedLaws::all_reached))]
 pub fn paths_lead_to_changed_leaves()
     ensures paths { (ch : Change) (key : ℕ × ℕ → ℕ) (stops : Stops) (p q : Parts) (kept others : List EventAt) → AreParts p → AreParts q → AreEvents p kept → AreEvents q others → KeepsFit p.classes ch → Retargets p.classes ch stops key → MeetsChanged ch key stops p q kept → OneToOne (IsChangedEvent ch p q) kept others → OneToOne (MeansChanged ch stops p q) kept others }
+    ensures used { (ch : Change) (key : ℕ × ℕ → ℕ) (stops : Stops) (p q : Parts) (kept others : List EventAt) → AreParts p → AreParts q → AreEvents p kept → AreEvents q others → KeepsFit p.classes ch → Retargets p.classes ch stops key → MeetsChanged ch key stops p q kept → OneToOne (IsChangedEvent ch p q) kept others → (u : ℕ × ℕ) → Used q others u ↔ MetBy key stops p kept u }
     ensures same_keys { (w : Rewrite) (stops : Stops) (p q : Parts) (kept : List EventAt) (marks : List Bool) → ((t : ℕ × ℕ) → w.key t ≡ t.1) → OneToOne (IsChangedEntry w p q) (marked marks p.entries) q.entries → MarksMet stops p kept marks → MeetsChanged w.change w.key stops p q kept }
+    ensures reached { (w : Rewrite) (stops : Stops) (p q : Parts) (kept others : List EventAt) (marks : List Bool) → ((t : ℕ × ℕ) → w.key t ≡ t.1) → ((u : ℕ × ℕ) → Used q others u ↔ MetBy w.key stops p kept u) → OneToOne (IsChangedEntry w p q) (marked marks p.entries) q.entries → MarksOnlyMet stops p kept marks → (n : ℕ) → n < length q.entries → Reached q others n }
 {}
