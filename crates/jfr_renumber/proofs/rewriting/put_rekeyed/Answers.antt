@@ -14,5 +14,5 @@ loop-leaf-init g c = (
 pub returns : goal.returns
 returns g c = record {
   ok =
-      sym (append-nil c.loop-leaf.out.items) ∙ (sym (ap (λ z. c.loop-leaf.out.items ++ leaves_with (g.N.NewKeys.keys c.args.new.now) z) (c.in_default.ensures.exact.0)) ∙ (c.loop-leaf.invariant.1 ∙ ap (λ z. c.args.out.now.items ++ z) (sym (node_by_leaf c.args.classes.now c.requires.sound c.args.node.bytes.now (node_of c.args.node) c.requires.value.0 c.requires.value.1 (g.N.NewKeys.keys c.args.new.now)))));
+      sym (append-nil c.loop-leaf.out.items) ∙ (sym (ap (λ z. c.loop-leaf.out.items ++ leaves_with (g.N.NewKeys.keys c.args.new.now) z) (c.in_default.ensures.steps.0)) ∙ (c.loop-leaf.invariant.1 ∙ ap (λ z. c.args.out.now.items ++ z) (sym (node_by_leaf c.args.classes.now c.requires.sound c.args.node.bytes.now (node_of c.args.node) c.requires.value.0 c.requires.value.1 (g.N.NewKeys.keys c.args.new.now)))));
 }

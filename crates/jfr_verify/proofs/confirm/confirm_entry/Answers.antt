@@ -1,6 +1,16 @@
-use Rattle.jfr_value.specs.Nodes.{node_of, targets}
+use Rattle.std.proofs.Common.{subst}
+use Rattle.jfr_value.specs.Nodes.{NodeAt, node_of, targets}
+use Rattle.jfr_verify.specs.declared.claims.Claims.{Claims}
+use Rattle.jfr_verify.specs.declared.line.Parent.TheVariants.{OfEntry}
+use Rattle.jfr_verify.specs.Confirmed.{Confirms}
 use Rattle.jfr_verify.proofs.ClaimLaws.{confirms_all}
-use Rattle.jfr_verify.proofs.confirm.confirm_node.Goals as goal
+use Rattle.jfr_verify.proofs.GivenEntries.{given_next}
+use Rattle.jfr_verify.proofs.confirm.confirm_entry.Goals as goal
 
-pub returns : goal.returns
-returns c = confirms_all c.args.pools.now (targets c.args.classes.now c.args.node.bytes.now (node_of c.args.node)) c.args.claims.now c.visit_targets.new.visitor c.visit_targets.ensures.exact
+pub returns-in-Some : goal.returns-in-Some
+returns-in-Some c =
+    let n : NodeAt = node_of c.in-Some.node in
+    let old : Claims = record c.args.claims.now { parent = OfEntry c.args.number } in
+    let e = given_next c.args.chunk.now c.args.number n c.pools.result.now c.classes.result.now c.in-Some.node.bytes.now c.pools.ensures c.classes.ensures c.in-Some.ensures.bytes c.in-Some.ensures.exact in
+    let a = subst (λ z. Confirms z old c.visit_targets.new.visitor) e (confirms_all c.pools.result.now (targets c.classes.result.now c.in-Some.node.bytes.now n) old c.visit_targets.new.visitor c.visit_targets.ensures.exact) in
+    record { confirmed = a.confirmed; parents = a.parents }
