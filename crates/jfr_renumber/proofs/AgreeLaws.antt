@@ -14,8 +14,8 @@ use Rattle.jfr_chunk.specs.Scrub.{OutputRecord, Whole, Chained, Rebuilt, output_
 use Rattle.jfr_chunk.proofs.AllLaws.{filter_all}
 use Rattle.jfr_laws.proofs.Groups.{groups_hold}
 use Rattle.jfr_renumber.specs.Rekeyed.{key_bytes, kind_with, rekeyed, rekeyed_all, rekeyed_bytes}
-use Rattle.jfr_renumber.proofs.NewOutput.{find_in}
-use Rattle.jfr_renumber.proofs.NewPools.{all_parts, flat_map_each}
+use Rattle.jfr_rewrite.proofs.Output.{find_in}
+use Rattle.jfr_rewrite.proofs.Pools.{all_parts}
 use Rattle.std.specs.Cmp.{first_so, second_so, unsigned_Decides}
 use Rattle.std.specs.Cmp.Derive.{both_true}
 use Rattle.std.proofs.Common.{ap, refl, sym, ◌∙◌, subst, inl, inr}
@@ -36,6 +36,10 @@ use Rattle.jfr_renumber.proofs.LawLaws.{kept_nodes, new_keys_are}
 use Rattle.jfr_renumber.proofs.NumberLaws.{any_of}
 use Rattle.jfr_renumber.proofs.TogetherLaws.{first_among, together_is}
 use Rattle.jfr_renumber.proofs.UsedLaws.{entry_used, event_used, in_used, remains_used, used_in}
+
+flat_map_each : {X A : Type 0} (f g : X → List A) (xs : List X) → AllByRecursion (λ x. f x ≡ g x) xs → flat_map f xs ≡ flat_map g xs
+flat_map_each f g [] a = refl
+flat_map_each f g (x ∷ xs) a = ap (λ z. z ++ flat_map f xs) a.0 ∙ ap (λ z. g x ++ z) (flat_map_each f g xs a.1)
 
 both_ways : (a b : Bool) → (a ≡ true → b ≡ true) → (b ≡ true → a ≡ true) → a ≡ b
 both_ways true b f g = sym (f refl)

@@ -5,12 +5,13 @@ use Rattle.std.specs.List.{flat_map, AllByRecursion}
 use Rattle.std.proofs.Common.{ap, arith, refl, sym, ◌∙◌, subst, length-append}
 use Rattle.std.proofs.lemmas.List.Elements.{filter-append}
 use Rattle.std.proofs.lemmas.Map.Views.{exact_unsigned_eq}
-use Rattle.jfr_base.specs.Integer.{spell, spell_as, spell_in}
+use Rattle.jfr_base.specs.Integer.{spell, spell_in}
+use Rattle.jfr_base.proofs.Ranges.{range_length}
 use Rattle.jfr_base.proofs.Spelling.{spell_most, spell_short, spell_spells, nine_bytes}
 use Rattle.jfr_layout.specs.Classes.{Sound}
 use Rattle.jfr_pool.specs.declared.link.Link.{Link}
 use Rattle.jfr_pool.specs.declared.entry.EntryAt.{EntryAt}
-use Rattle.jfr_pool.specs.Entries.{PoolAt, entry_of, entries_from, AreEntries}
+use Rattle.jfr_pool.specs.Entries.{PoolAt, entry_node, entry_of, entries_from, AreEntries}
 use Rattle.jfr_chunk.specs.Parts.{Parts}
 use Rattle.jfr_chunk.specs.Reach.{marked}
 use Rattle.jfr_chunk.specs.Written.{Group, by_pool, distance, sized}
@@ -21,14 +22,21 @@ use Rattle.jfr_laws.specs.InChunk.{IsEntryIn, IsGroupIn}
 use Rattle.jfr_laws.proofs.Groups.{apart, in_front, by_front}
 use Rattle.jfr_laws.proofs.Room.{of_pool, later_pools}
 use Rattle.jfr_laws.proofs.Checkpoints.{Of, NotOf, others, of_number, later_numbers, block_only}
-use Rattle.jfr_renumber.specs.Renumber.{entry_bytes, group_bytes, checkpoint_tail}
-use Rattle.jfr_renumber.proofs.NewPools.{entry_short, entry_spelled}
+use Rattle.jfr_renumber.specs.Rekeyed.{rekeyed_bytes}
+use Rattle.jfr_renumber.specs.Renumber.{entry_bytes, group_bytes, checkpoint_tail, pair_of}
+use Rattle.jfr_rewrite.proofs.Sizes.{in_length}
+use Rattle.jfr_renumber.proofs.CheckpointWriting.{entry_is}
+use Rattle.jfr_renumber.proofs.RekeyedLaws.{node_short}
 
 -- Each that is marked is marked there too.
 abbrev pub Under : List Bool → List Bool → Type 0
 Under [] ms = ⊤
 Under (f ∷ fs) [] = (f ≡ false) × Under fs []
 Under (f ∷ fs) (m ∷ ms) = (f ≡ true → m ≡ true) × Under fs ms
+
+pub under_same : (fs : List Bool) → Under fs fs
+under_same [] = tt
+under_same (f ∷ fs) = ((λ e. e), under_same fs)
 
 under_drop : (n : ℕ) (fs ms : List Bool) → Under fs ms → Under (drop n fs) (drop n ms)
 under_drop zero fs ms u = u
@@ -63,12 +71,27 @@ all_right : {X : Type 0} (P : X → Type 0) (xs ys : List X) → AllByRecursion 
 all_right P [] ys a = a
 all_right P (x ∷ xs) ys a = all_right P xs ys a.1
 
+pub sized_length : (n : ℕ) (tail : List ℕ) → length (sized n tail) ≡ n + length tail
+sized_length n tail = length-append (spell_in n (n + length tail)) tail ∙ ap (λ z. z + length tail) (in_length n (n + length tail))
+
 number_short : (m n : ℕ) → m ≤ n → length (spell m) ≤ length (spell n)
 number_short m n h = spell_short (spell n) m n (spell_spells n) h
 
 module _ (p : Parts) (sound : Sound p.classes) (new : ℕ × ℕ → ℕ) (most : (t : ℕ × ℕ) → new t ≤ t.1) where
   one_short : (e : EntryAt) → IsEntryIn p.bytes p.classes e → length (entry_bytes new p e) ≤ length (old.entry_bytes p.bytes e)
-  one_short e s = subst (λ z. length z ≤ length (old.entry_bytes p.bytes e)) (sym (entry_spelled p sound new most e s)) (entry_short p sound new most e s)
+  one_short e s =
+      let a = spell_short (slice_range p.bytes e.key_at e.value_at) (new (pair_of e)) e.key s.key.spelled (most (pair_of e)) in
+      let b = node_short new p.classes sound p.bytes (entry_node e) s.value (entry_is p.classes p.bytes e s) most in
+      let o : e.key_at ≤ e.value_at = s.key.order in
+      let w : e.value_at ≤ e.end = s.order in
+      omega (
+        arith,
+        a,
+        b,
+        range_length p.bytes e.key_at e.value_at s.key.within,
+        range_length p.bytes e.key_at e.end s.within,
+        length-append (spell (new (pair_of e))) (rekeyed_bytes new p.classes p.bytes (entry_node e)),
+      )
 
   under_short : (fs ms : List Bool) (xs : List EntryAt) → Under fs ms → AllByRecursion (IsEntryIn p.bytes p.classes) (marked fs xs)
       → length (flat_map (entry_bytes new p) (marked fs xs)) ≤ length (flat_map (old.entry_bytes p.bytes) (marked ms xs))
@@ -215,15 +238,6 @@ module _ (p : Parts) (sound : Sound p.classes) (new : ℕ × ℕ → ℕ) (most 
       let d : ℕ = distance other (Some y) in
       let big : 72057594037927936 ≤ d = omega (arith, h) in
       omega (arith, spell_most (distance at (Some x)), nine_bytes (spell d) d (spell_spells d) big)
-
-  spelled_as : (n v : ℕ) → length (spell_as n v) ≡ n
-  spelled_as zero v = refl
-  spelled_as (suc zero) v = refl
-  spelled_as (suc (suc n)) v = ap (λ z. suc z) (spelled_as (suc n) _)
-
-  sized_length : (n : ℕ) (tail : List ℕ) → length (sized n tail) ≡ n + length tail
-  unfolding spell_in
-  sized_length n tail = length-append (spell_as n (n + length tail)) tail ∙ ap (λ z. z + length tail) (spelled_as n (n + length tail))
 
   -- A checkpoint is no longer.
   pub checkpoint_short : (l : Link) (at other : ℕ) (older elder : Option ℕ) (gs hs : List Group) → is_some older ≡ is_some elder → other < 2 ^ 63 → Shorter gs hs

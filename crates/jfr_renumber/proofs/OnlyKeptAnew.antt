@@ -32,7 +32,8 @@ use Rattle.jfr_laws.proofs.PoolsAlike.{AnswersAlike, Related, pools_filter, rela
 use Rattle.jfr_laws.proofs.Premises.{recorded}
 use Rattle.jfr_laws.proofs.ToldLaws.{all_apart, rendered_same}
 use Rattle.jfr_renumber.specs.Rekeyed.{rekeyed, rekeyed_bytes}
-use Rattle.jfr_renumber.specs.Renumber.{used_keys, pair_of, equal_values, together, new_key, firsts, firsts_with, entry_bytes, event_bytes, new_bytes, whole_bytes, written_by, renumber_with}
+use Rattle.jfr_rewrite.specs.Rewrite.{written_by}
+use Rattle.jfr_renumber.specs.Renumber.{used_keys, pair_of, equal_values, together, new_key, firsts, firsts_with, entry_bytes, event_bytes, new_bytes, whole_bytes, renumber_with}
 use Rattle.jfr_renumber.specs.Keys.{group_number}
 use Rattle.jfr_renumber.specs.ToldAnew.{told_anew}
 use Rattle.jfr_renumber.proofs.AgreeLaws.{bytes_same}

@@ -1,6 +1,5 @@
 -- The output of a chunk with new keys is a chunk that means the same, except for the keys.
 use Rattle.std.specs.Prelude.{◌≡◌, ℕ, zero, suc, ◌^◌, ◌<◌, ◌≤◌, Bool, true, false, not, List, [], ◌∷◌, length, map, filter, Some, None, cond}
-use Rattle.std.specs.List.{AllByRecursion}
 use Rattle.std.proofs.Common.{ap, arith, refl, sym, ◌∙◌, subst}
 use Rattle.std.proofs.lemmas.List.Elements.{All-contains_itself}
 use Rattle.jfr_header.specs.Fronts as fronts
@@ -13,21 +12,29 @@ use Rattle.jfr_worklist.specs.Members.{In}
 use Rattle.jfr_worklist.proofs.Members.{contains_in}
 use Rattle.jfr_chunk.specs.Parts.{Parts, EventAt, AreParts, events_of}
 use Rattle.jfr_chunk.specs.Laws.{AreEvents}
-use Rattle.jfr_chunk.specs.Reach.{Used, marked, reached_marks, kept_by, remain}
-use Rattle.jfr_chunk.specs.Metas.{Names, new_metadata}
+use Rattle.jfr_chunk.specs.Reach.{Reached, marked, reached_marks, kept_by, remain}
+use Rattle.jfr_chunk.specs.Metas.{Names, new_metadata, remaining_classes}
 use Rattle.jfr_chunk.specs.Scrub.{output_records, scrub_of, scrub_with}
 use Rattle.jfr_chunk.proofs.HasNodesLaws.{has_nodes}
-use Rattle.jfr_laws.proofs.Anews.{Anew, anew}
+use Rattle.jfr_laws.proofs.Anews.{anew}
 use Rattle.jfr_laws.proofs.Header.{whole_small}
 use Rattle.jfr_laws.proofs.Passing.{clash}
 use Rattle.jfr_laws.proofs.Same.{chosen_events, event_of_chunk, marks_reached}
-use Rattle.jfr_laws.proofs.Suits.{event_agreed, left_agree, path_agreed}
+use Rattle.jfr_laws.proofs.Suits.{event_agreed, path_agreed}
+use Rattle.jfr_rewrite.specs.Rewrite.{rewritten}
+use Rattle.jfr_rewrite.specs.Rewritten.{IsRewritten}
+use Rattle.jfr_rewrite.proofs.Accepted as accepted
+use Rattle.jfr_rewrite.proofs.Remaining.{describes_remaining, suits_remaining}
+use Rattle.jfr_rewrite.proofs.Rewriting.{Rewriting}
+use Rattle.jfr_renumber.specs.Laws.{AgreeOnUsed}
 use Rattle.jfr_renumber.specs.Renumber.{new_key, together, pair_of, firsts, firsts_of, new_bytes, assembled_by, renumber_of, renumber_with}
 use Rattle.jfr_renumber.specs.Meaning.{AreNewKeys, AreRekeyedEntries, IsRenumbered}
 use Rattle.jfr_renumber.proofs.Fewer.{Under}
-use Rattle.jfr_renumber.proofs.NoLonger.{no_longer}
 use Rattle.jfr_renumber.proofs.LawLaws.{new_keys_are, renamed_the_same, same_missing}
-use Rattle.jfr_renumber.proofs.Rebuilt.{Leading, out, out_shorter, out_leading, out_whole, parts, valid, entries_renamed, events_renamed}
+use Rattle.jfr_renumber.proofs.NoLonger.{no_longer, scrub_short}
+use Rattle.jfr_renumber.proofs.RekeyedLaws.{rekeying_keeps}
+use Rattle.jfr_renumber.proofs.RewrittenLaws.{is_rewritten, rekeyed_entries, rekeyed_records, rewrite}
+use Rattle.jfr_renumber.proofs.Room.{carries_all}
 
 -- A list without some of its members is what marks leave of it.
 abbrev Sub : {X : Type 0} → List X → List X → Type 0
@@ -119,64 +126,75 @@ module _ (names : Names) (p : Parts) (a : AreParts p) (flags : List Bool) (whole
   abbrev fm : List Bool
   fm = (firsts_marked p these).0
 
-  -- The classes of the output suit what is kept.
-  module _ (n : Anew names p a these) where
-    -- They agree with the chunk's on the class of each entry that is left.
-    agree : AllByRecursion (λ x. Agree p.classes n.classes x.class) (marked fm p.entries)
-    agree =
-        left_agree p n.classes (has_nodes p a) these n.suits (event_of_chunk p a these are) fm
-        (λ i h. marks_reached p a flags i (under_marked fm (reached_marks p these) (firsts_marked p these).2 i h))
+  abbrev ours : List EntryAt
+  ours = marked fm p.entries
 
-    -- And on the class of all that is used.
-    agree_used : (t : ℕ × ℕ) → Used p these t → Agree p.classes n.classes t.0
-    agree_used t u =
-        let i : In these u.event = contains_in these u.event u.is_kept in
-        let g = path_agreed p n.classes (has_nodes p a) u.path u.event.node u.node (event_agreed p n.classes (has_nodes p a) these n.suits (event_of_chunk p a these are) u.event i) u.leads_there in
-        subst (Agree p.classes n.classes) (own_class g.value t (sym (target_is p.classes p.bytes u.node g.value (has_nodes p a).sound g.node) ∙ u.refers)) g.agree
+  -- The entries of the output are reached, so the remaining classes suit what is kept.
+  marks_are : (i : ℕ) → IsMarked fm i → Reached p these i
+  marks_are i h = marks_reached p a flags i (under_marked fm (reached_marks p these) (firsts_marked p these).2 i h)
 
-    abbrev b : List ℕ
-    b = out names p a flags n new keys.most fm agree
+  abbrev given : Rewriting
+  given = record {
+    rewrite = rewrite new (new_metadata names p these);
+    parts = p;
+    accepted = a;
+    keeps = rekeying_keeps new p.classes;
+    flags = flags;
+    marks = fm;
+    classes = remaining_classes names p these;
+    describes = describes_remaining names p a these are;
+    suits = suits_remaining names p a these are fm marks_are;
+  }
 
-    out_is : b ≡ renumber_of names p these
-    unfolding renumber_with
-    out_is = ap (λ z. assembled_by p (new_bytes new p these z) (output_records (new_metadata names p these) p these)) (sym (firsts_marked p these).1)
+  abbrev out : List ℕ
+  out = rewritten (rewrite new (new_metadata names p these)) p these ours
 
-    abbrev leading : Leading names p a flags n new keys.most fm agree b
-    leading = out_leading names p a flags n new keys.most fm agree whole
+  assembled_is : assembled_by p (new_bytes new p these ours) (output_records (new_metadata names p these) p these) ≡ out
+  assembled_is = is_rewritten new (new_metadata names p these) p these ours
 
-    shorter : length b ≤ length p.bytes
-    shorter = out_shorter names p a flags n new keys.most fm agree
+  out_is : out ≡ renumber_of names p these
+  unfolding renumber_with
+  out_is = sym assembled_is ∙ ap (λ z. assembled_by p (new_bytes new p these z) (output_records (new_metadata names p these) p these)) (sym (firsts_marked p these).1)
 
-    no_longer_than_scrubbed : length b ≤ length (scrub_of names p these)
-    unfolding scrub_with remain
-    no_longer_than_scrubbed = no_longer names p a flags n new keys.most fm agree (reached_marks p these) (firsts_marked p these).2 whole
+  no_longer_than_scrubbed : length out ≤ length (scrub_of names p these)
+  unfolding scrub_with remain
+  no_longer_than_scrubbed = subst (λ z. length z ≤ length (scrub_of names p these)) assembled_is (no_longer names p a flags new keys.most fm (reached_marks p these) (firsts_marked p these).2 whole)
 
-    tiny : length b < 2 ^ 63
-    tiny = let s = whole_small p.bytes whole in let l = shorter in omega arith
+  shorter : length out ≤ length p.bytes
+  unfolding scrub_with remain
+  shorter = omega (arith, no_longer_than_scrubbed, scrub_short names p a flags new keys.most fm (reached_marks p these) (firsts_marked p these).2)
 
-    abbrev q : Parts
-    q = parts names p a flags n new keys.most fm agree b leading tiny
+  done : IsRewritten (rewrite new (new_metadata names p these)) p these ours (remaining_classes names p these)
+  done = accepted.is_rewritten given whole (omega (arith, shorter, whole_small p.bytes whole)) (carries_all p a flags new keys.most fm names)
 
-    abbrev q_stands : AreParts q
-    q_stands = valid names p a flags n new keys.most fm agree b leading tiny
+  abbrev q : Parts
+  q = done.parts
 
-    entries_are : AreRekeyedEntries new p q (firsts p these) q.entries
-    entries_are = subst (λ z. AreRekeyedEntries new p q z q.entries) (sym (firsts_marked p these).1) (entries_renamed names p a flags n new keys.most fm agree b leading tiny)
+  -- The classes agree on all that is used.
+  agree_used : AgreeOnUsed p q these
+  agree_used t u =
+      let n = anew names p a these are in
+      let i : In these u.event = contains_in these u.event u.is_kept in
+      let g = path_agreed p n.classes (has_nodes p a) u.path u.event.node u.node (event_agreed p n.classes (has_nodes p a) these n.suits (event_of_chunk p a these are) u.event i) u.leads_there in
+      subst (λ m. Agree p.classes m t.0) (n.remaining ∙ sym done.classes)
+      (subst (Agree p.classes n.classes) (own_class g.value t (sym (target_is p.classes p.bytes u.node g.value (has_nodes p a).sound g.node) ∙ u.refers)) g.agree)
 
-    pub renumbered_by : IsRenumbered names p these
-    renumbered_by = record {
-      keys = keys;
-      parts = q;
-      classes = n.remaining;
-      bytes = out_is;
-      whole = subst fronts.Whole out_is (out_whole names p a flags n new keys.most fm agree whole);
-      valid = q_stands;
-      size = subst (λ z. length z ≤ length p.bytes) out_is shorter;
-      no_longer = subst (λ z. length z ≤ length (scrub_of names p these)) out_is no_longer_than_scrubbed;
-      entries = entries_are;
-      missing = same_missing p a these are q q_stands new keys agree_used entries_are;
-      meaning = renamed_the_same p a these are q q_stands new (events_of q) (All-contains_itself (events_of q)) keys agree_used entries_are (events_renamed names p a flags n new keys.most fm agree b leading tiny);
-    }
+  entries_are : AreRekeyedEntries new p q (firsts p these) q.entries
+  entries_are = subst (λ z. AreRekeyedEntries new p q z q.entries) (sym (firsts_marked p these).1) (rekeyed_entries new (new_metadata names p these) p q ours q.entries done.entries_are)
 
   pub is_renumbered : IsRenumbered names p these
-  is_renumbered = renumbered_by (anew names p a these are)
+  is_renumbered = record {
+    keys = keys;
+    parts = q;
+    classes = done.classes;
+    bytes = done.bytes ∙ out_is;
+    whole = subst fronts.Whole out_is done.whole;
+    valid = done.valid;
+    size = subst (λ z. length z ≤ length p.bytes) out_is shorter;
+    no_longer = subst (λ z. length z ≤ length (scrub_of names p these)) out_is no_longer_than_scrubbed;
+    entries = entries_are;
+    missing = same_missing p a these are q done.valid new keys agree_used entries_are;
+    meaning =
+        renamed_the_same p a these are q done.valid new keys agree_used entries_are (events_of q) (All-contains_itself (events_of q))
+        (rekeyed_records new (new_metadata names p these) p q these (events_of q) done.events_are);
+  }

@@ -10,7 +10,8 @@ use Rattle.jfr_value.specs.Nodes.{node_bytes}
 use Rattle.jfr_value.specs.Leaves.{leaves_at}
 use Rattle.jfr_chunk.specs.Parts.{Parts, EventAt}
 use Rattle.jfr_chunk.specs.Reach.{Used}
-use Rattle.jfr_renumber.specs.Rekeyed.{rekeyed, rekeyed_bytes, rekeyed_leaf, content, rekeyed_pair}
+use Rattle.jfr_rewrite.specs.Changed.{content}
+use Rattle.jfr_renumber.specs.Rekeyed.{rekeyed, rekeyed_bytes, rekeyed_leaf, rekeyed_pair}
 
 -- A value with new keys is read from its own bytes. It has the same shape, and the same leaves except for the
 -- keys; it refers to the same classes by the new keys; and it is no longer if none of these is larger than the

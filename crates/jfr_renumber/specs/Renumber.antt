@@ -9,11 +9,12 @@ use Rattle.jfr_value.specs.Nodes.{node_bytes}
 use Rattle.jfr_pool.specs.declared.link.Link.{Link}
 use Rattle.jfr_pool.specs.declared.entry.EntryAt.{EntryAt}
 use Rattle.jfr_pool.specs.Entries.{in_force, entry_node}
-use Rattle.jfr_chunk.specs.Parts.{Parts, EventAt, metadata_at}
+use Rattle.jfr_chunk.specs.Parts.{Parts, EventAt}
 use Rattle.jfr_chunk.specs.Reach.{all_targets, nodes_of, remain}
 use Rattle.jfr_chunk.specs.Written.{Group, distance, sized}
 use Rattle.jfr_chunk.specs.Metas.{Names, new_metadata}
-use Rattle.jfr_chunk.specs.Scrub.{OutputRecord, Whole, Chained, Rebuilt, Written, groups_of, header_with, last_at, moved, older_after, output_records}
+use Rattle.jfr_chunk.specs.Scrub.{OutputRecord, Whole, Chained, Rebuilt, groups_of, output_records}
+use Rattle.jfr_rewrite.specs.Rewrite as rewrite
 use Rattle.jfr_renumber.specs.Keys.{group_number}
 use Rattle.jfr_renumber.specs.Rekeyed.{rekeyed_bytes}
 
@@ -94,21 +95,9 @@ new_bytes new p kept entries (Whole r) at older = whole_bytes new p r (find (λ 
 new_bytes new p kept entries (Rebuilt r x) at older = x
 new_bytes new p kept entries (Chained number l) at older = sized (l.frame.type_at - l.frame.at) (checkpoint_tail new p l (distance at older) (groups_of entries number))
 
--- The output records with their offsets, one after another, given the bytes of each.
-abbrev pub written_by : (OutputRecord → ℕ → Option ℕ → List ℕ) → ℕ → Option ℕ → List OutputRecord → List Written
-written_by bytes at older [] = []
-written_by bytes at older (s ∷ ss) = record { output_record = s; at = at; older = older } ∷ written_by bytes (at + length (bytes s at older)) (older_after s at older) ss
-
--- The bytes of an output record at its own offset in the output.
-abbrev pub bytes_by : (OutputRecord → ℕ → Option ℕ → List ℕ) → Written → List ℕ
-bytes_by bytes w = bytes w.output_record w.at w.older
-
 -- The output chunk with these output records, given the bytes of each.
 abbrev pub assembled_by : Parts → (OutputRecord → ℕ → Option ℕ → List ℕ) → List OutputRecord → List ℕ
-assembled_by p bytes ss =
-    let ws = written_by bytes 68 None ss in
-    let body = flat_map (bytes_by bytes) ws in
-    header_with p.bytes (68 + length body) (last_at None ws) (moved ws (metadata_at p.bytes)) ++ body
+assembled_by p bytes ss = rewrite.assembled_by p bytes ss
 
 -- The output chunk with new keys if these events are kept, given the new metadata record, if there is one.
 unfoldable pub renumber_with : Option (List ℕ) → Parts → List EventAt → List ℕ
