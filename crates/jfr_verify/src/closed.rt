@@ -1,10 +1,9 @@
 //! Whether the output has every entry that it needs: whether all entries in force to which kept events and
 //! marked entries refer are marked.
 ghost use Rattle.std.specs.Prelude.{◌≡◌, ◌<◌, ◌&&◌, length};
-ghost use Rattle.jfr_value.specs.Nodes.{IsValue, node_of};
 ghost use Rattle.jfr_worklist.specs.Marks.{is_marked};
 ghost use Rattle.jfr_chunk.specs.Parts.{events_of};
-ghost use Rattle.jfr_chunk.specs.Reach.{kept_by, node_entries};
+ghost use Rattle.jfr_chunk.specs.Reach.{kept_by};
 ghost use Rattle.jfr_verify.specs.Checks.{AreClosed};
 ghost use Rattle.jfr_verify.specs.Closed.{ChecksMarks, are_marked, entries_closed, events_closed, kept_refs, marked_refs};
 ghost use Rattle.jfr_verify.specs.Decided.{Decided};

@@ -1,7 +1,6 @@
 //! Confirming the claims of a receipt's lines: one pass over the events and the entries of the chunk.
 ghost use Rattle.std.specs.Prelude.{◌≡◌, ◌<◌, All, ℕ, List, length, Some, None, slice_get, IfOk};
 ghost use Rattle.std.specs.List.{list_all};
-ghost use Rattle.jfr_value.specs.Nodes.{IsValue, node_of};
 ghost use Rattle.jfr_chunk.specs.Parts.{EventAt, events_of};
 ghost use Rattle.jfr_chunk.specs.Reach.{next_entries, node_entries};
 ghost use Rattle.jfr_verify.specs.declared.line.Parent.TheVariants as kinds;

@@ -1,7 +1,6 @@
 //! The walk that makes the lines of a chunk's receipt: it starts at the events and follows references from
 //! entry to entry.
 ghost use Rattle.std.specs.Prelude.{◌≡◌, ◌+◌, ◌^◌, ◌<◌, ◌≤◌, [], All, length, Some, None, slice_get, option_map, IfOk};
-ghost use Rattle.jfr_value.specs.Nodes.{IsValue, node_of};
 ghost use Rattle.jfr_worklist.specs.Marks.{marked_at};
 ghost use Rattle.jfr_chunk.specs.Parts.{EventAt, events_of};
 ghost use Rattle.jfr_chunk.specs.Reach.{kept_by, next_entries, node_entries, roots};
