@@ -1,12 +1,12 @@
 -- The laws, as they are promised.
-use Rattle.std.specs.Prelude.{◌≡◌, ◌↔◌, ℕ, List, [], ◌∷◌, ◌++◌, map, Contains, Option, Some, None, IsSome}
+use Rattle.std.specs.Prelude.{◌≡◌, ◌↔◌, ℕ, List, ◌++◌, map, Contains, Option, Some, None, IsSome}
 use Rattle.std.specs.Option.{option_map}
-use Rattle.std.proofs.Common.{ap, refl, sym, ◌∙◌, subst, inl, inr}
+use Rattle.std.proofs.Common.{ap, refl, sym, ◌∙◌, subst}
 use Rattle.std.proofs.lemmas.List.{map-append}
 use Rattle.std.proofs.lemmas.List.Elements.{All-contains}
 use Rattle.jfr_base.specs.Formats.{Exactly}
 use Rattle.jfr_layout.specs.Classes.{Classes, Sound}
-use Rattle.jfr_value.specs.Values.{Value, Values, Single, Group, Nil, Cons, shape_of, bytes_of, targets_of, targets_of_all, Fits}
+use Rattle.jfr_value.specs.Values.{Value, Values, Single, Group, Nil, Cons, bytes_of, targets_of, targets_of_all, Fits}
 use Rattle.jfr_value.specs.Reading.{value_format}
 use Rattle.jfr_value.specs.Nodes.{NodeAt, IsNode, Both}
 use Rattle.jfr_value.proofs.DepthLaws.{fits_good}
@@ -21,6 +21,7 @@ use Rattle.jfr_chunk.proofs.HasNodesLaws.{IsEvent, has_nodes, event_is}
 use Rattle.jfr_rewrite.specs.Paths.{Held, leads_but, root}
 use Rattle.jfr_rewrite.specs.Rewritten.{HasChangedValue, IsChangedEvent}
 use Rattle.jfr_rewrite.proofs.MeaningLaws.{event_leads}
+use Rattle.jfr_rewrite.proofs.OneToOneLaws.{each_to}
 use Rattle.jfr_rewrite.proofs.PathLaws.{Paired}
 use Rattle.jfr_renumber.specs.Rekeyed.{SameButKeys, rekeyed, rekeyed_all, rekeyed_pair}
 use Rattle.jfr_renumber.specs.Renumber.{used_keys, new_key, firsts}
@@ -105,11 +106,5 @@ module _ (p : Parts) (a : AreParts p) (kept : List EventAt) (are : AreEvents p k
             paths = λ path. subst (λ z. Both (SameButKeys new p.classes q.classes p.bytes q.bytes) z (leads q f.node path)) (leads_free p path (root e.node)) (nodes_rekeyed (leads_but never p (root e.node) path) (leads q f.node path) (lead path));
           }
 
-      events_renamed : (es fs : List EventAt) → ((e : EventAt) → In es e → In kept e) → ((f : EventAt) → In fs f → In others f) → RekeyedRecords new p q es fs → RekeyedMeaning new p q es fs
-      events_renamed [] [] i j h = tt
-      events_renamed [] (f ∷ fs) i j h = absurd h
-      events_renamed (e ∷ es) [] i j h = absurd h
-      events_renamed (e ∷ es) (f ∷ fs) i j h = (event_renamed e f (i e (inl refl)) (j f (inl refl)) h.0, events_renamed es fs (λ e k. i e (inr k)) (λ f k. j f (inr k)) h.1)
-
       pub renamed_the_same : RekeyedRecords new p q kept others → RekeyedMeaning new p q kept others
-      renamed_the_same h = events_renamed kept others (λ e i. i) (λ f i. i) h
+      renamed_the_same h = each_to kept others event_renamed h

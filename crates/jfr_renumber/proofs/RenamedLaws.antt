@@ -18,6 +18,7 @@ use Rattle.jfr_worklist.proofs.Members.{get_in}
 use Rattle.jfr_pool.proofs.ForceLaws.{forced, numbered}
 use Rattle.jfr_chunk.proofs.PathLaws.{HasNodes}
 use Rattle.jfr_rewrite.specs.Rewritten.{HasChangedValue}
+use Rattle.jfr_rewrite.proofs.OneToOneLaws.{first, second}
 use Rattle.jfr_renumber.specs.Laws.{AgreeOnUsed}
 use Rattle.jfr_renumber.specs.Rekeyed.{rekeyed, rekeyed_pair}
 use Rattle.jfr_renumber.specs.Renumber.{together, firsts, pair_of}
@@ -29,19 +30,6 @@ use Rattle.jfr_renumber.proofs.UsedLaws.{Remaining, used_remains, remains_used}
 
 pair_is : (t u : ℕ × ℕ) → t.0 ≡ u.0 → t.1 ≡ u.1 → t ≡ u
 pair_is t u a b = ap (λ (z : ℕ). (z, t.1)) a ∙ ap (λ (z : ℕ). (u.0, z)) b
-
--- One to one with others, a member has its fellow.
-renamed_at : (new : ℕ × ℕ → ℕ) (p q : Parts) (es fs : List EntryAt) (e : EntryAt) → AreRekeyedEntries new p q es fs → In es e → (f : EntryAt) × In fs f × IsRekeyedEntry new p q e f
-renamed_at new p q [] fs e r i = absurd i
-renamed_at new p q (x ∷ es) [] e r i = absurd r
-renamed_at new p q (x ∷ es) (y ∷ fs) e r (inl h) = (y, inl refl, subst (λ z. IsRekeyedEntry new p q z y) h r.0)
-renamed_at new p q (x ∷ es) (y ∷ fs) e r (inr i) = let f = renamed_at new p q es fs e r.1 i in (f.0, inr f.1, f.2)
-
-renamed_from : (new : ℕ × ℕ → ℕ) (p q : Parts) (es fs : List EntryAt) (f : EntryAt) → AreRekeyedEntries new p q es fs → In fs f → (e : EntryAt) × In es e × IsRekeyedEntry new p q e f
-renamed_from new p q es [] f r i = absurd i
-renamed_from new p q [] (y ∷ fs) f r i = absurd r
-renamed_from new p q (x ∷ es) (y ∷ fs) f r (inl h) = (x, inl refl, subst (λ z. IsRekeyedEntry new p q x z) h r.0)
-renamed_from new p q (x ∷ es) (y ∷ fs) f r (inr i) = let e = renamed_from new p q es fs f r.1 i in (e.0, inr e.1, e.2)
 
 -- A class and a key that an entry has are those of a last one.
 never_none : (es : List EntryAt) (n : ℕ) (e : EntryAt) → In es e → last_from n es (pair_of e) ≡ None → ⊥
@@ -106,7 +94,7 @@ module _ (p q : Parts) (s : HasNodes p) (new : ℕ × ℕ → ℕ) (kept : List 
 
   -- An entry of the second chunk with the new key of a key is that of a first entry which is together with it.
   fellow : (t : ℕ × ℕ) (f : EntryAt) → Used p kept t → In q.entries f → pair_of f ≡ rekeyed_pair new t → (e : EntryAt) × Remaining p s kept nodes e × IsRekeyedEntry new p q e f × (together p (pair_of e) t ≡ true)
-  fellow t f u i h = by_first (renamed_from new p q (firsts p kept) q.entries f renamed i)
+  fellow t f u i h = by_first (first (IsRekeyedEntry new p q) (firsts p kept) q.entries renamed f i)
     where
       by_first : (e : EntryAt) × In (firsts p kept) e × IsRekeyedEntry new p q e f → (e : EntryAt) × Remaining p s kept nodes e × IsRekeyedEntry new p q e f × (together p (pair_of e) t ≡ true)
       by_first (e, j, n) =
@@ -169,7 +157,7 @@ module _ (p q : Parts) (s : HasNodes p) (new : ℕ × ℕ → ℕ) (kept : List 
           subst (Both (HasChangedValue (rekeying new) p q) (Some e)) (sym x.is_forced) (entry_changed t e d.0 x.entry u h d.1 d.2 (together_alike p (pair_of d.0) t d.3))
 
       by_first : (e : EntryAt) → in_force p.entries t ≡ Some e → (d : EntryAt) × In (firsts p kept) d × (together p (pair_of d) (pair_of e) ≡ true) → Found q.entries (rekeyed_pair new t)
-      by_first e h (d, i, w) = by_fellow (renamed_at new p q (firsts p kept) q.entries d renamed i)
+      by_first e h (d, i, w) = by_fellow (second (IsRekeyedEntry new p q) (firsts p kept) q.entries renamed d i)
         where
           by_fellow : (f : EntryAt) × In q.entries f × IsRekeyedEntry new p q d f → Found q.entries (rekeyed_pair new t)
           by_fellow (f, j, n) =

@@ -1,5 +1,5 @@
 -- The output of a chunk with new keys is a chunk that means the same, except for the keys.
-use Rattle.std.specs.Prelude.{◌≡◌, ℕ, zero, suc, ◌^◌, ◌<◌, ◌≤◌, Bool, true, false, not, List, [], ◌∷◌, length, map, filter, Some, None, cond}
+use Rattle.std.specs.Prelude.{◌≡◌, ℕ, zero, suc, ◌≤◌, Bool, true, false, not, List, [], ◌∷◌, length, filter, Some, None, cond}
 use Rattle.std.proofs.Common.{ap, arith, refl, sym, ◌∙◌, subst}
 use Rattle.std.proofs.lemmas.List.Elements.{All-contains_itself}
 use Rattle.jfr_header.specs.Fronts as fronts
@@ -36,65 +36,34 @@ use Rattle.jfr_renumber.proofs.RekeyedLaws.{rekeying_keeps}
 use Rattle.jfr_renumber.proofs.RewrittenLaws.{is_rewritten, rekeyed_entries, rekeyed_records, rewrite}
 use Rattle.jfr_renumber.proofs.Room.{carries_all}
 
--- A list without some of its members is what marks leave of it.
-abbrev Sub : {X : Type 0} → List X → List X → Type 0
-Sub xs ys = (ms : List Bool) × (ys ≡ marked ms xs)
-
-sub_filter : {X : Type 0} (test : X → Bool) (xs : List X) → filter test xs ≡ marked (map test xs) xs
-sub_filter test [] = refl
-sub_filter test (x ∷ xs) = by_test (test x) (sub_filter test xs)
+-- What marks leave of a list, less those that a test excludes, is what fewer marks leave; so is the first of each group.
+filter_marked : {X : Type 0} (test : X → Bool) (fs ms : List Bool) (xs : List X) → Under fs ms → (gs : List Bool) × (filter test (marked fs xs) ≡ marked gs xs) × Under gs ms
+filter_marked test [] ms xs u = ([], refl, tt)
+filter_marked test (f ∷ fs) ms [] u = ([], refl, tt)
+filter_marked test (false ∷ fs) [] (x ∷ xs) u = let r = filter_marked test fs [] xs u.1 in (let v : Under (false ∷ r.0) [] = (u.0, r.2) in (false ∷ r.0, r.1, v))
+filter_marked test (true ∷ fs) [] (x ∷ xs) u = let e = u.0 in cc
+filter_marked test (false ∷ fs) (m ∷ ms) (x ∷ xs) u = let r = filter_marked test fs ms xs u.1 in (let v : Under (false ∷ r.0) (m ∷ ms) = (u.0, r.2) in (false ∷ r.0, r.1, v))
+filter_marked {X = X} test (true ∷ fs) (m ∷ ms) (x ∷ xs) u = by_test (test x) (filter_marked test fs ms xs u.1)
   where
-    by_test : (t : Bool) → filter test xs ≡ marked (map test xs) xs → cond t (x ∷ filter test xs) (filter test xs) ≡ marked (t ∷ map test xs) (x ∷ xs)
-    by_test true e = ap (λ z. x ∷ z) e
-    by_test false e = e
+    by_test : (t : Bool) → (gs : List Bool) × (filter test (marked fs xs) ≡ marked gs xs) × Under gs ms
+        → (gs : List Bool) × (cond t (x ∷ filter test (marked fs xs)) (filter test (marked fs xs)) ≡ marked gs (x ∷ xs)) × Under gs (m ∷ ms)
+    by_test true r = let v : Under (true ∷ r.0) (m ∷ ms) = (u.0, r.2) in (true ∷ r.0, ap (λ z. x ∷ z) r.1, v)
+    by_test false r = let v : Under (false ∷ r.0) (m ∷ ms) = ((λ e. cc), r.2) in (false ∷ r.0, r.1, v)
 
-both_marks : List Bool → List Bool → List Bool
-both_marks [] ns = []
-both_marks (true ∷ ms) [] = []
-both_marks (true ∷ ms) (n ∷ ns) = n ∷ both_marks ms ns
-both_marks (false ∷ ms) ns = false ∷ both_marks ms ns
-
-marked_none : {X : Type 0} (ms : List Bool) → marked {X = X} ms [] ≡ []
-marked_none [] = refl
-marked_none (m ∷ ms) = refl
-
-sub_on : {X : Type 0} (ms ns : List Bool) (xs : List X) → marked ns (marked ms xs) ≡ marked (both_marks ms ns) xs
-unfolding both_marks
-sub_on [] ns xs = marked_none ns
-sub_on (true ∷ ms) ns [] = marked_none ns ∙ sym (marked_none (both_marks (true ∷ ms) ns))
-sub_on (false ∷ ms) ns [] = marked_none ns ∙ sym (marked_none (both_marks (false ∷ ms) ns))
-sub_on (true ∷ ms) [] (x ∷ xs) = refl
-sub_on (true ∷ ms) (true ∷ ns) (x ∷ xs) = ap (λ z. x ∷ z) (sub_on ms ns xs)
-sub_on (true ∷ ms) (false ∷ ns) (x ∷ xs) = sub_on ms ns xs
-sub_on (false ∷ ms) ns (x ∷ xs) = sub_on ms ns xs
-
-firsts_sub : (p : Parts) (es : List EntryAt) → Sub es (firsts_of p es)
-firsts_sub p [] = ([], refl)
-firsts_sub p (e ∷ es) =
-    let r = firsts_sub p es in
+firsts_under : (p : Parts) (ms : List Bool) (es : List EntryAt) → (fm : List Bool) × (firsts_of p (marked ms es) ≡ marked fm es) × Under fm ms
+firsts_under p [] es = ([], refl, tt)
+firsts_under p (m ∷ ms) [] = ([], refl, tt)
+firsts_under p (false ∷ ms) (e ∷ es) = let r = firsts_under p ms es in (let v : Under (false ∷ r.0) (false ∷ ms) = ((λ z. z), r.2) in (false ∷ r.0, r.1, v))
+firsts_under p (true ∷ ms) (e ∷ es) =
     let test : EntryAt → Bool = λ f. not (together p (pair_of e) (pair_of f)) in
-    let ns : List Bool = map test (firsts_of p es) in
-    let q : filter test (firsts_of p es) ≡ marked (both_marks r.0 ns) es = sub_filter test (firsts_of p es) ∙ (ap (marked ns) r.1 ∙ sub_on r.0 ns es) in
-    (true ∷ both_marks r.0 ns, ap (λ z. e ∷ z) q)
-
-under_none : (ms : List Bool) → Under (both_marks ms []) ms
-unfolding both_marks
-under_none [] = tt
-under_none (true ∷ ms) = tt
-under_none (false ∷ ms) = ((λ e. e), under_none ms)
-
-under_both : (ms ns : List Bool) → Under (both_marks ms ns) ms
-unfolding both_marks
-under_both [] ns = tt
-under_both (true ∷ ms) [] = tt
-under_both (true ∷ ms) (n ∷ ns) = ((λ e. refl), under_both ms ns)
-under_both (false ∷ ms) ns = ((λ e. e), under_both ms ns)
+    let r = firsts_under p ms es in
+    let g = filter_marked test r.0 ms es r.2 in
+    let v : Under (true ∷ g.0) (true ∷ ms) = ((λ z. refl), g.2) in
+    (true ∷ g.0, ap (λ z. e ∷ z) (ap (filter test) r.1 ∙ g.1), v)
 
 pub firsts_marked : (p : Parts) (kept : List EventAt) → (fm : List Bool) × (firsts p kept ≡ marked fm p.entries) × Under fm (reached_marks p kept)
 unfolding firsts remain
-firsts_marked p kept =
-    let r = firsts_sub p (marked (reached_marks p kept) p.entries) in
-    (both_marks (reached_marks p kept) r.0, r.1 ∙ sub_on (reached_marks p kept) r.0 p.entries, under_both (reached_marks p kept) r.0)
+firsts_marked p kept = firsts_under p (reached_marks p kept) p.entries
 
 -- What is marked of the first is marked of the second.
 under_marked : (fs ms : List Bool) → Under fs ms → (i : ℕ) → IsMarked fs i → IsMarked ms i

@@ -1,10 +1,9 @@
 -- The output with new keys is the chunk rewritten with them: references and entries get their new keys, and sizes
 -- keep their widths.
-use Rattle.std.specs.Prelude.{◌≡◌, ℕ, ◌+◌, ◌-◌, ◌==◌, List, [], ◌∷◌, ◌++◌, length, find, Option, Some, None, slice_range}
+use Rattle.std.specs.Prelude.{◌≡◌, ℕ, ◌+◌, ◌-◌, ◌==◌, List, ◌++◌, length, find, Option, Some, None, slice_range}
 use Rattle.std.specs.List.{flat_map}
 use Rattle.std.proofs.Common.{ap, refl, sym, ◌∙◌}
 use Rattle.jfr_base.specs.Integer.{spell}
-use Rattle.jfr_frame.specs.declared.framed.Framed.{Framed}
 use Rattle.jfr_frame.specs.Records.{record_end}
 use Rattle.jfr_pool.specs.declared.entry.EntryAt.{EntryAt}
 use Rattle.jfr_pool.specs.declared.link.Link.{Link}
@@ -15,6 +14,7 @@ use Rattle.jfr_chunk.specs.Written.{Group, distance, sized}
 use Rattle.jfr_rewrite.specs.Rewrite.{Rewrite, old_width, rewritten}
 use Rattle.jfr_rewrite.specs.Rewrite as anew
 use Rattle.jfr_rewrite.specs.Rewritten.{IsChangedEntry, IsChangedEvent, OneToOne}
+use Rattle.jfr_rewrite.proofs.OneToOneLaws.{each_to}
 use Rattle.jfr_renumber.specs.Laws.{RekeyedRecords}
 use Rattle.jfr_renumber.specs.Meaning.{AreRekeyedEntries}
 use Rattle.jfr_renumber.specs.Renumber.{assembled_by, checkpoint_tail, entry_bytes, event_tail, group_bytes, new_bytes, pair_of, whole_bytes}
@@ -60,17 +60,8 @@ module _ (new : ℕ × ℕ → ℕ) (metadata : Option (List ℕ)) where
     -- Changed entries and events have new keys.
     module _ (q : Parts) where
       pub rekeyed_entries : (es fs : List EntryAt) → OneToOne (IsChangedEntry rewrite p q) es fs → AreRekeyedEntries new p q es fs
-      rekeyed_entries [] [] h = tt
-      rekeyed_entries [] (f ∷ fs) h = absurd h
-      rekeyed_entries (e ∷ es) [] h = absurd h
-      rekeyed_entries (e ∷ es) (f ∷ fs) h =
-          let c = h.0 in
-          (record { class = c.value.class; key = c.key; checkpoint = c.checkpoint; value = sym (bytes_changed new p.classes p.bytes (entry_node e)) ∙ c.value.value }, rekeyed_entries es fs h.1)
+      rekeyed_entries es fs h =
+          each_to es fs (λ e f i j c. record { class = c.value.class; key = c.key; checkpoint = c.checkpoint; value = sym (bytes_changed new p.classes p.bytes (entry_node e)) ∙ c.value.value }) h
 
       pub rekeyed_records : (es fs : List EventAt) → OneToOne (IsChangedEvent (rekeying new) p q) es fs → RekeyedRecords new p q es fs
-      rekeyed_records [] [] h = tt
-      rekeyed_records [] (f ∷ fs) h = absurd h
-      rekeyed_records (e ∷ es) [] h = absurd h
-      rekeyed_records (e ∷ es) (f ∷ fs) h =
-          let c = h.0 in
-          (record { class = c.class; fields = sym (bytes_changed new p.classes p.bytes e.node) ∙ c.fields; rest = c.rest; agree = c.agree }, rekeyed_records es fs h.1)
+      rekeyed_records es fs h = each_to es fs (λ e f i j c. record { class = c.class; fields = sym (bytes_changed new p.classes p.bytes e.node) ∙ c.fields; rest = c.rest; agree = c.agree }) h

@@ -2,7 +2,7 @@
 -- with some of its entries.
 use Rattle.std.specs.Prelude.{◌≡◌, ℕ, ◌+◌, ◌-◌, ◌≤◌, ◌==◌, Bool, true, List, [], ◌∷◌, ◌++◌, length, filter, find, slice_range, Option, Some, None, is_some, reverse}
 use Rattle.std.specs.List.{AllByRecursion, flat_map}
-use Rattle.std.proofs.Common.{arith, refl, sym, subst, length-append}
+use Rattle.std.proofs.Common.{arith, subst, length-append}
 use Rattle.std.proofs.lemmas.Map.Views.{exact_unsigned_eq}
 use Rattle.jfr_base.specs.Integer.{spell}
 use Rattle.jfr_layout.specs.Classes.{Sound}
@@ -27,7 +27,7 @@ use Rattle.jfr_laws.proofs.Groups.{groups_hold}
 use Rattle.jfr_laws.proofs.OutputRecords.{Deltas, IsOutputRecordIn, chained_fits}
 use Rattle.jfr_laws.proofs.Premises.{Ready, ready, recorded}
 use Rattle.jfr_laws.proofs.Same.{chosen_events, event_of_chunk}
-use Rattle.jfr_rewrite.specs.Rewrite.{Rewrite, rewritten_records, written_by}
+use Rattle.jfr_rewrite.specs.Rewrite.{rewritten_records, written_by}
 use Rattle.jfr_rewrite.specs.Rewritten.{CarriesAll, CarriesRecord}
 use Rattle.jfr_rewrite.proofs.Output.{find_in}
 use Rattle.jfr_rewrite.proofs.Sizes.{old_width_carries}

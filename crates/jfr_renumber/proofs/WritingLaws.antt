@@ -1,15 +1,15 @@
 -- The output chunk, one output record after another.
-use Rattle.std.specs.Prelude.{◌≡◌, ℕ, ◌+◌, ◌-◌, ◌≤◌, ◌==◌, Bool, true, false, List, [], ◌∷◌, ◌++◌, length, drop, filter, find, replicate, slice_range, take, Option, Some, None, Contains, IfSome, slice_get, is_some, unwrap_or, if◌then◌else◌}
+use Rattle.std.specs.Prelude.{◌≡◌, ℕ, ◌+◌, ◌-◌, ◌≤◌, ◌==◌, Bool, true, false, List, [], ◌∷◌, ◌++◌, length, drop, filter, find, replicate, take, Option, Some, None, Contains, IfSome, slice_get, unwrap_or, if◌then◌else◌}
 use Rattle.std.specs.List.{AllByRecursion, flat_map}
 use Rattle.std.proofs.Common.{ap, arith, refl, sym, ◌∙◌, subst, append_assoc, length-append}
 use Rattle.std.proofs.lemmas.Bool.{eqb-true}
 use Rattle.std.proofs.lemmas.List.{append-nil}
 use Rattle.std.proofs.lemmas.List.Elements.{All-contains}
 use Rattle.std.proofs.lemmas.Map.Views.{exact_unsigned_eq}
-use Rattle.jfr_base.specs.Integer.{spell, spell_in}
+use Rattle.jfr_base.specs.Integer.{spell_in}
 use Rattle.jfr_header.specs.Headers.{header_bytes, header_of}
 use Rattle.jfr_header.specs.declared.header.Header.{Header}
-use Rattle.jfr_layout.specs.Classes.{Sound, is_event_class}
+use Rattle.jfr_layout.specs.Classes.{is_event_class}
 use Rattle.jfr_frame.specs.declared.framed.Framed.{Framed}
 use Rattle.jfr_frame.specs.Records.{IsRecord, record_bytes}
 use Rattle.jfr_frame.proofs.RecordLaws.{record_one}
@@ -19,20 +19,13 @@ use Rattle.jfr_worklist.specs.Members.{In}
 use Rattle.jfr_worklist.proofs.Members.{contains_in, in_contains}
 use Rattle.jfr_chunk.specs.Parts.{Parts, EventAt, AreParts, events_of, metadata_at}
 use Rattle.jfr_chunk.specs.Reach.{kept_by, marked}
-use Rattle.jfr_chunk.specs.Written as old
-use Rattle.jfr_chunk.specs.Written.{Group, by_pool, distance, sized}
-use Rattle.jfr_chunk.specs.Metas.{Names, new_metadata}
-use Rattle.jfr_chunk.specs.Scrub.{OutputRecord, Whole, Chained, Rebuilt, Written, groups_of, last_at, moved, older_after, output_records, is_kept_or_metadata, record_of, written_anew}
+use Rattle.jfr_chunk.specs.Written.{distance, sized}
+use Rattle.jfr_chunk.specs.Scrub.{OutputRecord, Whole, Chained, Rebuilt, Written, groups_of, last_at, moved, older_after, output_records, record_of}
 use Rattle.jfr_chunk.proofs.AllLaws.{all_in}
-use Rattle.jfr_chunk.proofs.HasNodesLaws.{has_nodes}
-use Rattle.jfr_laws.proofs.Anews.{good_anew}
-use Rattle.jfr_laws.proofs.Groups.{groups_hold}
-use Rattle.jfr_laws.proofs.OutputRecords.{Deltas, IsOutputRecordIn, chained_fits}
 use Rattle.jfr_laws.proofs.Passing.{clash}
-use Rattle.jfr_laws.proofs.Premises.{Ready, metadata_stands, ready, recorded}
+use Rattle.jfr_laws.proofs.Premises.{metadata_stands, recorded}
 use Rattle.jfr_laws.proofs.Quiet.{no_metadata_event}
 use Rattle.jfr_laws.proofs.Same.{chosen_events, event_of_chunk}
-use Rattle.jfr_laws.specs.InChunk.{IsEntryIn, IsGroupIn}
 use Rattle.jfr_output.specs.declared.output_records.OutputRecord as contents
 use Rattle.jfr_output.specs.declared.output_records.OutputRecord.TheVariants as declared_records
 use Rattle.jfr_output.specs.OutputRecords.{IsNewMetadata, IsKeptEvent, ShowsEvent, ShowsMetadata, output_record_as, whole_or}
@@ -43,7 +36,7 @@ use Rattle.jfr_output.proofs.PositionLaws.{last_next, last_none, moved_next, or_
 use Rattle.jfr_output.proofs.Widths.{size_width, spelled_length}
 use Rattle.jfr_renumber.specs.Meaning.{AreNewKeys}
 use Rattle.jfr_renumber.specs.Numbers.{NumberedPairs, number_of, number_or_zero}
-use Rattle.jfr_renumber.specs.Renumber.{assembled_by, checkpoint_tail, event_bytes, firsts, group_bytes, new_bytes, new_key, new_key_of, renumber_with, whole_bytes}
+use Rattle.jfr_renumber.specs.Renumber.{assembled_by, checkpoint_tail, event_bytes, firsts, new_bytes, new_key, new_key_of, renumber_with, whole_bytes}
 use Rattle.jfr_renumber.specs.Writing.{CanWrite, CheckpointFits, IsBody, IsWritten, Progress, with_record}
 use Rattle.jfr_renumber.proofs.AgreeLaws.{number_used, output_same}
 use Rattle.jfr_renumber.proofs.LawLaws.{new_keys_are}

@@ -6,6 +6,7 @@ mod Events
 pub mod InForce
 mod Made
 pub mod MeaningLaws
+pub mod OneToOneLaws
 pub mod Output
 pub mod PathLaws
 pub mod Pools
