@@ -23,12 +23,12 @@ use Rattle.jfr_rewrite.specs.Rewritten.{HasChangedValue, IsChangedEvent}
 use Rattle.jfr_rewrite.proofs.MeaningLaws.{event_leads}
 use Rattle.jfr_rewrite.proofs.OneToOneLaws.{each_to}
 use Rattle.jfr_rewrite.proofs.PathLaws.{Paired}
-use Rattle.jfr_renumber.specs.Rekeyed.{SameButKeys, rekeyed, rekeyed_all, rekeyed_pair}
+use Rattle.jfr_renumber.specs.Rekeyed.{SameButKeys, rekeyed, rekeyed_all, rekeyed_pair, rekeying}
 use Rattle.jfr_renumber.specs.Renumber.{used_keys, new_key, firsts}
 use Rattle.jfr_renumber.specs.Meaning.{AreNewKeys, AreRekeyedEntries, IsInOrder, RekeyedEvent, RekeyedMeaning}
 use Rattle.jfr_renumber.specs.Laws.{KeepsMeaning, RekeyedRecord, RekeyedRecords, AgreeOnUsed}
 use Rattle.jfr_renumber.proofs.PathLaws.{leads_free, met_used, node_in}
-use Rattle.jfr_renumber.proofs.RekeyedLaws.{bytes_changed, never, node_rekeyed, rekeyed_fits, rekeyed_is_changed, rekeyed_leaves, rekeyed_shape, rekeyed_short, rekeying, rekeying_keeps, rekeying_targets}
+use Rattle.jfr_renumber.proofs.RekeyedLaws.{never, node_rekeyed, rekeyed_fits, rekeyed_is_changed, rekeyed_leaves, rekeyed_shape, rekeyed_short, rekeying_keeps, rekeying_targets}
 use Rattle.jfr_renumber.proofs.UsedLaws.{in_used, keys_rise, new_keys, used_in}
 use Rattle.jfr_renumber.proofs.RenamedLaws.{entries_changed}
 
@@ -98,7 +98,7 @@ module _ (p : Parts) (a : AreParts p) (kept : List EventAt) (are : AreEvents p k
     module _ (others : List EventAt) (those : AreEvents q others) where
       event_renamed : (e f : EventAt) → In kept e → In others f → RekeyedRecord new p q e f → RekeyedEvent new p q e f
       event_renamed e f i j h =
-          let c : IsChangedEvent (rekeying new) p q e f = record { class = h.class; agree = h.agree; fields = bytes_changed new p.classes p.bytes e.node ∙ h.fields; rest = h.rest } in
+          let c : IsChangedEvent (rekeying new) p q e f = record { class = h.class; agree = h.agree; fields = h.fields; rest = h.rest } in
           let lead = event_leads (rekeying new) new never p q kept others a b are those (rekeying_keeps new p.classes) (rekeying_targets new p.classes) (λ t m. in_force_changed t (met_used p kept t m)) e f i j c in
           record {
             class = h.class;

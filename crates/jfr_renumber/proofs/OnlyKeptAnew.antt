@@ -31,7 +31,8 @@ use Rattle.jfr_laws.proofs.Outlines.{Spelled}
 use Rattle.jfr_laws.proofs.PoolsAlike.{AnswersAlike, Related, pools_filter, related_filter}
 use Rattle.jfr_laws.proofs.Premises.{recorded}
 use Rattle.jfr_laws.proofs.ToldLaws.{all_apart, rendered_same}
-use Rattle.jfr_renumber.specs.Rekeyed.{rekeyed, rekeyed_bytes}
+use Rattle.jfr_renumber.specs.Rekeyed.{rekeyed_bytes, rekeying}
+use Rattle.jfr_rewrite.specs.Changed.{changed}
 use Rattle.jfr_rewrite.specs.Rewrite.{written_by}
 use Rattle.jfr_renumber.specs.Renumber.{used_keys, pair_of, equal_values, together, new_key, firsts, firsts_with, entry_bytes, event_bytes, new_bytes, whole_bytes, renumber_with}
 use Rattle.jfr_renumber.specs.Keys.{group_number}
@@ -170,7 +171,7 @@ module _ (slim other : Option (List ℕ)) (p q : Parts) (kept others : List Even
   node_same : (n o : NodeAt) → NodePair p q a b n o → ((t : ℕ × ℕ) → In (targets p.classes p.bytes n) t → In (used_keys p kept) t) → rekeyed_bytes (new_key p kept) p.classes p.bytes n ≡ rekeyed_bytes (new_key q others) q.classes q.bytes o
   node_same n o x u =
       bytes_same (new_key p kept) (new_key q others) p.classes p.bytes n (λ t i. new_same t (u t i))
-      ∙ ap (λ z. option_map_or (λ v. bytes_of (rekeyed (new_key q others) v)) z []) (value_same n o x)
+      ∙ ap (λ z. option_map_or (λ v. bytes_of (changed (rekeying (new_key q others)) None v)) z []) (value_same n o x)
 
   pair_same : (e f : EntryAt) → NP e f → pair_of e ≡ pair_of f
   pair_same e f r = λ i. (r.copied.class i, r.copied.key i)

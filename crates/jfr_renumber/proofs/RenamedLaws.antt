@@ -20,10 +20,10 @@ use Rattle.jfr_chunk.proofs.PathLaws.{HasNodes}
 use Rattle.jfr_rewrite.specs.Rewritten.{HasChangedValue}
 use Rattle.jfr_rewrite.proofs.OneToOneLaws.{first, second}
 use Rattle.jfr_renumber.specs.Laws.{AgreeOnUsed}
-use Rattle.jfr_renumber.specs.Rekeyed.{rekeyed, rekeyed_pair}
+use Rattle.jfr_renumber.specs.Rekeyed.{rekeyed, rekeyed_pair, rekeying}
 use Rattle.jfr_renumber.specs.Renumber.{together, firsts, pair_of}
 use Rattle.jfr_renumber.specs.Meaning.{AreNewKeys, IsRekeyedEntry, AreRekeyedEntries}
-use Rattle.jfr_renumber.proofs.RekeyedLaws.{bytes_changed, node_bytes_are, rekeying}
+use Rattle.jfr_renumber.proofs.RekeyedLaws.{node_bytes_are}
 use Rattle.jfr_renumber.proofs.ValueLaws.{fits_once}
 use Rattle.jfr_renumber.proofs.TogetherLaws.{Alike, together_alike, together_is, first_among, first_with}
 use Rattle.jfr_renumber.proofs.UsedLaws.{Remaining, used_remains, remains_used}
@@ -143,8 +143,8 @@ module _ (p q : Parts) (s : HasNodes p) (new : ℕ × ℕ → ℕ) (kept : List 
         class = (c ∙ sym a.0) ∙ n.class;
         agree = subst (Agree p.classes q.classes) (sym c) (agree t u);
         value =
-            bytes_changed new p.classes p.bytes (entry_node e) ∙ (node_bytes_are new p.classes s.sound p.bytes (entry_node e) v.0 v.1 ∙ (ap (λ z. bytes_of (rekeyed new z)) same
-            ∙ (sym (node_bytes_are new p.classes s.sound p.bytes (entry_node d) m.value m.node) ∙ n.value)));
+            node_bytes_are new p.classes s.sound p.bytes (entry_node e) v.0 v.1 ∙ (ap (λ z. bytes_of (rekeyed new z)) same
+            ∙ (sym (node_bytes_are new p.classes s.sound p.bytes (entry_node d) m.value m.node) ∙ n.value));
       }
 
   -- So the entry in force for a new key has the changed value.

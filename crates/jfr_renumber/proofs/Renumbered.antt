@@ -1,10 +1,9 @@
 -- The output of a chunk with new keys is a chunk that means the same, except for the keys.
-use Rattle.std.specs.Prelude.{◌≡◌, ℕ, zero, suc, ◌≤◌, Bool, true, false, not, List, [], ◌∷◌, length, filter, Some, None, cond}
+use Rattle.std.specs.Prelude.{◌≡◌, ℕ, zero, suc, ◌≤◌, Bool, true, false, not, List, [], ◌∷◌, length, filter, cond}
 use Rattle.std.proofs.Common.{ap, arith, refl, sym, ◌∙◌, subst}
 use Rattle.std.proofs.lemmas.List.Elements.{All-contains_itself}
 use Rattle.jfr_header.specs.Fronts as fronts
 use Rattle.jfr_layout.specs.Classes.{Agree}
-use Rattle.jfr_value.specs.Values.{Value, Single, Group, shape_of, own_target}
 use Rattle.jfr_value.proofs.NodeLaws.{target_is}
 use Rattle.jfr_pool.specs.declared.entry.EntryAt.{EntryAt}
 use Rattle.jfr_worklist.specs.Marks.{IsMarked}
@@ -16,6 +15,7 @@ use Rattle.jfr_chunk.specs.Reach.{Reached, marked, reached_marks, kept_by, remai
 use Rattle.jfr_chunk.specs.Metas.{Names, new_metadata, remaining_classes}
 use Rattle.jfr_chunk.specs.Scrub.{output_records, scrub_of, scrub_with}
 use Rattle.jfr_chunk.proofs.HasNodesLaws.{has_nodes}
+use Rattle.jfr_chunk.proofs.PathLaws.{own_class}
 use Rattle.jfr_laws.proofs.Anews.{anew}
 use Rattle.jfr_laws.proofs.Header.{whole_small}
 use Rattle.jfr_laws.proofs.Passing.{clash}
@@ -27,13 +27,13 @@ use Rattle.jfr_rewrite.proofs.Accepted as accepted
 use Rattle.jfr_rewrite.proofs.Remaining.{describes_remaining, suits_remaining}
 use Rattle.jfr_rewrite.proofs.Rewriting.{Rewriting}
 use Rattle.jfr_renumber.specs.Laws.{AgreeOnUsed}
-use Rattle.jfr_renumber.specs.Renumber.{new_key, together, pair_of, firsts, firsts_of, new_bytes, assembled_by, renumber_of, renumber_with}
+use Rattle.jfr_renumber.specs.Renumber.{new_key, together, pair_of, firsts, firsts_of, new_bytes, assembled_by, renumber_of, renumber_with, with_keys}
 use Rattle.jfr_renumber.specs.Meaning.{AreNewKeys, AreRekeyedEntries, IsRenumbered}
 use Rattle.jfr_renumber.proofs.Fewer.{Under}
 use Rattle.jfr_renumber.proofs.LawLaws.{new_keys_are, renamed_the_same, same_missing}
 use Rattle.jfr_renumber.proofs.NoLonger.{no_longer, scrub_short}
 use Rattle.jfr_renumber.proofs.RekeyedLaws.{rekeying_keeps}
-use Rattle.jfr_renumber.proofs.RewrittenLaws.{is_rewritten, rekeyed_entries, rekeyed_records, rewrite}
+use Rattle.jfr_renumber.proofs.RewrittenLaws.{is_rewritten, rekeyed_entries, rekeyed_records}
 use Rattle.jfr_renumber.proofs.Room.{carries_all}
 
 -- What marks leave of a list, less those that a test excludes, is what fewer marks leave; so is the first of each group.
@@ -73,12 +73,6 @@ under_marked (f ∷ fs) [] u (suc i) h = let g : false ≡ true = under_marked f
 under_marked (f ∷ fs) (m ∷ ms) u zero h = u.0 h
 under_marked (f ∷ fs) (m ∷ ms) u (suc i) h = under_marked fs ms u.1 i h
 
--- What a value refers to is of its class.
-own_class : (v : Value) (t : ℕ × ℕ) → own_target v ≡ Some t → (shape_of v).class ≡ t.0
-own_class (Single s kind b None) t e = cc
-own_class (Single s kind b (Some key)) t e = let h : (s.class, key) ≡ t = cc in ap (λ z. z.0) h
-own_class (Group s h vs) t e = cc
-
 module _ (names : Names) (p : Parts) (a : AreParts p) (flags : List Bool) (whole : fronts.Whole p.bytes) where
   abbrev these : List EventAt
   these = kept_by p flags
@@ -104,7 +98,7 @@ module _ (names : Names) (p : Parts) (a : AreParts p) (flags : List Bool) (whole
 
   abbrev given : Rewriting
   given = record {
-    rewrite = rewrite new (new_metadata names p these);
+    rewrite = with_keys new (new_metadata names p these);
     parts = p;
     accepted = a;
     keeps = rekeying_keeps new p.classes;
@@ -116,7 +110,7 @@ module _ (names : Names) (p : Parts) (a : AreParts p) (flags : List Bool) (whole
   }
 
   abbrev out : List ℕ
-  out = rewritten (rewrite new (new_metadata names p these)) p these ours
+  out = rewritten (with_keys new (new_metadata names p these)) p these ours
 
   assembled_is : assembled_by p (new_bytes new p these ours) (output_records (new_metadata names p these) p these) ≡ out
   assembled_is = is_rewritten new (new_metadata names p these) p these ours
@@ -133,7 +127,7 @@ module _ (names : Names) (p : Parts) (a : AreParts p) (flags : List Bool) (whole
   unfolding scrub_with remain
   shorter = omega (arith, no_longer_than_scrubbed, scrub_short names p a flags new keys.most fm (reached_marks p these) (firsts_marked p these).2)
 
-  done : IsRewritten (rewrite new (new_metadata names p these)) p these ours (remaining_classes names p these)
+  done : IsRewritten (with_keys new (new_metadata names p these)) p these ours (remaining_classes names p these)
   done = accepted.is_rewritten given whole (omega (arith, shorter, whole_small p.bytes whole)) (carries_all p a flags new keys.most fm names)
 
   abbrev q : Parts

@@ -31,32 +31,22 @@ use Rattle.jfr_rewrite.specs.Rewrite.{rewritten_records, written_by}
 use Rattle.jfr_rewrite.specs.Rewritten.{CarriesAll, CarriesRecord}
 use Rattle.jfr_rewrite.proofs.Output.{find_in}
 use Rattle.jfr_rewrite.proofs.Sizes.{old_width_carries}
-use Rattle.jfr_renumber.specs.Renumber.{checkpoint_tail, event_tail, group_bytes, new_bytes, whole_bytes}
+use Rattle.jfr_renumber.specs.Renumber.{checkpoint_tail, event_tail, group_bytes, new_bytes, whole_bytes, with_keys}
 use Rattle.jfr_renumber.specs.Writing.{CanWrite}
 use Rattle.jfr_renumber.proofs.EventWriting.{tail_short}
 use Rattle.jfr_renumber.proofs.Fewer.{Under, Shorter, entries_stand, numbers_short, sized_length, under_same}
-use Rattle.jfr_renumber.proofs.RewrittenLaws as same
-use Rattle.jfr_renumber.proofs.RewrittenLaws.{rewrite}
+use Rattle.jfr_renumber.proofs.RewrittenLaws.{bytes_same}
 
 all_to : {X : Type 0} {P Q : X → Type 0} → ((x : X) → P x → Q x) → (xs : List X) → AllByRecursion P xs → AllByRecursion Q xs
 all_to f [] a = tt
 all_to f (x ∷ xs) a = (f x a.0, all_to f xs a.1)
 
-module _ (p : Parts) (a : AreParts p) (flags : List Bool) (new : ℕ × ℕ → ℕ) (most : (t : ℕ × ℕ) → new t ≤ t.1) where
+module _ (p : Parts) (a : AreParts p) (flags : List Bool) where
   abbrev kept : List EventAt
   kept = kept_by p flags
 
-  abbrev sound : Sound p.classes
-  sound = (has_nodes p a).sound
-
-  -- An event.
   event_record : (e : EventAt) → In kept e → IsRecord p.bytes e.record_of
   event_record e i = all_in (IsRecord p.bytes) p.records e.record_of (recorded p a) (event_of_chunk p a kept (chosen_events p flags) e i).listed
-
-  event_room : (e : EventAt) → In kept e → (e.record_of.type_at - e.record_of.at) + length (event_tail new p e) ≤ e.record_of.size
-  event_room e i =
-      let h = event_of_chunk p a kept (chosen_events p flags) e i in
-      tail_short p.classes sound p.bytes new most e.record_of (event_record e i) e.node h.value h.node h.at h.within
 
   -- The event whose record is here, if it is found.
   pub found_event : (r : Framed) (e : EventAt) → IsRecord p.bytes r → find (λ e. e.record_of.at == r.at) kept ≡ Some e → In kept e × (e.record_of ≡ r)
@@ -64,9 +54,22 @@ module _ (p : Parts) (a : AreParts p) (flags : List Bool) (new : ℕ × ℕ → 
       let f = find_in (λ e. e.record_of.at == r.at) kept e q in
       (f.0, record_one p.bytes e.record_of r (event_record e f.0) s (exact_unsigned_eq e.record_of.at r.at f.1))
 
-  pub whole_short : (r : Framed) → IsRecord p.bytes r → (o : Option EventAt) → find (λ e. e.record_of.at == r.at) kept ≡ o → length (whole_bytes new p r o) ≤ r.size
+module _ (p : Parts) (a : AreParts p) (flags : List Bool) (new : ℕ × ℕ → ℕ) (most : (t : ℕ × ℕ) → new t ≤ t.1) where
+  abbrev these : List EventAt
+  these = kept_by p flags
+
+  abbrev sound : Sound p.classes
+  sound = (has_nodes p a).sound
+
+  -- An event.
+  event_room : (e : EventAt) → In these e → (e.record_of.type_at - e.record_of.at) + length (event_tail new p e) ≤ e.record_of.size
+  event_room e i =
+      let h = event_of_chunk p a these (chosen_events p flags) e i in
+      tail_short p.classes sound p.bytes new most e.record_of (event_record p a flags e i) e.node h.value h.node h.at h.within
+
+  pub whole_short : (r : Framed) → IsRecord p.bytes r → (o : Option EventAt) → find (λ e. e.record_of.at == r.at) these ≡ o → length (whole_bytes new p r o) ≤ r.size
   whole_short r s (Some e) q =
-      let f = found_event r e s q in
+      let f = found_event p a flags r e s q in
       subst (λ (z : Framed). length (whole_bytes new p r (Some e)) ≤ z.size) f.1 (omega (arith, event_room e f.0, sized_length (e.record_of.type_at - e.record_of.at) (event_tail new p e)))
   whole_short r s None q = omega (arith, record_length p.bytes r s)
 
@@ -119,7 +122,7 @@ module _ (p : Parts) (a : AreParts p) (flags : List Bool) (new : ℕ × ℕ → 
         }
 
     abbrev bytes : OutputRecord → ℕ → Option ℕ → List ℕ
-    bytes = new_bytes new p kept remaining
+    bytes = new_bytes new p these remaining
 
     abbrev pub CanBeWritten : Written → Type 0
     CanBeWritten w = CanWrite new p remaining w.output_record w.at w.older
@@ -132,25 +135,24 @@ module _ (p : Parts) (a : AreParts p) (flags : List Bool) (new : ℕ × ℕ → 
     each_can (Chained i l ∷ ss) at older s d = (checkpoint_fits i l at older s.0 d.0, each_can ss (at + length (bytes (Chained i l) at older)) (Some at) s.1 d.1)
 
     -- All output records can be written.
-    pub all_can : (names : Names) → AllByRecursion CanBeWritten (written_by bytes 68 None (output_records (new_metadata names p kept) p kept))
+    pub all_can : (names : Names) → AllByRecursion CanBeWritten (written_by bytes 68 None (output_records (new_metadata names p these) p these))
     all_can names =
-        let slim = new_metadata names p kept in
-        let r : Ready p remaining (output_records slim p kept) = ready p a (is_kept_or_metadata p kept) (written_anew slim p) (good_anew names p a kept) fm in
-        each_can (output_records slim p kept) 68 None r.valid r.deltas
+        let slim = new_metadata names p these in
+        let r : Ready p remaining (output_records slim p these) = ready p a (is_kept_or_metadata p these) (written_anew slim p) (good_anew names p a these) fm in
+        each_can (output_records slim p these) 68 None r.valid r.deltas
 
     -- So their old widths carry their sizes.
-    record_carried : (slim : Option (List ℕ)) (o : OutputRecord) (at : ℕ) (older : Option ℕ) → CanWrite new p remaining o at older → CarriesRecord (rewrite new slim) p kept remaining o at older
+    record_carried : (slim : Option (List ℕ)) (o : OutputRecord) (at : ℕ) (older : Option ℕ) → CanWrite new p remaining o at older → CarriesRecord (with_keys new slim) p these remaining o at older
     unfolding CanWrite
     record_carried slim (Whole r) at older c =
-        λ e q. (let f = found_event r e c q in
-        old_width_carries p.bytes e.record_of _ (event_record e f.0) (subst (λ z. (e.record_of.type_at - e.record_of.at) + length z ≤ e.record_of.size) (same.event_same new slim p e) (event_room e f.0)))
+        λ e q. (let f = found_event p a flags r e c q in
+        old_width_carries p.bytes e.record_of _ (event_record p a flags e f.0) (event_room e f.0))
     record_carried slim (Rebuilt r x) at older c = tt
     record_carried slim (Chained i l) at older c =
-        old_width_carries p.bytes l.frame _ c.link.record_stands
-        (subst (λ z. (l.frame.type_at - l.frame.at) + length z ≤ l.frame.size) (same.tail_same new slim p l (distance at older) (groups_of remaining i)) c.room)
+        old_width_carries p.bytes l.frame _ c.link.record_stands c.room
 
-    pub carries_all : (names : Names) → CarriesAll (rewrite new (new_metadata names p kept)) p kept remaining
+    pub carries_all : (names : Names) → CarriesAll (with_keys new (new_metadata names p these)) p these remaining
     carries_all names =
-        let slim = new_metadata names p kept in
-        all_to (λ o c. record_carried slim o.output_record o.at o.older c) (rewritten_records (rewrite new slim) p kept remaining)
-        (subst (λ z. AllByRecursion CanBeWritten (written_by z 68 None (output_records slim p kept))) (same.bytes_same new slim p kept remaining) (all_can names))
+        let slim = new_metadata names p these in
+        all_to (λ o c. record_carried slim o.output_record o.at o.older c) (rewritten_records (with_keys new slim) p these remaining)
+        (subst (λ z. AllByRecursion CanBeWritten (written_by z 68 None (output_records slim p these))) (bytes_same new slim p these remaining) (all_can names))

@@ -5,7 +5,6 @@ use Rattle.std.proofs.Common.{ap, arith, refl, sym, ◌∙◌, subst, append_ass
 use Rattle.std.proofs.lemmas.Bool.{eqb-true}
 use Rattle.std.proofs.lemmas.List.{append-nil}
 use Rattle.std.proofs.lemmas.List.Elements.{All-contains}
-use Rattle.std.proofs.lemmas.Map.Views.{exact_unsigned_eq}
 use Rattle.jfr_base.specs.Integer.{spell_in}
 use Rattle.jfr_header.specs.Headers.{header_bytes, header_of}
 use Rattle.jfr_header.specs.declared.header.Header.{Header}
@@ -21,11 +20,10 @@ use Rattle.jfr_chunk.specs.Parts.{Parts, EventAt, AreParts, events_of, metadata_
 use Rattle.jfr_chunk.specs.Reach.{kept_by, marked}
 use Rattle.jfr_chunk.specs.Written.{distance, sized}
 use Rattle.jfr_chunk.specs.Scrub.{OutputRecord, Whole, Chained, Rebuilt, Written, groups_of, last_at, moved, older_after, output_records, record_of}
-use Rattle.jfr_chunk.proofs.AllLaws.{all_in}
 use Rattle.jfr_laws.proofs.Passing.{clash}
-use Rattle.jfr_laws.proofs.Premises.{metadata_stands, recorded}
+use Rattle.jfr_laws.proofs.Premises.{metadata_stands}
 use Rattle.jfr_laws.proofs.Quiet.{no_metadata_event}
-use Rattle.jfr_laws.proofs.Same.{chosen_events, event_of_chunk}
+use Rattle.jfr_laws.proofs.Same.{chosen_events}
 use Rattle.jfr_output.specs.declared.output_records.OutputRecord as contents
 use Rattle.jfr_output.specs.declared.output_records.OutputRecord.TheVariants as declared_records
 use Rattle.jfr_output.specs.OutputRecords.{IsNewMetadata, IsKeptEvent, ShowsEvent, ShowsMetadata, output_record_as, whole_or}
@@ -42,9 +40,8 @@ use Rattle.jfr_renumber.proofs.AgreeLaws.{number_used, output_same}
 use Rattle.jfr_renumber.proofs.LawLaws.{new_keys_are}
 use Rattle.jfr_rewrite.specs.Rewrite.{bytes_by, written_by}
 use Rattle.jfr_rewrite.proofs.Accepted.{computed}
-use Rattle.jfr_rewrite.proofs.Output.{find_in}
 use Rattle.jfr_renumber.proofs.Renumbered.{firsts_marked}
-use Rattle.jfr_renumber.proofs.Room.{all_can}
+use Rattle.jfr_renumber.proofs.Room.{all_can, found_event}
 
 -- No kept event is the metadata record.
 pub metadata_no_event : (p : Parts) → AreParts p → (flags : List Bool) (r : Framed) → IsRecord p.bytes r → (r.at == metadata_at p.bytes) ≡ true → find (λ e. e.record_of.at == r.at) (kept_by p flags) ≡ None
@@ -56,10 +53,10 @@ metadata_no_event p a flags r s t = by_find (find (λ e. e.record_of.at == r.at)
     by_find : (o : Option EventAt) → find (λ e. e.record_of.at == r.at) (kept_by p flags) ≡ o → o ≡ None
     by_find None q = refl
     by_find (Some e) q =
-        let f = find_in (λ e. e.record_of.at == r.at) (kept_by p flags) e q in
+        let f = found_event p a flags r e s q in
         let i : In (events_of p) e = contains_in (events_of p) e (All-contains (Contains (events_of p)) (kept_by p flags) e (chosen_events p flags) (in_contains (kept_by p flags) e f.0)) in
         let c = computed p e i in
-        let same : e.record_of ≡ a.metadata_record = record_one p.bytes e.record_of a.metadata_record (all_in (IsRecord p.bytes) p.records e.record_of (recorded p a) (event_of_chunk p a (kept_by p flags) (chosen_events p flags) e f.0).listed) (metadata_stands p a) (exact_unsigned_eq e.record_of.at r.at f.1 ∙ ap (λ (z : Framed). z.at) there) in
+        let same : e.record_of ≡ a.metadata_record = f.1 ∙ there in
         let none : is_event_class p.classes e.record_of.type_id ≡ false = ap (λ (z : Framed). is_event_class p.classes z.type_id) same ∙ (ap (is_event_class p.classes) a.metadata_there.type_is ∙ no_metadata_event p.classes) in
         absurd (clash (is_event_class p.classes e.record_of.type_id) c.class none)
 
