@@ -49,7 +49,7 @@ under_drop (suc n) (f ∷ fs) [] u = under_drop_none n fs u.1
     under_drop_none (suc n) (f ∷ fs) u = under_drop_none n fs u.1
 under_drop (suc n) (f ∷ fs) (m ∷ ms) u = under_drop n fs ms u.1
 
-marked_none : {X : Type 0} (ms : List Bool) → marked {X = X} ms [] ≡ []
+pub marked_none : {X : Type 0} (ms : List Bool) → marked {X = X} ms [] ≡ []
 marked_none [] = refl
 marked_none (m ∷ ms) = refl
 

@@ -20,6 +20,7 @@ use Rattle.jfr_renumber.specs.Keys.{count_below, smallest, begins, group_number,
 use Rattle.jfr_renumber.specs.Missing.{Earlier, IsRising}
 use Rattle.jfr_renumber.specs.Numbering.{number_under, value_of_key, SameValue, AreKeysOf, group_numbers}
 use Rattle.jfr_renumber.proofs.KeyLaws.{count_flat, count_this, smallest_least, smallest_most, number_same, group_begins, any_in, Least, least_is}
+use Rattle.jfr_meta.proofs.StayLaws.{in_get}
 use Rattle.jfr_renumber.proofs.OrderLaws.{rising_at-map}
 use Rattle.jfr_layout.proofs.Lists.{map_next}
 
@@ -28,11 +29,6 @@ Firsts = BTreeMap (Bor (List ℕ)) ℕ
 
 pub empty_under : (m : Firsts) → tree.IsEmpty m → (q : List ℕ) → number_under m q ≡ None
 empty_under m e q = ap (lookup (tree.is_at (λ k. slice_cmp nat_cmp q k.now))) e
-
-pub in_get : {X : Type 0} (xs : List X) (x : X) → In xs x → (i : ℕ) × (slice_get xs i ≡ Some x)
-in_get [] x i = absurd i
-in_get (y ∷ xs) x (inl e) = (0, ap (λ z. Some z) e)
-in_get (y ∷ xs) x (inr i) = let r = in_get xs x i in (suc r.0, r.1)
 
 -- Of keys of a class, later ones are larger.
 abbrev Rising : ℕ → List UsedKey → Type 0

@@ -25,11 +25,8 @@ use Rattle.jfr_renumber.specs.Renumber.{together, firsts, pair_of}
 use Rattle.jfr_renumber.specs.Meaning.{AreNewKeys, IsRekeyedEntry, AreRekeyedEntries}
 use Rattle.jfr_renumber.proofs.RekeyedLaws.{node_bytes_are}
 use Rattle.jfr_renumber.proofs.ValueLaws.{fits_once}
-use Rattle.jfr_renumber.proofs.TogetherLaws.{Alike, together_alike, together_is, first_among, first_with}
+use Rattle.jfr_renumber.proofs.TogetherLaws.{Alike, pair_is, together_alike, together_is, first_among, first_with}
 use Rattle.jfr_renumber.proofs.UsedLaws.{Remaining, used_remains, remains_used}
-
-pair_is : (t u : ℕ × ℕ) → t.0 ≡ u.0 → t.1 ≡ u.1 → t ≡ u
-pair_is t u a b = ap (λ (z : ℕ). (z, t.1)) a ∙ ap (λ (z : ℕ). (u.0, z)) b
 
 -- A class and a key that an entry has are those of a last one.
 never_none : (es : List EntryAt) (n : ℕ) (e : EntryAt) → In es e → last_from n es (pair_of e) ≡ None → ⊥

@@ -27,7 +27,7 @@ pub record Twins (p : Parts) (t u : ℕ × ℕ) : Type 0 where
 abbrev pub Alike : Parts → ℕ × ℕ → ℕ × ℕ → Type 0
 Alike p t u = (t.0 ≡ u.0) × ((t.1 ≡ u.1) ⊎ Twins p t u)
 
-pair_is : (t u : ℕ × ℕ) → t.0 ≡ u.0 → t.1 ≡ u.1 → t ≡ u
+pub pair_is : (t u : ℕ × ℕ) → t.0 ≡ u.0 → t.1 ≡ u.1 → t ≡ u
 pair_is t u a b = ap (λ (z : ℕ). (z, t.1)) a ∙ ap (λ (z : ℕ). (u.0, z)) b
 
 or_cases : (a b : Bool) → (a || b) ≡ true → (a ≡ true) ⊎ (b ≡ true)
