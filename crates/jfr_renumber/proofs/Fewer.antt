@@ -77,6 +77,21 @@ sized_length n tail = length-append (spell_in n (n + length tail)) tail ∙ ap (
 number_short : (m n : ℕ) → m ≤ n → length (spell m) ≤ length (spell n)
 number_short m n h = spell_short (spell n) m n (spell_spells n) h
 
+-- The length of groups whose first one has these entries, given the bytes of an entry.
+front_length : (entry : EntryAt → List ℕ) (number class : ℕ) (f : EntryAt) (fs : List EntryAt) (gs : List Group)
+    → length (flat_map (λ g. spell g.class ++ (spell (length g.entries) ++ flat_map entry g.entries)) (in_front number class (f ∷ fs) gs))
+    ≡ length (spell class) + (length (spell (length (f ∷ fs))) + length (flat_map entry (f ∷ fs))) + length (flat_map (λ g. spell g.class ++ (spell (length g.entries) ++ flat_map entry g.entries)) gs)
+front_length entry number class f fs gs =
+    let later : List ℕ = flat_map (λ (g : Group). spell g.class ++ (spell (length g.entries) ++ flat_map entry g.entries)) gs in
+    let count : List ℕ = spell (length (f ∷ fs)) in
+    let items : List ℕ = flat_map entry (f ∷ fs) in
+    omega (arith, length-append (spell class ++ (count ++ items)) later, length-append (spell class) (count ++ items), length-append count items)
+
+-- The length of what a checkpoint has after its size.
+pub tail_length : (a b d k n g : List ℕ) → length (a ++ (b ++ (d ++ (k ++ (n ++ g))))) ≡ length a + (length b + (length d + (length k + (length n + length g))))
+tail_length a b d k n g =
+    omega (arith, length-append a (b ++ (d ++ (k ++ (n ++ g)))), length-append b (d ++ (k ++ (n ++ g))), length-append d (k ++ (n ++ g)), length-append k (n ++ g), length-append n g)
+
 module _ (p : Parts) (sound : Sound p.classes) (new : ℕ × ℕ → ℕ) (most : (t : ℕ × ℕ) → new t ≤ t.1) where
   one_short : (e : EntryAt) → IsEntryIn p.bytes p.classes e → length (entry_bytes new p e) ≤ length (old.entry_bytes p.bytes e)
   one_short e s =
@@ -114,26 +129,14 @@ module _ (p : Parts) (sound : Sound p.classes) (new : ℕ × ℕ → ℕ) (most 
     pub count : length gs ≤ length hs
     pub bytes : length (flat_map (group_bytes new p) gs) ≤ length (flat_map (old.group_bytes p.bytes) hs)
 
-  group_length : (number class : ℕ) (f : EntryAt) (fs : List EntryAt) (gs : List Group)
-      → length (flat_map (group_bytes new p) (in_front number class (f ∷ fs) gs)) ≡ length (spell class) + (length (spell (length (f ∷ fs))) + length (flat_map (entry_bytes new p) (f ∷ fs))) + length (flat_map (group_bytes new p) gs)
-  group_length number class f fs gs =
-      length-append (spell class ++ (spell (length (f ∷ fs)) ++ flat_map (entry_bytes new p) (f ∷ fs))) (flat_map (group_bytes new p) gs)
-      ∙ ap (λ n. n + length (flat_map (group_bytes new p) gs)) (length-append (spell class) (spell (length (f ∷ fs)) ++ flat_map (entry_bytes new p) (f ∷ fs)) ∙ ap (λ n. length (spell class) + n) (length-append (spell (length (f ∷ fs))) (flat_map (entry_bytes new p) (f ∷ fs))))
-
-  old_length : (number class : ℕ) (f : EntryAt) (fs : List EntryAt) (gs : List Group)
-      → length (flat_map (old.group_bytes p.bytes) (in_front number class (f ∷ fs) gs)) ≡ length (spell class) + (length (spell (length (f ∷ fs))) + length (flat_map (old.entry_bytes p.bytes) (f ∷ fs))) + length (flat_map (old.group_bytes p.bytes) gs)
-  old_length number class f fs gs =
-      length-append (spell class ++ (spell (length (f ∷ fs)) ++ flat_map (old.entry_bytes p.bytes) (f ∷ fs))) (flat_map (old.group_bytes p.bytes) gs)
-      ∙ ap (λ n. n + length (flat_map (old.group_bytes p.bytes) gs)) (length-append (spell class) (spell (length (f ∷ fs)) ++ flat_map (old.entry_bytes p.bytes) (f ∷ fs)) ∙ ap (λ n. length (spell class) + n) (length-append (spell (length (f ∷ fs))) (flat_map (old.entry_bytes p.bytes) (f ∷ fs))))
-
   front_short : (number class : ℕ) (fs es : List EntryAt) (gs hs : List Group) → length fs ≤ length es → length (flat_map (entry_bytes new p) fs) ≤ length (flat_map (old.entry_bytes p.bytes) es)
       → Shorter gs hs → Shorter (in_front number class fs gs) (in_front number class es hs)
   front_short number class [] [] gs hs n b s = s
-  front_short number class [] (e ∷ es) gs hs n b s = record { count = omega (arith, s.count); bytes = omega (arith, s.bytes, old_length number class e es hs) }
+  front_short number class [] (e ∷ es) gs hs n b s = record { count = omega (arith, s.count); bytes = omega (arith, s.bytes, front_length (old.entry_bytes p.bytes) number class e es hs) }
   front_short number class (f ∷ fs) [] gs hs n b s = absurd (omega (arith, n))
   front_short number class (f ∷ fs) (e ∷ es) gs hs n b s =
       let m = number_short (length (f ∷ fs)) (length (e ∷ es)) n in
-      record { count = omega (arith, s.count); bytes = omega (arith, s.bytes, m, b, group_length number class f fs gs, old_length number class e es hs) }
+      record { count = omega (arith, s.count); bytes = omega (arith, s.bytes, m, b, front_length (entry_bytes new p) number class f fs gs, front_length (old.entry_bytes p.bytes) number class e es hs) }
 
   none_short : Shorter [] []
   none_short = record { count = omega arith; bytes = omega arith }
@@ -254,17 +257,7 @@ module _ (p : Parts) (sound : Sound p.classes) (new : ℕ × ℕ → ℕ) (most 
       let ny : List ℕ = spell (length hs) in
       let gx : List ℕ = flat_map (group_bytes new p) gs in
       let gy : List ℕ = flat_map (old.group_bytes c) hs in
-      let x1 = length-append a (b ++ (dx ++ (k ++ (nx ++ gx)))) in
-      let x2 = length-append b (dx ++ (k ++ (nx ++ gx))) in
-      let x3 = length-append dx (k ++ (nx ++ gx)) in
-      let x4 = length-append k (nx ++ gx) in
-      let x5 = length-append nx gx in
-      let y1 = length-append a (b ++ (dy ++ (k ++ (ny ++ gy)))) in
-      let y2 = length-append b (dy ++ (k ++ (ny ++ gy))) in
-      let y3 = length-append dy (k ++ (ny ++ gy)) in
-      let y4 = length-append k (ny ++ gy) in
-      let y5 = length-append ny gy in
       let d = delta_short at other older elder e h in
       let m = number_short (length gs) (length hs) s.count in
-      let tails : length (checkpoint_tail new p l (distance at older) gs) ≤ length (old.checkpoint_tail c l (distance other elder) hs) = omega (arith, s.bytes) in
+      let tails : length (checkpoint_tail new p l (distance at older) gs) ≤ length (old.checkpoint_tail c l (distance other elder) hs) = omega (arith, s.bytes, tail_length a b dx k nx gx, tail_length a b dy k ny gy) in
       omega (arith, tails, sized_length n (checkpoint_tail new p l (distance at older) gs), sized_length n (old.checkpoint_tail c l (distance other elder) hs))

@@ -1,8 +1,8 @@
 -- No record gets longer with new keys that aren't larger: an event has room in its record, and so has a checkpoint
 -- with some of its entries.
-use Rattle.std.specs.Prelude.{◌≡◌, ℕ, ◌+◌, ◌-◌, ◌≤◌, ◌==◌, Bool, true, List, [], ◌∷◌, ◌++◌, length, filter, find, slice_range, Option, Some, None, is_some, reverse}
+use Rattle.std.specs.Prelude.{◌≡◌, ℕ, ◌+◌, ◌-◌, ◌≤◌, ◌==◌, Bool, true, List, [], ◌∷◌, length, filter, find, slice_range, Option, Some, None, is_some, reverse}
 use Rattle.std.specs.List.{AllByRecursion, flat_map}
-use Rattle.std.proofs.Common.{arith, subst, length-append}
+use Rattle.std.proofs.Common.{arith, subst}
 use Rattle.std.proofs.lemmas.Map.Views.{exact_unsigned_eq}
 use Rattle.jfr_base.specs.Integer.{spell}
 use Rattle.jfr_layout.specs.Classes.{Sound}
@@ -27,14 +27,14 @@ use Rattle.jfr_laws.proofs.Groups.{groups_hold}
 use Rattle.jfr_laws.proofs.OutputRecords.{Deltas, IsOutputRecordIn, chained_fits}
 use Rattle.jfr_laws.proofs.Premises.{Ready, ready, recorded}
 use Rattle.jfr_laws.proofs.Same.{chosen_events, event_of_chunk}
-use Rattle.jfr_rewrite.specs.Rewrite.{rewritten_records, written_by}
+use Rattle.jfr_rewrite.specs.Rewrite.{event_tail, rewritten_records, written_by}
 use Rattle.jfr_rewrite.specs.Rewritten.{CarriesAll, CarriesRecord}
 use Rattle.jfr_rewrite.proofs.Output.{find_in}
 use Rattle.jfr_rewrite.proofs.Sizes.{old_width_carries}
-use Rattle.jfr_renumber.specs.Renumber.{checkpoint_tail, event_tail, group_bytes, new_bytes, whole_bytes, with_keys}
+use Rattle.jfr_renumber.specs.Renumber.{checkpoint_tail, group_bytes, new_bytes, whole_bytes, with_keys}
 use Rattle.jfr_renumber.specs.Writing.{CanWrite}
 use Rattle.jfr_renumber.proofs.EventWriting.{tail_short}
-use Rattle.jfr_renumber.proofs.Fewer.{Under, Shorter, entries_stand, numbers_short, sized_length, under_same}
+use Rattle.jfr_renumber.proofs.Fewer.{Under, Shorter, entries_stand, numbers_short, sized_length, tail_length, under_same}
 use Rattle.jfr_renumber.proofs.RewrittenLaws.{bytes_same}
 
 all_to : {X : Type 0} {P Q : X → Type 0} → ((x : X) → P x → Q x) → (xs : List X) → AllByRecursion P xs → AllByRecursion Q xs
@@ -62,7 +62,7 @@ module _ (p : Parts) (a : AreParts p) (flags : List Bool) (new : ℕ × ℕ → 
   sound = (has_nodes p a).sound
 
   -- An event.
-  event_room : (e : EventAt) → In these e → (e.record_of.type_at - e.record_of.at) + length (event_tail new p e) ≤ e.record_of.size
+  event_room : (e : EventAt) → In these e → (e.record_of.type_at - e.record_of.at) + length (event_tail (with_keys new None) p e) ≤ e.record_of.size
   event_room e i =
       let h = event_of_chunk p a these (chosen_events p flags) e i in
       tail_short p.classes sound p.bytes new most e.record_of (event_record p a flags e i) e.node h.value h.node h.at h.within
@@ -70,7 +70,7 @@ module _ (p : Parts) (a : AreParts p) (flags : List Bool) (new : ℕ × ℕ → 
   pub whole_short : (r : Framed) → IsRecord p.bytes r → (o : Option EventAt) → find (λ e. e.record_of.at == r.at) these ≡ o → length (whole_bytes new p r o) ≤ r.size
   whole_short r s (Some e) q =
       let f = found_event p a flags r e s q in
-      subst (λ (z : Framed). length (whole_bytes new p r (Some e)) ≤ z.size) f.1 (omega (arith, event_room e f.0, sized_length (e.record_of.type_at - e.record_of.at) (event_tail new p e)))
+      subst (λ (z : Framed). length (whole_bytes new p r (Some e)) ≤ z.size) f.1 (omega (arith, event_room e f.0, sized_length (e.record_of.type_at - e.record_of.at) (event_tail (with_keys new None) p e)))
   whole_short r s None q = omega (arith, record_length p.bytes r s)
 
   -- The pools of a checkpoint.
@@ -96,19 +96,7 @@ module _ (p : Parts) (a : AreParts p) (flags : List Bool) (new : ℕ × ℕ → 
         let x : List ℕ = flat_map (group_bytes new p) gs in
         let y : List ℕ = flat_map (old.group_bytes p.bytes) gs in
         let short : length x ≤ length y = (groups_shorter fm fm (under_same fm) i s).bytes in
-        omega (
-          arith,
-          length-append t (m ++ (d ++ (k ++ (n ++ x)))),
-          length-append m (d ++ (k ++ (n ++ x))),
-          length-append d (k ++ (n ++ x)),
-          length-append k (n ++ x),
-          length-append n x,
-          length-append t (m ++ (d ++ (k ++ (n ++ y)))),
-          length-append m (d ++ (k ++ (n ++ y))),
-          length-append d (k ++ (n ++ y)),
-          length-append k (n ++ y),
-          length-append n y,
-        )
+        omega (arith, short, tail_length t m d k n x, tail_length t m d k n y)
 
     checkpoint_fits : (i : ℕ) (l : Link) (at : ℕ) (older : Option ℕ) → IsOutputRecordIn p.bytes remaining p.classes (Chained i l) → (is_some older ≡ true → l.delta_end ≡ l.delta_at + 9) → CanWrite new p remaining (Chained i l) at older
     unfolding CanWrite

@@ -61,10 +61,7 @@ firsts p kept = firsts_of p (remain p kept)
 abbrev pub with_keys : (ℕ × ℕ → ℕ) → Option (List ℕ) → Rewrite
 with_keys new metadata = record { change = rekeying new; key = new; width = old_width; metadata = metadata }
 
--- The bytes of a kept event, and what follows its size.
-abbrev pub event_tail : (ℕ × ℕ → ℕ) → Parts → EventAt → List ℕ
-event_tail new p e = rewrite.event_tail (with_keys new None) p e
-
+-- The bytes of a kept event.
 abbrev pub event_bytes : (ℕ × ℕ → ℕ) → Parts → EventAt → List ℕ
 event_bytes new p e = rewrite.event_bytes (with_keys new None) p e
 
