@@ -16,6 +16,7 @@ use Rattle.jfr_chunk.specs.Parts.{Parts}
 use Rattle.jfr_chunk.specs.Reach.{marked}
 use Rattle.jfr_chunk.specs.Written.{Group, by_pool, distance, sized}
 use Rattle.jfr_chunk.specs.Written as old
+use Rattle.jfr_chunk.proofs.AllLaws.{all_append}
 use Rattle.jfr_chunk.proofs.TestLaws.{is_eq}
 use Rattle.jfr_laws.proofs.Marks.{all_marked, marked_append}
 use Rattle.jfr_laws.specs.InChunk.{IsEntryIn, IsGroupIn}
@@ -24,6 +25,7 @@ use Rattle.jfr_laws.proofs.Room.{of_pool, later_pools}
 use Rattle.jfr_laws.proofs.Checkpoints.{Of, NotOf, others, of_number, later_numbers, block_only}
 use Rattle.jfr_renumber.specs.Rekeyed.{rekeyed_bytes}
 use Rattle.jfr_renumber.specs.Renumber.{entry_bytes, group_bytes, checkpoint_tail, pair_of}
+use Rattle.jfr_rewrite.proofs.Pools.{all_parts}
 use Rattle.jfr_rewrite.proofs.Sizes.{in_length}
 use Rattle.jfr_renumber.proofs.CheckpointWriting.{entry_is}
 use Rattle.jfr_renumber.proofs.RekeyedLaws.{node_short}
@@ -63,13 +65,9 @@ under_fewer (true ∷ fs) (false ∷ ms) (x ∷ xs) u = let e = u.0 refl in cc
 under_fewer (false ∷ fs) (true ∷ ms) (x ∷ xs) u = omega (arith, under_fewer fs ms xs u.1)
 under_fewer (false ∷ fs) (false ∷ ms) (x ∷ xs) u = under_fewer fs ms xs u.1
 
-all_left : {X : Type 0} (P : X → Type 0) (xs ys : List X) → AllByRecursion P (xs ++ ys) → AllByRecursion P xs
-all_left P [] ys a = tt
-all_left P (x ∷ xs) ys a = (a.0, all_left P xs ys a.1)
-
-all_right : {X : Type 0} (P : X → Type 0) (xs ys : List X) → AllByRecursion P (xs ++ ys) → AllByRecursion P ys
-all_right P [] ys a = a
-all_right P (x ∷ xs) ys a = all_right P xs ys a.1
+pub all_to : {X : Type 0} {P Q : X → Type 0} → ((x : X) → P x → Q x) → (xs : List X) → AllByRecursion P xs → AllByRecursion Q xs
+all_to f [] a = tt
+all_to f (x ∷ xs) a = (f x a.0, all_to f xs a.1)
 
 pub sized_length : (n : ℕ) (tail : List ℕ) → length (sized n tail) ≡ n + length tail
 sized_length n tail = length-append (spell_in n (n + length tail)) tail ∙ ap (λ z. z + length tail) (in_length n (n + length tail))
@@ -161,10 +159,10 @@ module _ (p : Parts) (sound : Sound p.classes) (new : ℕ × ℕ → ℕ) (most 
       let these : List EntryAt = map (entry_of checkpoint number q.class) q.constants in
       let rest : List EntryAt = entries_from checkpoint (number + 1) ps in
       let n : ℕ = length these in
-      let b : AllByRecursion (IsEntryIn p.bytes p.classes) (marked fs these ++ marked (drop n fs) rest) = subst (AllByRecursion (IsEntryIn p.bytes p.classes)) (marked_append fs these rest) a in
-      let i = pools_short checkpoint (number + 1) ps (drop n fs) (drop n ms) (under_drop n fs ms u) (all_right (IsEntryIn p.bytes p.classes) (marked fs these) (marked (drop n fs) rest) b) in
+      let b = all_parts (IsEntryIn p.bytes p.classes) (marked fs these) (marked (drop n fs) rest) (subst (AllByRecursion (IsEntryIn p.bytes p.classes)) (marked_append fs these rest) a) in
+      let i = pools_short checkpoint (number + 1) ps (drop n fs) (drop n ms) (under_drop n fs ms u) b.1 in
       let s = front_short number q.class (marked fs these) (marked ms these) (by_pool (marked (drop n fs) rest)) (by_pool (marked (drop n ms) rest)) (under_fewer fs ms these u)
-      (under_short fs ms these u (all_left (IsEntryIn p.bytes p.classes) (marked fs these) (marked (drop n fs) rest) b)) i in
+      (under_short fs ms these u b.0) i in
       subst (λ z. Shorter z (by_pool (marked ms (these ++ rest)))) (sym (split_groups checkpoint number q ps fs))
       (subst (λ z. Shorter (in_front number q.class (marked fs these) (by_pool (marked (drop n fs) rest))) z) (sym (split_groups checkpoint number q ps ms)) s)
 
@@ -226,11 +224,7 @@ module _ (p : Parts) (sound : Sound p.classes) (new : ℕ × ℕ → ℕ) (most 
   -- The entries of these groups.
   pub entries_stand : (gs : List Group) → AllByRecursion (IsGroupIn p.bytes p.classes) gs → AllByRecursion (IsEntryIn p.bytes p.classes) (flat_map (λ g. g.entries) gs)
   entries_stand [] a = tt
-  entries_stand (g ∷ gs) a = join (entries_stand gs a.1) g.entries a.0.1
-    where
-      join : AllByRecursion (IsEntryIn p.bytes p.classes) (flat_map (λ g. g.entries) gs) → (es : List EntryAt) → AllByRecursion (λ e. IsEntryIn p.bytes p.classes e × (e.class ≡ g.class)) es → AllByRecursion (IsEntryIn p.bytes p.classes) (es ++ flat_map (λ g. g.entries) gs)
-      join r [] b = r
-      join r (e ∷ es) b = (b.0.0, join r es b.1)
+  entries_stand (g ∷ gs) a = all_append (IsEntryIn p.bytes p.classes) g.entries (flat_map (λ g. g.entries) gs) (all_to (λ e x. x.0) g.entries a.0.1) (entries_stand gs a.1)
 
   -- A delta is no longer if neither or both have an older checkpoint.
   delta_short : (at other : ℕ) (older elder : Option ℕ) → is_some older ≡ is_some elder → other < 2 ^ 63 → length (spell (distance at older)) ≤ length (spell (distance other elder))

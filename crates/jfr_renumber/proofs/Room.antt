@@ -34,12 +34,8 @@ use Rattle.jfr_rewrite.proofs.Sizes.{old_width_carries}
 use Rattle.jfr_renumber.specs.Renumber.{checkpoint_tail, group_bytes, new_bytes, whole_bytes, with_keys}
 use Rattle.jfr_renumber.specs.Writing.{CanWrite}
 use Rattle.jfr_renumber.proofs.EventWriting.{tail_short}
-use Rattle.jfr_renumber.proofs.Fewer.{Under, Shorter, entries_stand, numbers_short, sized_length, tail_length, under_same}
+use Rattle.jfr_renumber.proofs.Fewer.{Under, Shorter, all_to, entries_stand, numbers_short, sized_length, tail_length, under_same}
 use Rattle.jfr_renumber.proofs.RewrittenLaws.{bytes_same}
-
-all_to : {X : Type 0} {P Q : X → Type 0} → ((x : X) → P x → Q x) → (xs : List X) → AllByRecursion P xs → AllByRecursion Q xs
-all_to f [] a = tt
-all_to f (x ∷ xs) a = (f x a.0, all_to f xs a.1)
 
 module _ (p : Parts) (a : AreParts p) (flags : List Bool) where
   abbrev kept : List EventAt
