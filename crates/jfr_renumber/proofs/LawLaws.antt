@@ -88,10 +88,14 @@ module _ (p : Parts) (a : AreParts p) (kept : List EventAt) (are : AreEvents p k
     same_missing t u = both_there _ (in_force p.entries t) (in_force q.entries (rekeyed_pair new t)) (in_force_changed t u)
 
     -- Changed nodes are the same except for the keys.
-    nodes_rekeyed : (x : Option Held) (y : Option NodeAt) → Both (Paired p q (rekeying new)) x y → Both (SameButKeys new p.classes q.classes p.bytes q.bytes) (option_map node_in x) y
+    abbrev Same : NodeAt → NodeAt → Type 0
+    Same = SameButKeys new p.classes q.classes p.bytes q.bytes
+
+    nodes_rekeyed : (x : Option Held) (y : Option NodeAt) → Both (Paired p q (rekeying new)) x y → Both Same (option_map node_in x) y
     nodes_rekeyed None None r = tt
     nodes_rekeyed (Some h) (Some o) r =
-        node_rekeyed new p.classes (has_nodes p a).sound p.bytes h.node r.value r.before q.classes q.bytes o (has_nodes q b).sound (subst (IsNode q.classes q.bytes o) (rekeyed_is_changed new h.holder r.value) r.now)
+        node_rekeyed new p.classes (has_nodes p a).sound p.bytes h.node r.value r.before q.classes q.bytes o (has_nodes q b).sound
+        (subst (IsNode q.classes q.bytes o) (rekeyed_is_changed new h.holder r.value) r.now)
     nodes_rekeyed None (Some o) r = absurd r
     nodes_rekeyed (Some h) None r = absurd r
 
@@ -99,11 +103,12 @@ module _ (p : Parts) (a : AreParts p) (kept : List EventAt) (are : AreEvents p k
       event_renamed : (e f : EventAt) → In kept e → In others f → RekeyedRecord new p q e f → RekeyedEvent new p q e f
       event_renamed e f i j h =
           let c : IsChangedEvent (rekeying new) p q e f = record { class = h.class; agree = h.agree; fields = h.fields; rest = h.rest } in
-          let lead = event_leads (rekeying new) new never p q kept others a b are those (rekeying_keeps new p.classes) (rekeying_targets new p.classes) (λ t m. in_force_changed t (met_used p kept t m)) e f i j c in
+          let lead =
+          event_leads (rekeying new) new never p q kept others a b are those (rekeying_keeps new p.classes) (rekeying_targets new p.classes) (λ t m. in_force_changed t (met_used p kept t m)) e f i j c in
           record {
             class = h.class;
             rest = h.rest;
-            paths = λ path. subst (λ z. Both (SameButKeys new p.classes q.classes p.bytes q.bytes) z (leads q f.node path)) (leads_free p path (root e.node)) (nodes_rekeyed (leads_but never p (root e.node) path) (leads q f.node path) (lead path));
+            paths = λ path. subst (λ z. Both Same z (leads q f.node path)) (leads_free p path (root e.node)) (nodes_rekeyed (leads_but never p (root e.node) path) (leads q f.node path) (lead path));
           }
 
       pub renamed_the_same : RekeyedRecords new p q kept others → RekeyedMeaning new p q kept others

@@ -130,7 +130,8 @@ module _ (p q : Parts) (s : HasNodes p) (new : ℕ × ℕ → ℕ) (kept : List 
       ap (λ (z : EntryAt). node_bytes p.bytes (entry_node z)) (sym x) ∙ (w.bytes ∙ ap (λ (z : EntryAt). node_bytes p.bytes (entry_node z)) y)
 
   -- If it has one, the second has one with new keys in its value.
-  entry_changed : (t : ℕ × ℕ) (e d f : EntryAt) → Used p kept t → in_force p.entries t ≡ Some e → Remaining p s kept nodes d → IsRekeyedEntry new p q d f → Alike p (pair_of d) t → HasChangedValue (rekeying new) p q e f
+  entry_changed : (t : ℕ × ℕ) (e d f : EntryAt) → Used p kept t → in_force p.entries t ≡ Some e → Remaining p s kept nodes d → IsRekeyedEntry new p q d f → Alike p (pair_of d) t
+      → HasChangedValue (rekeying new) p q e f
   entry_changed t e d f u h m n a =
       let v = s.entries t e h in
       let c : e.class ≡ t.0 = (numbered p.entries t e h).class in
@@ -145,13 +146,16 @@ module _ (p q : Parts) (s : HasNodes p) (new : ℕ × ℕ → ℕ) (kept : List 
       }
 
   -- So the entry in force for a new key has the changed value.
-  pub entries_changed : (t : ℕ × ℕ) → Used p kept t → Both (HasChangedValue (rekeying new) p q) (in_force p.entries t) (in_force q.entries (rekeyed_pair new t))
+  abbrev Changed : EntryAt → EntryAt → Type 0
+  Changed = HasChangedValue (rekeying new) p q
+
+  pub entries_changed : (t : ℕ × ℕ) → Used p kept t → Both Changed (in_force p.entries t) (in_force q.entries (rekeyed_pair new t))
   entries_changed t u = by_force (in_force p.entries t) refl
     where
-      by_found : (e : EntryAt) → in_force p.entries t ≡ Some e → Found q.entries (rekeyed_pair new t) → Both (HasChangedValue (rekeying new) p q) (Some e) (in_force q.entries (rekeyed_pair new t))
+      by_found : (e : EntryAt) → in_force p.entries t ≡ Some e → Found q.entries (rekeyed_pair new t) → Both Changed (Some e) (in_force q.entries (rekeyed_pair new t))
       by_found e h x =
           let d = fellow t x.entry u x.member x.has in
-          subst (Both (HasChangedValue (rekeying new) p q) (Some e)) (sym x.is_forced) (entry_changed t e d.0 x.entry u h d.1 d.2 (together_alike p (pair_of d.0) t d.3))
+          subst (Both Changed (Some e)) (sym x.is_forced) (entry_changed t e d.0 x.entry u h d.1 d.2 (together_alike p (pair_of d.0) t d.3))
 
       by_first : (e : EntryAt) → in_force p.entries t ≡ Some e → (d : EntryAt) × In (firsts p kept) d × (together p (pair_of d) (pair_of e) ≡ true) → Found q.entries (rekeyed_pair new t)
       by_first e h (d, i, w) = by_fellow (second (IsRekeyedEntry new p q) (firsts p kept) q.entries renamed d i)
@@ -165,6 +169,6 @@ module _ (p q : Parts) (s : HasNodes p) (new : ℕ × ℕ → ℕ) (kept : List 
               let y : new (pair_of d) ≡ new t = (keys.groups (pair_of d) t m.used u c).1 x in
               subst (Found q.entries) (pair_is (pair_of f) (rekeyed_pair new t) (sym n.class ∙ c) (sym n.key ∙ y)) (member_forced q.entries f j)
 
-      by_force : (o : Option EntryAt) → in_force p.entries t ≡ o → Both (HasChangedValue (rekeying new) p q) (in_force p.entries t) (in_force q.entries (rekeyed_pair new t))
-      by_force None h = subst (λ z. Both (HasChangedValue (rekeying new) p q) z (in_force q.entries (rekeyed_pair new t))) (sym h) (subst (Both (HasChangedValue (rekeying new) p q) None) (sym (none_there t u h)) tt)
-      by_force (Some e) h = subst (λ z. Both (HasChangedValue (rekeying new) p q) z (in_force q.entries (rekeyed_pair new t))) (sym h) (by_found e h (by_first e h (remains_first e (used_remains p s kept nodes t e u h))))
+      by_force : (o : Option EntryAt) → in_force p.entries t ≡ o → Both Changed (in_force p.entries t) (in_force q.entries (rekeyed_pair new t))
+      by_force None h = subst (λ z. Both Changed z (in_force q.entries (rekeyed_pair new t))) (sym h) (subst (Both Changed None) (sym (none_there t u h)) tt)
+      by_force (Some e) h = subst (λ z. Both Changed z (in_force q.entries (rekeyed_pair new t))) (sym h) (by_found e h (by_first e h (remains_first e (used_remains p s kept nodes t e u h))))

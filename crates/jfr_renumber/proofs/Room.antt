@@ -66,7 +66,8 @@ module _ (p : Parts) (a : AreParts p) (flags : List Bool) (new : ℕ × ℕ → 
   pub whole_short : (r : Framed) → IsRecord p.bytes r → (o : Option EventAt) → find (λ e. e.record_of.at == r.at) these ≡ o → length (whole_bytes new p r o) ≤ r.size
   whole_short r s (Some e) q =
       let f = found_event p a flags r e s q in
-      subst (λ (z : Framed). length (whole_bytes new p r (Some e)) ≤ z.size) f.1 (omega (arith, event_room e f.0, sized_length (e.record_of.type_at - e.record_of.at) (event_tail (with_keys new None) p e)))
+      subst (λ (z : Framed). length (whole_bytes new p r (Some e)) ≤ z.size) f.1
+      (omega (arith, event_room e f.0, sized_length (e.record_of.type_at - e.record_of.at) (event_tail (with_keys new None) p e)))
   whole_short r s None q = omega (arith, record_length p.bytes r s)
 
   -- The pools of a checkpoint.
@@ -94,7 +95,8 @@ module _ (p : Parts) (a : AreParts p) (flags : List Bool) (new : ℕ × ℕ → 
         let short : length x ≤ length y = (groups_shorter fm fm (under_same fm) i s).bytes in
         omega (arith, short, tail_length t m d k n x, tail_length t m d k n y)
 
-    checkpoint_fits : (i : ℕ) (l : Link) (at : ℕ) (older : Option ℕ) → IsOutputRecordIn p.bytes remaining p.classes (Chained i l) → (is_some older ≡ true → l.delta_end ≡ l.delta_at + 9) → CanWrite new p remaining (Chained i l) at older
+    checkpoint_fits : (i : ℕ) (l : Link) (at : ℕ) (older : Option ℕ) → IsOutputRecordIn p.bytes remaining p.classes (Chained i l)
+        → (is_some older ≡ true → l.delta_end ≡ l.delta_at + 9) → CanWrite new p remaining (Chained i l) at older
     unfolding CanWrite
     checkpoint_fits i l at older s d =
         let f = chained_fits p.bytes remaining p.classes i l at older s d in
@@ -111,7 +113,8 @@ module _ (p : Parts) (a : AreParts p) (flags : List Bool) (new : ℕ × ℕ → 
     abbrev pub CanBeWritten : Written → Type 0
     CanBeWritten w = CanWrite new p remaining w.output_record w.at w.older
 
-    each_can : (ss : List OutputRecord) (at : ℕ) (older : Option ℕ) → AllByRecursion (IsOutputRecordIn p.bytes remaining p.classes) ss → Deltas (is_some older) ss → AllByRecursion CanBeWritten (written_by bytes at older ss)
+    each_can : (ss : List OutputRecord) (at : ℕ) (older : Option ℕ) → AllByRecursion (IsOutputRecordIn p.bytes remaining p.classes) ss → Deltas (is_some older) ss
+        → AllByRecursion CanBeWritten (written_by bytes at older ss)
     unfolding CanWrite
     each_can [] at older s d = tt
     each_can (Whole r ∷ ss) at older s d = (s.0, each_can ss (at + length (bytes (Whole r) at older)) older s.1 d)
