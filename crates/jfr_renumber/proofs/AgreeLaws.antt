@@ -13,12 +13,15 @@ use Rattle.jfr_chunk.specs.Written.{by_pool, distance, sized}
 use Rattle.jfr_chunk.specs.Scrub.{OutputRecord, Whole, Chained, Rebuilt, output_records}
 use Rattle.jfr_chunk.proofs.AllLaws.{filter_all}
 use Rattle.jfr_laws.proofs.Groups.{groups_hold}
-use Rattle.jfr_renumber.specs.Rekeyed.{key_bytes, kind_with, rekeyed, rekeyed_all, rekeyed_bytes}
-use Rattle.jfr_renumber.proofs.NewOutput.{find_in}
-use Rattle.jfr_renumber.proofs.NewPools.{all_parts, flat_map_each}
+use Rattle.jfr_laws.proofs.Listed.{all_each}
+use Rattle.jfr_renumber.specs.Rekeyed.{key_bytes, kind_with, rekeyed, rekeyed_all, rekeyed_bytes, rekeying}
+use Rattle.jfr_renumber.proofs.RekeyedLaws.{rekeyed_is_changed}
+use Rattle.jfr_rewrite.specs.Changed.{changed}
+use Rattle.jfr_rewrite.proofs.Output.{find_in}
+use Rattle.jfr_rewrite.proofs.Pools.{all_parts}
 use Rattle.std.specs.Cmp.{first_so, second_so, unsigned_Decides}
 use Rattle.std.specs.Cmp.Derive.{both_true}
-use Rattle.std.proofs.Common.{ap, refl, sym, ◌∙◌, subst, inl, inr}
+use Rattle.std.proofs.Common.{ap, refl, sym, ◌∙◌, subst, inl}
 use Rattle.std.proofs.lemmas.Map.Views.{exact_unsigned_eq}
 use Rattle.jfr_worklist.specs.Members.{In}
 use Rattle.jfr_worklist.proofs.Members.{in_left, in_right}
@@ -36,6 +39,10 @@ use Rattle.jfr_renumber.proofs.LawLaws.{kept_nodes, new_keys_are}
 use Rattle.jfr_renumber.proofs.NumberLaws.{any_of}
 use Rattle.jfr_renumber.proofs.TogetherLaws.{first_among, together_is}
 use Rattle.jfr_renumber.proofs.UsedLaws.{entry_used, event_used, in_used, remains_used, used_in}
+
+flat_map_each : {X A : Type 0} (f g : X → List A) (xs : List X) → AllByRecursion (λ x. f x ≡ g x) xs → flat_map f xs ≡ flat_map g xs
+flat_map_each f g [] a = refl
+flat_map_each f g (x ∷ xs) a = ap (λ z. z ++ flat_map f xs) a.0 ∙ ap (λ z. g x ++ z) (flat_map_each f g xs a.1)
 
 both_ways : (a b : Bool) → (a ≡ true → b ≡ true) → (b ≡ true → a ≡ true) → a ≡ b
 both_ways true b f g = sym (f refl)
@@ -59,17 +66,14 @@ module _ (new other : ℕ × ℕ → ℕ) where
   pub bytes_same : (k : Classes) (c : List ℕ) (n : NodeAt) → ((t : ℕ × ℕ) → In (targets k c n) t → new t ≡ other t) → rekeyed_bytes new k c n ≡ rekeyed_bytes other k c n
   bytes_same k c n f = by_value (value_of k c n) f
     where
-      by_value : (o : Option Value) → ((t : ℕ × ℕ) → In (option_map_or targets_of o []) t → new t ≡ other t) → option_map_or (λ v. bytes_of (rekeyed new v)) o [] ≡ option_map_or (λ v. bytes_of (rekeyed other v)) o []
+      by_value : (o : Option Value) → ((t : ℕ × ℕ) → In (option_map_or targets_of o []) t → new t ≡ other t)
+          → option_map_or (λ v. bytes_of (changed (rekeying new) None v)) o [] ≡ option_map_or (λ v. bytes_of (changed (rekeying other) None v)) o []
       by_value None f = refl
-      by_value (Some v) f = ap bytes_of (rekeyed_same v f)
+      by_value (Some v) f = ap bytes_of (rekeyed_is_changed new None v ∙ (rekeyed_same v f ∙ sym (rekeyed_is_changed other None v)))
 
 all_in_groups : (P : EntryAt → Type 0) (gs : List old.Group) → AllByRecursion P (flat_map (λ g. g.entries) gs) → AllByRecursion (λ g. AllByRecursion P g.entries) gs
 all_in_groups P [] a = tt
 all_in_groups P (g ∷ gs) a = let h = all_parts P g.entries (flat_map (λ g. g.entries) gs) a in (h.0, all_in_groups P gs h.1)
-
-all_of_in : {X : Type 0} (P : X → Type 0) (xs : List X) → ((x : X) → In xs x → P x) → AllByRecursion P xs
-all_of_in P [] f = tt
-all_of_in P (x ∷ xs) f = (f x (inl refl), all_of_in P xs (λ y i. f y (inr i)))
 
 module _ (p : Parts) (a : AreParts p) (flags : List Bool) where
   abbrev kept : List EventAt
@@ -144,7 +148,7 @@ module _ (p : Parts) (a : AreParts p) (flags : List Bool) where
 
     first_same : AllByRecursion SameEntry (firsts p kept)
     unfolding firsts
-    first_same = all_of_in SameEntry (firsts p kept) (λ e i. entry_same e (first_among p (remain p kept) e i))
+    first_same = all_each SameEntry (firsts p kept) (λ e i. entry_same e (first_among p (remain p kept) e i))
 
     pub record_same : (s : OutputRecord) (at : ℕ) (older : Option ℕ) → new_bytes new p kept (firsts p kept) s at older ≡ new_bytes (new_key p kept) p kept (firsts p kept) s at older
     record_same (Whole r) at older = by_event (find (λ e. e.record_of.at == r.at) kept) refl

@@ -9,7 +9,7 @@ use Rattle.jfr_renumber.specs.declared.numbering.UsedKey.{UsedKey}
 use Rattle.jfr_renumber.specs.Keys.{group_number}
 use Rattle.jfr_renumber.specs.Missing.{Earlier}
 use Rattle.jfr_renumber.specs.Numbering.{pair_at, AreKeysOf, ArePairsOf, group_numbers}
-use Rattle.jfr_renumber.proofs.NumberingLaws.{in_get}
+use Rattle.jfr_meta.proofs.StayLaws.{in_get}
 use Rattle.jfr_renumber.proofs.OrderLaws.{rising_at-map, rising_by}
 
 -- Members of a part.

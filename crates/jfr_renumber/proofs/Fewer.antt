@@ -5,30 +5,40 @@ use Rattle.std.specs.List.{flat_map, AllByRecursion}
 use Rattle.std.proofs.Common.{ap, arith, refl, sym, ◌∙◌, subst, length-append}
 use Rattle.std.proofs.lemmas.List.Elements.{filter-append}
 use Rattle.std.proofs.lemmas.Map.Views.{exact_unsigned_eq}
-use Rattle.jfr_base.specs.Integer.{spell, spell_as, spell_in}
+use Rattle.jfr_base.specs.Integer.{spell, spell_in}
+use Rattle.jfr_base.proofs.Ranges.{range_length}
 use Rattle.jfr_base.proofs.Spelling.{spell_most, spell_short, spell_spells, nine_bytes}
 use Rattle.jfr_layout.specs.Classes.{Sound}
 use Rattle.jfr_pool.specs.declared.link.Link.{Link}
 use Rattle.jfr_pool.specs.declared.entry.EntryAt.{EntryAt}
-use Rattle.jfr_pool.specs.Entries.{PoolAt, entry_of, entries_from, AreEntries}
+use Rattle.jfr_pool.specs.Entries.{PoolAt, entry_node, entry_of, entries_from, AreEntries}
 use Rattle.jfr_chunk.specs.Parts.{Parts}
 use Rattle.jfr_chunk.specs.Reach.{marked}
 use Rattle.jfr_chunk.specs.Written.{Group, by_pool, distance, sized}
 use Rattle.jfr_chunk.specs.Written as old
+use Rattle.jfr_chunk.proofs.AllLaws.{all_append}
 use Rattle.jfr_chunk.proofs.TestLaws.{is_eq}
 use Rattle.jfr_laws.proofs.Marks.{all_marked, marked_append}
 use Rattle.jfr_laws.specs.InChunk.{IsEntryIn, IsGroupIn}
 use Rattle.jfr_laws.proofs.Groups.{apart, in_front, by_front}
 use Rattle.jfr_laws.proofs.Room.{of_pool, later_pools}
 use Rattle.jfr_laws.proofs.Checkpoints.{Of, NotOf, others, of_number, later_numbers, block_only}
-use Rattle.jfr_renumber.specs.Renumber.{entry_bytes, group_bytes, checkpoint_tail}
-use Rattle.jfr_renumber.proofs.NewPools.{entry_short, entry_spelled}
+use Rattle.jfr_renumber.specs.Rekeyed.{rekeyed_bytes}
+use Rattle.jfr_renumber.specs.Renumber.{entry_bytes, group_bytes, checkpoint_tail, pair_of}
+use Rattle.jfr_rewrite.proofs.Pools.{all_parts}
+use Rattle.jfr_rewrite.proofs.Sizes.{in_length}
+use Rattle.jfr_renumber.proofs.CheckpointWriting.{entry_is}
+use Rattle.jfr_renumber.proofs.RekeyedLaws.{node_short}
 
 -- Each that is marked is marked there too.
 abbrev pub Under : List Bool → List Bool → Type 0
 Under [] ms = ⊤
 Under (f ∷ fs) [] = (f ≡ false) × Under fs []
 Under (f ∷ fs) (m ∷ ms) = (f ≡ true → m ≡ true) × Under fs ms
+
+pub under_same : (fs : List Bool) → Under fs fs
+under_same [] = tt
+under_same (f ∷ fs) = ((λ e. e), under_same fs)
 
 under_drop : (n : ℕ) (fs ms : List Bool) → Under fs ms → Under (drop n fs) (drop n ms)
 under_drop zero fs ms u = u
@@ -41,7 +51,7 @@ under_drop (suc n) (f ∷ fs) [] u = under_drop_none n fs u.1
     under_drop_none (suc n) (f ∷ fs) u = under_drop_none n fs u.1
 under_drop (suc n) (f ∷ fs) (m ∷ ms) u = under_drop n fs ms u.1
 
-marked_none : {X : Type 0} (ms : List Bool) → marked {X = X} ms [] ≡ []
+pub marked_none : {X : Type 0} (ms : List Bool) → marked {X = X} ms [] ≡ []
 marked_none [] = refl
 marked_none (m ∷ ms) = refl
 
@@ -55,20 +65,46 @@ under_fewer (true ∷ fs) (false ∷ ms) (x ∷ xs) u = let e = u.0 refl in cc
 under_fewer (false ∷ fs) (true ∷ ms) (x ∷ xs) u = omega (arith, under_fewer fs ms xs u.1)
 under_fewer (false ∷ fs) (false ∷ ms) (x ∷ xs) u = under_fewer fs ms xs u.1
 
-all_left : {X : Type 0} (P : X → Type 0) (xs ys : List X) → AllByRecursion P (xs ++ ys) → AllByRecursion P xs
-all_left P [] ys a = tt
-all_left P (x ∷ xs) ys a = (a.0, all_left P xs ys a.1)
+pub all_to : {X : Type 0} {P Q : X → Type 0} → ((x : X) → P x → Q x) → (xs : List X) → AllByRecursion P xs → AllByRecursion Q xs
+all_to f [] a = tt
+all_to f (x ∷ xs) a = (f x a.0, all_to f xs a.1)
 
-all_right : {X : Type 0} (P : X → Type 0) (xs ys : List X) → AllByRecursion P (xs ++ ys) → AllByRecursion P ys
-all_right P [] ys a = a
-all_right P (x ∷ xs) ys a = all_right P xs ys a.1
+pub sized_length : (n : ℕ) (tail : List ℕ) → length (sized n tail) ≡ n + length tail
+sized_length n tail = length-append (spell_in n (n + length tail)) tail ∙ ap (λ z. z + length tail) (in_length n (n + length tail))
 
 number_short : (m n : ℕ) → m ≤ n → length (spell m) ≤ length (spell n)
 number_short m n h = spell_short (spell n) m n (spell_spells n) h
 
+-- The length of groups whose first one has these entries, given the bytes of an entry.
+front_length : (entry : EntryAt → List ℕ) (number class : ℕ) (f : EntryAt) (fs : List EntryAt) (gs : List Group)
+    → length (flat_map (λ g. spell g.class ++ (spell (length g.entries) ++ flat_map entry g.entries)) (in_front number class (f ∷ fs) gs))
+    ≡ length (spell class) + (length (spell (length (f ∷ fs))) + length (flat_map entry (f ∷ fs))) + length (flat_map (λ g. spell g.class ++ (spell (length g.entries) ++ flat_map entry g.entries)) gs)
+front_length entry number class f fs gs =
+    let later : List ℕ = flat_map (λ (g : Group). spell g.class ++ (spell (length g.entries) ++ flat_map entry g.entries)) gs in
+    let count : List ℕ = spell (length (f ∷ fs)) in
+    let items : List ℕ = flat_map entry (f ∷ fs) in
+    omega (arith, length-append (spell class ++ (count ++ items)) later, length-append (spell class) (count ++ items), length-append count items)
+
+-- The length of what a checkpoint has after its size.
+pub tail_length : (a b d k n g : List ℕ) → length (a ++ (b ++ (d ++ (k ++ (n ++ g))))) ≡ length a + (length b + (length d + (length k + (length n + length g))))
+tail_length a b d k n g =
+    omega (arith, length-append a (b ++ (d ++ (k ++ (n ++ g)))), length-append b (d ++ (k ++ (n ++ g))), length-append d (k ++ (n ++ g)), length-append k (n ++ g), length-append n g)
+
 module _ (p : Parts) (sound : Sound p.classes) (new : ℕ × ℕ → ℕ) (most : (t : ℕ × ℕ) → new t ≤ t.1) where
   one_short : (e : EntryAt) → IsEntryIn p.bytes p.classes e → length (entry_bytes new p e) ≤ length (old.entry_bytes p.bytes e)
-  one_short e s = subst (λ z. length z ≤ length (old.entry_bytes p.bytes e)) (sym (entry_spelled p sound new most e s)) (entry_short p sound new most e s)
+  one_short e s =
+      let a = spell_short (slice_range p.bytes e.key_at e.value_at) (new (pair_of e)) e.key s.key.spelled (most (pair_of e)) in
+      let b = node_short new p.classes sound p.bytes (entry_node e) s.value (entry_is p.classes p.bytes e s) most in
+      let o : e.key_at ≤ e.value_at = s.key.order in
+      let w : e.value_at ≤ e.end = s.order in
+      omega (
+        arith,
+        a,
+        b,
+        range_length p.bytes e.key_at e.value_at s.key.within,
+        range_length p.bytes e.key_at e.end s.within,
+        length-append (spell (new (pair_of e))) (rekeyed_bytes new p.classes p.bytes (entry_node e)),
+      )
 
   under_short : (fs ms : List Bool) (xs : List EntryAt) → Under fs ms → AllByRecursion (IsEntryIn p.bytes p.classes) (marked fs xs)
       → length (flat_map (entry_bytes new p) (marked fs xs)) ≤ length (flat_map (old.entry_bytes p.bytes) (marked ms xs))
@@ -91,26 +127,14 @@ module _ (p : Parts) (sound : Sound p.classes) (new : ℕ × ℕ → ℕ) (most 
     pub count : length gs ≤ length hs
     pub bytes : length (flat_map (group_bytes new p) gs) ≤ length (flat_map (old.group_bytes p.bytes) hs)
 
-  group_length : (number class : ℕ) (f : EntryAt) (fs : List EntryAt) (gs : List Group)
-      → length (flat_map (group_bytes new p) (in_front number class (f ∷ fs) gs)) ≡ length (spell class) + (length (spell (length (f ∷ fs))) + length (flat_map (entry_bytes new p) (f ∷ fs))) + length (flat_map (group_bytes new p) gs)
-  group_length number class f fs gs =
-      length-append (spell class ++ (spell (length (f ∷ fs)) ++ flat_map (entry_bytes new p) (f ∷ fs))) (flat_map (group_bytes new p) gs)
-      ∙ ap (λ n. n + length (flat_map (group_bytes new p) gs)) (length-append (spell class) (spell (length (f ∷ fs)) ++ flat_map (entry_bytes new p) (f ∷ fs)) ∙ ap (λ n. length (spell class) + n) (length-append (spell (length (f ∷ fs))) (flat_map (entry_bytes new p) (f ∷ fs))))
-
-  old_length : (number class : ℕ) (f : EntryAt) (fs : List EntryAt) (gs : List Group)
-      → length (flat_map (old.group_bytes p.bytes) (in_front number class (f ∷ fs) gs)) ≡ length (spell class) + (length (spell (length (f ∷ fs))) + length (flat_map (old.entry_bytes p.bytes) (f ∷ fs))) + length (flat_map (old.group_bytes p.bytes) gs)
-  old_length number class f fs gs =
-      length-append (spell class ++ (spell (length (f ∷ fs)) ++ flat_map (old.entry_bytes p.bytes) (f ∷ fs))) (flat_map (old.group_bytes p.bytes) gs)
-      ∙ ap (λ n. n + length (flat_map (old.group_bytes p.bytes) gs)) (length-append (spell class) (spell (length (f ∷ fs)) ++ flat_map (old.entry_bytes p.bytes) (f ∷ fs)) ∙ ap (λ n. length (spell class) + n) (length-append (spell (length (f ∷ fs))) (flat_map (old.entry_bytes p.bytes) (f ∷ fs))))
-
   front_short : (number class : ℕ) (fs es : List EntryAt) (gs hs : List Group) → length fs ≤ length es → length (flat_map (entry_bytes new p) fs) ≤ length (flat_map (old.entry_bytes p.bytes) es)
       → Shorter gs hs → Shorter (in_front number class fs gs) (in_front number class es hs)
   front_short number class [] [] gs hs n b s = s
-  front_short number class [] (e ∷ es) gs hs n b s = record { count = omega (arith, s.count); bytes = omega (arith, s.bytes, old_length number class e es hs) }
+  front_short number class [] (e ∷ es) gs hs n b s = record { count = omega (arith, s.count); bytes = omega (arith, s.bytes, front_length (old.entry_bytes p.bytes) number class e es hs) }
   front_short number class (f ∷ fs) [] gs hs n b s = absurd (omega (arith, n))
   front_short number class (f ∷ fs) (e ∷ es) gs hs n b s =
       let m = number_short (length (f ∷ fs)) (length (e ∷ es)) n in
-      record { count = omega (arith, s.count); bytes = omega (arith, s.bytes, m, b, group_length number class f fs gs, old_length number class e es hs) }
+      record { count = omega (arith, s.count); bytes = omega (arith, s.bytes, m, b, front_length (entry_bytes new p) number class f fs gs, front_length (old.entry_bytes p.bytes) number class e es hs) }
 
   none_short : Shorter [] []
   none_short = record { count = omega arith; bytes = omega arith }
@@ -135,10 +159,10 @@ module _ (p : Parts) (sound : Sound p.classes) (new : ℕ × ℕ → ℕ) (most 
       let these : List EntryAt = map (entry_of checkpoint number q.class) q.constants in
       let rest : List EntryAt = entries_from checkpoint (number + 1) ps in
       let n : ℕ = length these in
-      let b : AllByRecursion (IsEntryIn p.bytes p.classes) (marked fs these ++ marked (drop n fs) rest) = subst (AllByRecursion (IsEntryIn p.bytes p.classes)) (marked_append fs these rest) a in
-      let i = pools_short checkpoint (number + 1) ps (drop n fs) (drop n ms) (under_drop n fs ms u) (all_right (IsEntryIn p.bytes p.classes) (marked fs these) (marked (drop n fs) rest) b) in
+      let b = all_parts (IsEntryIn p.bytes p.classes) (marked fs these) (marked (drop n fs) rest) (subst (AllByRecursion (IsEntryIn p.bytes p.classes)) (marked_append fs these rest) a) in
+      let i = pools_short checkpoint (number + 1) ps (drop n fs) (drop n ms) (under_drop n fs ms u) b.1 in
       let s = front_short number q.class (marked fs these) (marked ms these) (by_pool (marked (drop n fs) rest)) (by_pool (marked (drop n ms) rest)) (under_fewer fs ms these u)
-      (under_short fs ms these u (all_left (IsEntryIn p.bytes p.classes) (marked fs these) (marked (drop n fs) rest) b)) i in
+      (under_short fs ms these u b.0) i in
       subst (λ z. Shorter z (by_pool (marked ms (these ++ rest)))) (sym (split_groups checkpoint number q ps fs))
       (subst (λ z. Shorter (in_front number q.class (marked fs these) (by_pool (marked (drop n fs) rest))) z) (sym (split_groups checkpoint number q ps ms)) s)
 
@@ -200,11 +224,7 @@ module _ (p : Parts) (sound : Sound p.classes) (new : ℕ × ℕ → ℕ) (most 
   -- The entries of these groups.
   pub entries_stand : (gs : List Group) → AllByRecursion (IsGroupIn p.bytes p.classes) gs → AllByRecursion (IsEntryIn p.bytes p.classes) (flat_map (λ g. g.entries) gs)
   entries_stand [] a = tt
-  entries_stand (g ∷ gs) a = join (entries_stand gs a.1) g.entries a.0.1
-    where
-      join : AllByRecursion (IsEntryIn p.bytes p.classes) (flat_map (λ g. g.entries) gs) → (es : List EntryAt) → AllByRecursion (λ e. IsEntryIn p.bytes p.classes e × (e.class ≡ g.class)) es → AllByRecursion (IsEntryIn p.bytes p.classes) (es ++ flat_map (λ g. g.entries) gs)
-      join r [] b = r
-      join r (e ∷ es) b = (b.0.0, join r es b.1)
+  entries_stand (g ∷ gs) a = all_append (IsEntryIn p.bytes p.classes) g.entries (flat_map (λ g. g.entries) gs) (all_to (λ e x. x.0) g.entries a.0.1) (entries_stand gs a.1)
 
   -- A delta is no longer if neither or both have an older checkpoint.
   delta_short : (at other : ℕ) (older elder : Option ℕ) → is_some older ≡ is_some elder → other < 2 ^ 63 → length (spell (distance at older)) ≤ length (spell (distance other elder))
@@ -215,15 +235,6 @@ module _ (p : Parts) (sound : Sound p.classes) (new : ℕ × ℕ → ℕ) (most 
       let d : ℕ = distance other (Some y) in
       let big : 72057594037927936 ≤ d = omega (arith, h) in
       omega (arith, spell_most (distance at (Some x)), nine_bytes (spell d) d (spell_spells d) big)
-
-  spelled_as : (n v : ℕ) → length (spell_as n v) ≡ n
-  spelled_as zero v = refl
-  spelled_as (suc zero) v = refl
-  spelled_as (suc (suc n)) v = ap (λ z. suc z) (spelled_as (suc n) _)
-
-  sized_length : (n : ℕ) (tail : List ℕ) → length (sized n tail) ≡ n + length tail
-  unfolding spell_in
-  sized_length n tail = length-append (spell_as n (n + length tail)) tail ∙ ap (λ z. z + length tail) (spelled_as n (n + length tail))
 
   -- A checkpoint is no longer.
   pub checkpoint_short : (l : Link) (at other : ℕ) (older elder : Option ℕ) (gs hs : List Group) → is_some older ≡ is_some elder → other < 2 ^ 63 → Shorter gs hs
@@ -240,17 +251,7 @@ module _ (p : Parts) (sound : Sound p.classes) (new : ℕ × ℕ → ℕ) (most 
       let ny : List ℕ = spell (length hs) in
       let gx : List ℕ = flat_map (group_bytes new p) gs in
       let gy : List ℕ = flat_map (old.group_bytes c) hs in
-      let x1 = length-append a (b ++ (dx ++ (k ++ (nx ++ gx)))) in
-      let x2 = length-append b (dx ++ (k ++ (nx ++ gx))) in
-      let x3 = length-append dx (k ++ (nx ++ gx)) in
-      let x4 = length-append k (nx ++ gx) in
-      let x5 = length-append nx gx in
-      let y1 = length-append a (b ++ (dy ++ (k ++ (ny ++ gy)))) in
-      let y2 = length-append b (dy ++ (k ++ (ny ++ gy))) in
-      let y3 = length-append dy (k ++ (ny ++ gy)) in
-      let y4 = length-append k (ny ++ gy) in
-      let y5 = length-append ny gy in
       let d = delta_short at other older elder e h in
       let m = number_short (length gs) (length hs) s.count in
-      let tails : length (checkpoint_tail new p l (distance at older) gs) ≤ length (old.checkpoint_tail c l (distance other elder) hs) = omega (arith, s.bytes) in
+      let tails : length (checkpoint_tail new p l (distance at older) gs) ≤ length (old.checkpoint_tail c l (distance other elder) hs) = omega (arith, s.bytes, tail_length a b dx k nx gx, tail_length a b dy k ny gy) in
       omega (arith, tails, sized_length n (checkpoint_tail new p l (distance at older) gs), sized_length n (old.checkpoint_tail c l (distance other elder) hs))

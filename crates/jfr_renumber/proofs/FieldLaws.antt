@@ -1,6 +1,5 @@
 -- Fields, one after another, with new keys.
 use Rattle.std.specs.Prelude.{◌≡◌, ℕ, zero, suc, ◌+◌, ◌-◌, ◌<◌, ◌≤◌, Bool, true, false, List, [], ◌∷◌, ◌++◌, length, map, slice_get, slice_index, slice_range, Some, IfSome, IsSome, if◌then◌else◌}
-use Rattle.std.specs.Option.{option_map_or}
 use Rattle.std.proofs.Common.{ap, append-nil, arith, length-append, refl, sym, subst, ◌∙◌}
 use Rattle.std.specs.List.{AllByRecursion}
 use Rattle.std.proofs.lemmas.List.{append_assoc, length-map}
@@ -21,15 +20,11 @@ use Rattle.jfr_value.specs.Nodes.{EndsAt, IsNode, AreValues, NodeAt, node_at}
 use Rattle.jfr_value.proofs.ChildLaws.{inline_known}
 use Rattle.jfr_value.proofs.LayoutLaws.{layout_class}
 use Rattle.jfr_value.proofs.NodeForms.{fields_form, key_form}
-use Rattle.jfr_value.proofs.NodeLaws.{value_is}
 use Rattle.jfr_value.proofs.RowLaws.{row_stands, start_of}
 use Rattle.jfr_renumber.specs.Fields.{rekeyed_first}
 use Rattle.jfr_renumber.specs.Rekeyed.{rekeyed, rekeyed_all, rekeyed_bytes}
+use Rattle.jfr_renumber.proofs.RekeyedLaws.{node_bytes_are}
 use Rattle.jfr_renumber.proofs.RewritingLaws.{spell_small}
-
--- The node of a value, with new keys.
-pub rekeyed_is : (new : ℕ × ℕ → ℕ) (k : Classes) (c : List ℕ) (n : NodeAt) (v : Value) → Sound k → IsNode k c n v → rekeyed_bytes new k c n ≡ bytes_of (rekeyed new v)
-rekeyed_is new k c n v s i = ap (λ o. option_map_or (λ w. bytes_of (rekeyed new w)) o []) (value_is k c n v s i)
 
 -- All of the values.
 pub first_all : (new : ℕ × ℕ → ℕ) (vs : Values) (n : ℕ) → length (shapes_of vs) ≡ n → rekeyed_first new vs n ≡ bytes_of_all (rekeyed_all new vs)
@@ -141,7 +136,7 @@ pub key_written : (new : ℕ × ℕ → ℕ) (k : Classes) (c : List ℕ) (at to
 key_written new k c at to end s r m old now sound l w t a o f e h =
     let q = key_field new k c at to end s t.0 l w t.1 a o in
     let x : r ≡ record { value = q.key; end = to } = (let y : Some r ≡ Some (record { value = q.key; end = to }) = sym f ∙ q.found in cc) in
-    (ap (λ (z : Var). z.end) x, h ∙ ap (λ z. old ++ z) (ap spell (e ∙ ap (λ (z : Var). new (s.class, z.value)) x) ∙ sym (rekeyed_is new k c (node_at s at to) t.0 sound t.1 ∙ q.bytes)))
+    (ap (λ (z : Var). z.end) x, h ∙ ap (λ z. old ++ z) (ap spell (e ∙ ap (λ (z : Var). new (s.class, z.value)) x) ∙ sym (node_bytes_are new k sound c (node_at s at to) t.0 t.1 ∙ q.bytes)))
 
 -- The key 0 in one byte stays the same if its new key is 0.
 pub null_same : (new : ℕ × ℕ → ℕ) (k : Classes) (c : List ℕ) (at to end : ℕ) (s : Shape) → Sound k → at < end → end ≤ length c → slice_index c at ≡ 0 → new (s.class, 0) ≡ 0 → s.array ≡ false → s.constant ≡ true → EndsAt k c s at to → to ≤ end
@@ -180,4 +175,4 @@ layouts_row new k c n v l ls sound i e y f h =
     let q = row_of new k c n v d.class i (ap (λ (z : Shape). z.array) (sym e) ∙ m.0) (ap (λ (z : Shape). z.constant) (sym e) ∙ m.1) (ap (λ (z : Shape). find_class k z.class) (sym e) ∙ d.found) (sym d.kind ∙ m.2) in
     let r : AreValues k c n.at n.end (map (λ s. s.shape) ls) q.parts = subst (λ z. AreValues k c n.at n.end z q.parts) (sym g.shapes) q.row in
     let w : length (shapes_of q.parts) ≡ length ls = ap (λ (z : List Shape). length z) r.of_shapes ∙ length-map ls (λ (s : FieldLayout). s.shape) in
-    (q.parts, r, rekeyed_is new k c n v sound i ∙ (q.bytes ∙ sym (first_all new q.parts (length ls) w)), g.each)
+    (q.parts, r, node_bytes_are new k sound c n v i ∙ (q.bytes ∙ sym (first_all new q.parts (length ls) w)), g.each)

@@ -7,7 +7,7 @@ use Rattle.std.proofs.Common.{ap, arith, sym, ◌∙◌, subst, inl, inr}
 use Rattle.std.proofs.lemmas.Option.{get_or_from_slice_get, slice_get-get_or, slice_get_within}
 use Rattle.jfr_worklist.proofs.Members.{contains_in}
 use Rattle.jfr_renumber.specs.Missing.{Earlier, IsRising, pair_cmp}
-use Rattle.jfr_renumber.proofs.NumberingLaws.{in_get}
+use Rattle.jfr_meta.proofs.StayLaws.{in_get}
 use Rattle.jfr_renumber.proofs.OrderLaws.{as_early, earlier, never, not_earlier, rising_at}
 
 -- Compared with a pair, an earlier one gives no more than a later one.

@@ -1,33 +1,36 @@
 -- The laws, as they are promised.
-use Rattle.std.specs.Prelude.{◌≡◌, ◌↔◌, ℕ, List, [], ◌∷◌, ◌++◌, map, Contains, Option, Some, None, IsSome}
-use Rattle.std.specs.Option.{option_map_or}
-use Rattle.std.proofs.Common.{ap, refl, sym, ◌∙◌, subst, inl, inr}
+use Rattle.std.specs.Prelude.{◌≡◌, ◌↔◌, ℕ, List, ◌++◌, map, Contains, Option, Some, None, IsSome}
+use Rattle.std.specs.Option.{option_map}
+use Rattle.std.proofs.Common.{ap, refl, sym, ◌∙◌, subst}
 use Rattle.std.proofs.lemmas.List.{map-append}
 use Rattle.std.proofs.lemmas.List.Elements.{All-contains}
 use Rattle.jfr_base.specs.Formats.{Exactly}
-use Rattle.jfr_layout.specs.Classes.{Classes, Agree, Sound}
-use Rattle.jfr_layout.specs.declared.shape.Shape.{Shape}
-use Rattle.jfr_value.specs.Values.{Value, Values, Single, Group, Nil, Cons, shape_of, bytes_of, targets_of, targets_of_all, Fits}
+use Rattle.jfr_layout.specs.Classes.{Classes, Sound}
+use Rattle.jfr_value.specs.Values.{Value, Values, Single, Group, Nil, Cons, bytes_of, targets_of, targets_of_all, Fits}
 use Rattle.jfr_value.specs.Reading.{value_format}
-use Rattle.jfr_value.specs.Nodes.{IsNode, Both}
+use Rattle.jfr_value.specs.Nodes.{NodeAt, IsNode, Both}
 use Rattle.jfr_value.proofs.DepthLaws.{fits_good}
-use Rattle.jfr_value.proofs.InsideLaws.{fits_agree}
-use Rattle.jfr_value.proofs.NodeLaws.{value_is}
-use Rattle.jfr_pool.specs.Entries.{in_force, inline}
+use Rattle.jfr_pool.specs.Entries.{in_force}
 use Rattle.jfr_chunk.specs.Parts.{Parts, EventAt, AreParts, events_of}
+use Rattle.jfr_chunk.specs.Paths.{leads}
 use Rattle.jfr_chunk.specs.Reach.{Used}
 use Rattle.jfr_chunk.specs.Laws.{AreEvents}
 use Rattle.jfr_worklist.specs.Members.{In}
 use Rattle.jfr_worklist.proofs.Members.{contains_in, in_contains}
 use Rattle.jfr_chunk.proofs.HasNodesLaws.{IsEvent, has_nodes, event_is}
-use Rattle.jfr_renumber.specs.Rekeyed.{rekeyed, rekeyed_all, rekeyed_pair}
+use Rattle.jfr_rewrite.specs.Paths.{Held, leads_but, root}
+use Rattle.jfr_rewrite.specs.Rewritten.{HasChangedValue, IsChangedEvent}
+use Rattle.jfr_rewrite.proofs.MeaningLaws.{event_leads}
+use Rattle.jfr_rewrite.proofs.OneToOneLaws.{each_to}
+use Rattle.jfr_rewrite.proofs.PathLaws.{Paired}
+use Rattle.jfr_renumber.specs.Rekeyed.{SameButKeys, rekeyed, rekeyed_all, rekeyed_pair, rekeying}
 use Rattle.jfr_renumber.specs.Renumber.{used_keys, new_key, firsts}
-use Rattle.jfr_renumber.specs.Meaning.{AreNewKeys, AreRekeyedEntries, IsInOrder, RekeyedMeaning}
+use Rattle.jfr_renumber.specs.Meaning.{AreNewKeys, AreRekeyedEntries, IsInOrder, RekeyedEvent, RekeyedMeaning}
 use Rattle.jfr_renumber.specs.Laws.{KeepsMeaning, RekeyedRecord, RekeyedRecords, AgreeOnUsed}
-use Rattle.jfr_renumber.proofs.RekeyedLaws.{rekeyed_fits, rekeyed_shape, rekeyed_leaves, rekeyed_short}
-use Rattle.jfr_renumber.proofs.ValueLaws.{fits_once}
+use Rattle.jfr_renumber.proofs.PathLaws.{leads_free, met_used, node_in}
+use Rattle.jfr_renumber.proofs.RekeyedLaws.{never, node_rekeyed, rekeyed_fits, rekeyed_is_changed, rekeyed_leaves, rekeyed_shape, rekeyed_short, rekeying_keeps, rekeying_targets}
 use Rattle.jfr_renumber.proofs.UsedLaws.{in_used, keys_rise, new_keys, used_in}
-use Rattle.jfr_renumber.proofs.RenamedLaws.{PairedEvent, PairedEvents, renamed_meaning, entries_paired}
+use Rattle.jfr_renumber.proofs.RenamedLaws.{entries_changed}
 
 pub both_there : {A B : Type 0} (R : A → B → Type 0) (x : Option A) (y : Option B) → Both R x y → IsSome x ↔ IsSome y
 both_there R None None r = (λ i. i, λ i. i)
@@ -75,32 +78,38 @@ module _ (p : Parts) (a : AreParts p) (kept : List EventAt) (are : AreEvents p k
   pub exactly_used : (t : ℕ × ℕ) → Contains (used_keys p kept) t ↔ Used p kept t
   exactly_used t = (λ c. in_used p (has_nodes p a) kept kept_nodes t (contains_in (used_keys p kept) t c), λ u. in_contains (used_keys p kept) t (used_in p (has_nodes p a) kept kept_nodes t u))
 
-  module _ (q : Parts) (b : AreParts q) (new : ℕ × ℕ → ℕ) where
-    over_used : AgreeOnUsed p q kept → (t : ℕ × ℕ) → Used p kept t → (v : Value) → (shape_of v).class ≡ t.0 → Fits p.classes v → Fits q.classes v
-    over_used agree t u v e f = fits_agree p.classes q.classes v (subst (Agree p.classes q.classes) (sym e) (agree t u)) f
-
-    pub event_paired : (e f : EventAt) → IsEvent p e → IsEvent q f → RekeyedRecord new p q e f → PairedEvent p q (has_nodes p a) (has_nodes q b) new e f
-    event_paired e f i j h =
-        let shape : shape_of j.value ≡ shape_of i.value = sym j.node.shape ∙ (j.shape ∙ (ap inline (sym h.class) ∙ (sym i.shape ∙ i.node.shape))) in
-        let g : Agree p.classes q.classes (shape_of i.value).class = subst (λ (z : Shape). Agree p.classes q.classes z.class) (sym i.shape ∙ i.node.shape) h.agree in
-        let bytes : bytes_of j.value ≡ bytes_of (rekeyed new i.value) =
-        sym j.node.bytes ∙ (sym h.fields ∙ ap (λ o. option_map_or (λ v. bytes_of (rekeyed new v)) o []) (value_is p.classes p.bytes e.node i.value (has_nodes p a).sound i.node)) in
-        let same : j.value ≡ rekeyed new i.value =
-        fits_once q.classes j.value (rekeyed new i.value) (has_nodes q b).sound j.node.fits (rekeyed_fits new q.classes i.value (fits_agree p.classes q.classes i.value g i.node.fits)) (shape ∙ sym (rekeyed_shape new i.value)) bytes in
-        record { class = h.class; rest = h.rest; fields = record { value = i.value; other = j.value; left = i.node; right = j.node; related = same } }
-
-    pub events_paired : (es fs : List EventAt) → ((e : EventAt) → In es e → IsEvent p e) → ((f : EventAt) → In fs f → IsEvent q f) → RekeyedRecords new p q es fs → PairedEvents p q (has_nodes p a) (has_nodes q b) new es fs
-    events_paired [] [] i j h = tt
-    events_paired [] (f ∷ fs) i j h = absurd h
-    events_paired (e ∷ es) [] i j h = absurd h
-    events_paired (e ∷ es) (f ∷ fs) i j h = (event_paired e f (i e (inl refl)) (j f (inl refl)) h.0, events_paired es fs (λ e k. i e (inr k)) (λ f k. j f (inr k)) h.1)
-
-    pub renamed_the_same : (others : List EventAt) → AreEvents q others → AreNewKeys p kept new → AgreeOnUsed p q kept → AreRekeyedEntries new p q (firsts p kept) q.entries → RekeyedRecords new p q kept others → RekeyedMeaning new p q kept others
-    renamed_the_same others those keys agree entries records =
-        renamed_meaning p q (has_nodes p a) (has_nodes q b) new kept others
-        (events_paired kept others kept_event (λ f i. event_is q b f (contains_in (events_of q) f (All-contains (Contains (events_of q)) others f those (in_contains others f i)))) records)
-        (entries_paired p q (has_nodes p a) (has_nodes q b) new kept kept_nodes keys entries (over_used agree))
+  -- A second chunk whose entries are the first of each group with new keys.
+  module _ (q : Parts) (b : AreParts q) (new : ℕ × ℕ → ℕ) (keys : AreNewKeys p kept new) (agree : AgreeOnUsed p q kept) (entries : AreRekeyedEntries new p q (firsts p kept) q.entries) where
+    in_force_changed : (t : ℕ × ℕ) → Used p kept t → Both (HasChangedValue (rekeying new) p q) (in_force p.entries t) (in_force q.entries (rekeyed_pair new t))
+    in_force_changed t u = entries_changed p q (has_nodes p a) new kept kept_nodes keys entries agree t u
 
     -- What is used has an entry in force exactly if its new key has one.
-    pub same_missing : AreNewKeys p kept new → AgreeOnUsed p q kept → AreRekeyedEntries new p q (firsts p kept) q.entries → (t : ℕ × ℕ) → Used p kept t → IsSome (in_force p.entries t) ↔ IsSome (in_force q.entries (rekeyed_pair new t))
-    same_missing keys agree entries t u = both_there _ (in_force p.entries t) (in_force q.entries (rekeyed_pair new t)) (entries_paired p q (has_nodes p a) (has_nodes q b) new kept kept_nodes keys entries (over_used agree) t u)
+    pub same_missing : (t : ℕ × ℕ) → Used p kept t → IsSome (in_force p.entries t) ↔ IsSome (in_force q.entries (rekeyed_pair new t))
+    same_missing t u = both_there _ (in_force p.entries t) (in_force q.entries (rekeyed_pair new t)) (in_force_changed t u)
+
+    -- Changed nodes are the same except for the keys.
+    abbrev Same : NodeAt → NodeAt → Type 0
+    Same = SameButKeys new p.classes q.classes p.bytes q.bytes
+
+    nodes_rekeyed : (x : Option Held) (y : Option NodeAt) → Both (Paired p q (rekeying new)) x y → Both Same (option_map node_in x) y
+    nodes_rekeyed None None r = tt
+    nodes_rekeyed (Some h) (Some o) r =
+        node_rekeyed new p.classes (has_nodes p a).sound p.bytes h.node r.value r.before q.classes q.bytes o (has_nodes q b).sound
+        (subst (IsNode q.classes q.bytes o) (rekeyed_is_changed new h.holder r.value) r.now)
+    nodes_rekeyed None (Some o) r = absurd r
+    nodes_rekeyed (Some h) None r = absurd r
+
+    module _ (others : List EventAt) (those : AreEvents q others) where
+      event_renamed : (e f : EventAt) → In kept e → In others f → RekeyedRecord new p q e f → RekeyedEvent new p q e f
+      event_renamed e f i j h =
+          let c : IsChangedEvent (rekeying new) p q e f = record { class = h.class; agree = h.agree; fields = h.fields; rest = h.rest } in
+          let lead =
+          event_leads (rekeying new) new never p q kept others a b are those (rekeying_keeps new p.classes) (rekeying_targets new p.classes) (λ t m. in_force_changed t (met_used p kept t m)) e f i j c in
+          record {
+            class = h.class;
+            rest = h.rest;
+            paths = λ path. subst (λ z. Both Same z (leads q f.node path)) (leads_free p path (root e.node)) (nodes_rekeyed (leads_but never p (root e.node) path) (leads q f.node path) (lead path));
+          }
+
+      pub renamed_the_same : RekeyedRecords new p q kept others → RekeyedMeaning new p q kept others
+      renamed_the_same h = each_to kept others event_renamed h

@@ -17,6 +17,7 @@ use Rattle.jfr_worklist.proofs.Members.{contains_in, in_contains, in_left, in_ri
 use Rattle.jfr_chunk.specs.Reach.{all_targets, kept_by, marked, nodes_of, reached_marks, remain}
 use Rattle.jfr_renumber.specs.declared.missing.Missing.{Missing}
 use Rattle.jfr_renumber.specs.Missing.{Lists, flagged, is_missing}
+use Rattle.jfr_renumber.proofs.Fewer.{marked_none}
 use Rattle.jfr_renumber.specs.Renumber.{used_keys}
 
 lists_none : (es : List EntryAt) (list : Missing) → Lists es [] list list
@@ -82,10 +83,6 @@ pub entry_listed : (p : Parts) (flags : List Bool) (n : ℕ) (e : EntryAt) (es :
 entry_listed p flags n e es k c a b t g i j l h = node_listed p (map entry_node (option_to_list (flagged flags p.entries n))) (entry_node e) es k c a b (ap (map entry_node) (flagged_is flags p.entries n e t g)) i j l h
 
 -- Those up to a number, and the next.
-marked_none : {X : Type 0} (ms : List Bool) → marked {X = X} ms [] ≡ []
-marked_none [] = refl
-marked_none (m ∷ ms) = refl
-
 flagged_none : {X : Type 0} (flags : List Bool) (n : ℕ) → flagged {X = X} flags [] n ≡ None
 flagged_none [] n = refl
 flagged_none (true ∷ flags) zero = refl

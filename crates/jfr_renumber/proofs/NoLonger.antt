@@ -1,8 +1,8 @@
 -- What a chunk becomes with new keys is no longer than what it becomes without them.
-use Rattle.std.specs.Prelude.{◌≡◌, ℕ, ◌+◌, ◌^◌, ◌<◌, ◌≤◌, ◌==◌, Bool, List, [], ◌∷◌, length, filter, reverse, Option, Some, None, is_some}
-use Rattle.std.specs.List.{AllByRecursion}
-use Rattle.std.proofs.Common.{arith, refl, subst, length-append}
-use Rattle.jfr_layout.specs.Classes.{Agree, Sound}
+use Rattle.std.specs.Prelude.{◌≡◌, ℕ, ◌+◌, ◌^◌, ◌<◌, ◌≤◌, ◌==◌, Bool, List, [], ◌∷◌, length, find, Option, Some, None, is_some}
+use Rattle.std.specs.List.{AllByRecursion, flat_map}
+use Rattle.std.proofs.Common.{arith, refl, length-append}
+use Rattle.jfr_layout.specs.Classes.{Sound}
 use Rattle.jfr_header.specs.Fronts as fronts
 use Rattle.jfr_frame.specs.Records.{record_bytes}
 use Rattle.jfr_pool.specs.declared.entry.EntryAt.{EntryAt}
@@ -11,23 +11,19 @@ use Rattle.jfr_chunk.specs.Reach.{marked, kept_by}
 use Rattle.jfr_chunk.specs.Metas.{Names, new_metadata}
 use Rattle.jfr_chunk.specs.Scrub.{OutputRecord, Whole, Chained, Rebuilt, assembled, groups_of, header_with, last_at, moved, output_records, is_kept_or_metadata, written, written_anew}
 use Rattle.jfr_chunk.proofs.HasNodesLaws.{has_nodes}
-use Rattle.jfr_laws.proofs.Anews.{Anew}
 use Rattle.jfr_laws.proofs.Anews.{good_anew}
 use Rattle.jfr_laws.proofs.Copied.{record_length}
-use Rattle.jfr_laws.proofs.Groups.{groups_hold}
 use Rattle.jfr_laws.proofs.Header.{header_length, whole_small}
 use Rattle.jfr_laws.proofs.OutputRecords.{IsOutputRecordIn, chained_bytes}
 use Rattle.jfr_laws.proofs.OutputRecords as before
 use Rattle.jfr_laws.proofs.Premises.{Ready, ready}
-use Rattle.jfr_laws.specs.InChunk.{IsEntryIn, IsGroupIn}
 use Rattle.jfr_laws.proofs.Whole.{out_shorter}
-use Rattle.jfr_renumber.specs.Renumber.{written_by}
-use Rattle.jfr_renumber.proofs.Fewer.{Under, Shorter, numbers_short, entries_stand, checkpoint_short}
-use Rattle.jfr_renumber.proofs.Made.{Small, bytes_from}
-use Rattle.jfr_renumber.proofs.NewOutput.{bytes, pools, all_small}
-use Rattle.jfr_renumber.proofs.Rebuilt.{out}
+use Rattle.jfr_rewrite.specs.Rewrite.{bytes_by, written_by}
+use Rattle.jfr_renumber.specs.Renumber.{assembled_by, new_bytes}
+use Rattle.jfr_renumber.proofs.Fewer.{Under, checkpoint_short}
+use Rattle.jfr_renumber.proofs.Room.{groups_shorter, whole_short}
 
-module _ (names : Names) (p : Parts) (a : AreParts p) (flags : List Bool) (n : Anew names p a (kept_by p flags)) (new : ℕ × ℕ → ℕ) (most : (t : ℕ × ℕ) → new t ≤ t.1) (fm : List Bool) (agree : AllByRecursion (λ x. Agree p.classes n.classes x.class) (marked fm p.entries)) (ms : List Bool) (u : Under fm ms) where
+module _ (names : Names) (p : Parts) (a : AreParts p) (flags : List Bool) (new : ℕ × ℕ → ℕ) (most : (t : ℕ × ℕ) → new t ≤ t.1) (fm ms : List Bool) (u : Under fm ms) where
   abbrev kept : List EventAt
   kept = kept_by p flags
 
@@ -41,46 +37,44 @@ module _ (names : Names) (p : Parts) (a : AreParts p) (flags : List Bool) (n : A
   sound = (has_nodes p a).sound
 
   abbrev write : OutputRecord → ℕ → Option ℕ → List ℕ
-  write = bytes names p a flags n new most fm agree
-
-  groups_shorter : (i : ℕ) → AllByRecursion (IsGroupIn p.bytes p.classes) (groups_of ours i) → Shorter p sound new most (groups_of ours i) (groups_of theirs i)
-  groups_shorter i g =
-      numbers_short p sound new most 0 (reverse p.chain) p.entries fm ms u a.entries i
-      (subst (AllByRecursion (IsEntryIn p.bytes p.classes)) (groups_hold (filter (λ e. e.checkpoint == i) ours)) (entries_stand p sound new most (groups_of ours i) g))
+  write = new_bytes new p kept ours
 
   abbrev new_from : ℕ → Option ℕ → List OutputRecord → List ℕ
-  new_from at older xs = bytes_from n.classes write (pools names p a flags n new most fm agree) at older xs
+  new_from at older xs = flat_map (bytes_by write) (written_by write at older xs)
 
   abbrev old_from : ℕ → Option ℕ → List OutputRecord → List ℕ
   old_from at older xs = before.bytes_from p.bytes theirs at older xs
 
   body_short : (xs : List OutputRecord) (at other : ℕ) (older elder : Option ℕ) → is_some older ≡ is_some elder → other + length (old_from other elder xs) < 2 ^ 63
-      → AllByRecursion (IsOutputRecordIn p.bytes ours p.classes) xs → AllByRecursion (Small n.classes write (pools names p a flags n new most fm agree)) xs → length (new_from at older xs) ≤ length (old_from other elder xs)
-  body_short [] at other older elder e h s t = omega arith
-  body_short (Whole r ∷ xs) at other older elder e h s t =
+      → AllByRecursion (IsOutputRecordIn p.bytes ours p.classes) xs → length (new_from at older xs) ≤ length (old_from other elder xs)
+  body_short [] at other older elder e h s = omega arith
+  body_short (Whole r ∷ xs) at other older elder e h s =
       let k : ℕ = length (write (Whole r) at older) in
       let m : ℕ = length (record_bytes p.bytes r) in
       let z : m ≡ r.size = record_length p.bytes r s.0 in
-      let y : k ≤ r.size = t.0 at older in
+      let y : k ≤ r.size = whole_short p a flags new most r s.0 (find (λ e. e.record_of.at == r.at) kept) refl in
       let w = before.whole_length p.bytes theirs r xs other elder in
-      let i = body_short xs (at + k) (other + m) older elder e (omega (arith, h, w)) s.1 t.1 in
+      let i = body_short xs (at + k) (other + m) older elder e (omega (arith, h, w)) s.1 in
       omega (arith, i, w, length-append (write (Whole r) at older) (new_from (at + k) older xs))
-  body_short (Rebuilt r x ∷ xs) at other older elder e h s t =
+  body_short (Rebuilt r x ∷ xs) at other older elder e h s =
       let w = before.rebuilt_length p.bytes theirs r x xs other elder in
-      let i = body_short xs (at + length x) (other + length x) older elder e (omega (arith, h, w)) s.1 t.1 in
+      let i = body_short xs (at + length x) (other + length x) older elder e (omega (arith, h, w)) s.1 in
       omega (arith, i, w, length-append x (new_from (at + length x) older xs))
-  body_short (Chained j l ∷ xs) at other older elder e h s t =
+  body_short (Chained j l ∷ xs) at other older elder e h s =
       let k : ℕ = length (write (Chained j l) at older) in
       let m : ℕ = length (chained_bytes p.bytes theirs other elder j l) in
       let w = before.chained_length p.bytes theirs j l xs other elder in
-      let y : k ≤ m = checkpoint_short p sound new most l at other older elder (groups_of ours j) (groups_of theirs j) e (omega (arith, h)) (groups_shorter j s.0.1) in
-      let i = body_short xs (at + k) (other + m) (Some at) (Some other) refl (omega (arith, h, w)) s.1 t.1 in
+      let y : k ≤ m = checkpoint_short p sound new most l at other older elder (groups_of ours j) (groups_of theirs j) e (omega (arith, h)) (groups_shorter p a flags new most fm ms u j s.0.1) in
+      let i = body_short xs (at + k) (other + m) (Some at) (Some other) refl (omega (arith, h, w)) s.1 in
       omega (arith, i, w, y, length-append (write (Chained j l) at older) (new_from (at + k) (Some at) xs))
 
   abbrev outs : List OutputRecord
   outs = output_records (new_metadata names p kept) p kept
 
-  pub no_longer : fronts.Whole p.bytes → length (out names p a flags n new most fm agree) ≤ length (assembled p theirs outs)
+  pub scrub_short : length (assembled p theirs outs) ≤ length p.bytes
+  scrub_short = out_shorter (new_metadata names p kept) p kept ms a (good_anew names p a kept)
+
+  pub no_longer : fronts.Whole p.bytes → length (assembled_by p write outs) ≤ length (assembled p theirs outs)
   no_longer whole =
       let here : List ℕ = new_from 68 None outs in
       let there : List ℕ = old_from 68 None outs in
@@ -92,8 +86,7 @@ module _ (names : Names) (p : Parts) (a : AreParts p) (flags : List Bool) (n : A
       let hy = header_length p.bytes (68 + length there) last_there metadata_there in
       let x = length-append (header_with p.bytes (68 + length here) last_here metadata_here) here in
       let y = length-append (header_with p.bytes (68 + length there) last_there metadata_there) there in
-      let bound : length (assembled p theirs outs) ≤ length p.bytes = out_shorter (new_metadata names p kept) p kept ms a (good_anew names p a kept) in
       let small = whole_small p.bytes whole in
       let is_ready : Ready p ours outs = ready p a (is_kept_or_metadata p kept) (written_anew (new_metadata names p kept) p) (good_anew names p a kept) fm in
-      let i = body_short outs 68 68 None None refl (omega (arith, bound, small, hy, y)) is_ready.valid (all_small names p a flags n new most fm agree) in
+      let i = body_short outs 68 68 None None refl (omega (arith, scrub_short, small, hy, y)) is_ready.valid in
       omega (arith, i, hx, hy, x, y)

@@ -1,5 +1,5 @@
 -- Key by key, the numbers of the groups so far.
-use Rattle.std.specs.Prelude.{◌≡◌, ◌⊎◌, ℕ, zero, suc, ◌+◌, ◌≤◌, ◌<◌, Bool, true, false, List, [], ◌∷◌, ◌++◌, length, map, take, slice_get, Option, Some, None, IfSome, Contains, option_and_then, if◌then◌else◌}
+use Rattle.std.specs.Prelude.{◌≡◌, ◌⊎◌, ℕ, suc, ◌+◌, ◌≤◌, ◌<◌, Bool, true, false, List, [], ◌∷◌, ◌++◌, length, map, take, slice_get, Option, Some, None, IfSome, Contains, option_and_then, if◌then◌else◌}
 use Rattle.std.specs.Option.{option_map}
 use Rattle.std.specs.Str.{bytes_eq}
 use Rattle.std.specs.Borrow.{Bor}
@@ -20,18 +20,15 @@ use Rattle.jfr_renumber.specs.Keys.{count_below, smallest, begins, group_number,
 use Rattle.jfr_renumber.specs.Missing.{Earlier, IsRising}
 use Rattle.jfr_renumber.specs.Numbering.{number_under, value_of_key, SameValue, AreKeysOf, group_numbers}
 use Rattle.jfr_renumber.proofs.KeyLaws.{count_flat, count_this, smallest_least, smallest_most, number_same, group_begins, any_in, Least, least_is}
+use Rattle.jfr_meta.proofs.StayLaws.{in_get}
 use Rattle.jfr_renumber.proofs.OrderLaws.{rising_at-map}
+use Rattle.jfr_layout.proofs.Lists.{map_next}
 
 abbrev Firsts : Type 0
 Firsts = BTreeMap (Bor (List ℕ)) ℕ
 
 pub empty_under : (m : Firsts) → tree.IsEmpty m → (q : List ℕ) → number_under m q ≡ None
 empty_under m e q = ap (lookup (tree.is_at (λ k. slice_cmp nat_cmp q k.now))) e
-
-pub in_get : {X : Type 0} (xs : List X) (x : X) → In xs x → (i : ℕ) × (slice_get xs i ≡ Some x)
-in_get [] x i = absurd i
-in_get (y ∷ xs) x (inl e) = (0, ap (λ z. Some z) e)
-in_get (y ∷ xs) x (inr i) = let r = in_get xs x i in (suc r.0, r.1)
 
 -- Of keys of a class, later ones are larger.
 abbrev Rising : ℕ → List UsedKey → Type 0
@@ -55,11 +52,6 @@ stands_before class ks i j k l r h e f = by_order (order i j)
     by_order (inl a) = a
     by_order (inr (inl a)) = let b = key_rises class ks j i l k r a f e in absurd (omega arith)
     by_order (inr (inr a)) = let x : slice_get ks j ≡ Some k = subst (λ z. slice_get ks z ≡ Some k) a e in let q : k ≡ l = cc in let p : k.key ≡ l.key = ap (λ (z : UsedKey). z.key) q in absurd (omega arith)
-
-map_next : {X Y : Type 0} (f : X → Y) (xs : List X) (i : ℕ) (x : X) → slice_get xs i ≡ Some x → map f (take (i + 1) xs) ≡ map f (take i xs) ++ f x ∷ []
-map_next f [] i x e = cc
-map_next f (y ∷ xs) zero x e = let h : y ≡ x = cc in ap (λ z. f z ∷ []) h
-map_next f (y ∷ xs) (suc i) x e = let q : suc i + 1 ≡ suc (i + 1) = omega arith in ap (λ n. map f (take n (y ∷ xs))) q ∙ ap (λ z. f y ∷ z) (map_next f xs i x e)
 
 -- A number that is kept for the value of a key, if it has one.
 abbrev pub Keeps : Option (Bor (List ℕ)) → ℕ → Firsts → Firsts → Type 0

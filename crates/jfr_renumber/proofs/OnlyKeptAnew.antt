@@ -31,14 +31,17 @@ use Rattle.jfr_laws.proofs.Outlines.{Spelled}
 use Rattle.jfr_laws.proofs.PoolsAlike.{AnswersAlike, Related, pools_filter, related_filter}
 use Rattle.jfr_laws.proofs.Premises.{recorded}
 use Rattle.jfr_laws.proofs.ToldLaws.{all_apart, rendered_same}
-use Rattle.jfr_renumber.specs.Rekeyed.{rekeyed, rekeyed_bytes}
-use Rattle.jfr_renumber.specs.Renumber.{used_keys, pair_of, equal_values, together, new_key, firsts, firsts_with, entry_bytes, event_bytes, new_bytes, whole_bytes, written_by, renumber_with}
+use Rattle.jfr_renumber.specs.Rekeyed.{rekeyed_bytes, rekeying}
+use Rattle.jfr_rewrite.specs.Changed.{changed}
+use Rattle.jfr_rewrite.specs.Rewrite.{written_by}
+use Rattle.jfr_renumber.specs.Renumber.{used_keys, pair_of, equal_values, together, new_key, firsts, firsts_with, entry_bytes, event_bytes, new_bytes, whole_bytes, renumber_with}
 use Rattle.jfr_renumber.specs.Keys.{group_number}
 use Rattle.jfr_renumber.specs.ToldAnew.{told_anew}
 use Rattle.jfr_renumber.proofs.AgreeLaws.{bytes_same}
 use Rattle.jfr_renumber.proofs.LawLaws.{kept_nodes}
 use Rattle.jfr_renumber.proofs.SameOrderLaws.{same_numbers}
 use Rattle.jfr_renumber.proofs.TogetherLaws.{together_is}
+use Rattle.jfr_laws.proofs.Entries.{each_append}
 use Rattle.jfr_renumber.proofs.UsedLaws.{entry_used, event_used, in_used, remains_used, used_in}
 
 -- What is written with these keys.
@@ -92,12 +95,6 @@ module _ (R : EntryAt → EntryAt → Type 0) (s : EntryAt → EntryAt → Bool)
     pools_firsts x y (e ∷ es) (f ∷ fs) r p =
         (p.0, pools_filter R (apart e) (apart_too f) (apart_like e f r.0) x y (firsts_with s es) (firsts_with z fs) (related_firsts es fs r.2) (pools_firsts x y es fs r.2 p.1))
 
-each_both : {A B : Type 0} (R : A → B → Type 0) (xs us : List A) (ys vs : List B) → Each R xs ys → Each R us vs → Each R (xs ++ us) (ys ++ vs)
-each_both R [] us [] vs a b = b
-each_both R [] us (y ∷ ys) vs a b = absurd a
-each_both R (x ∷ xs) us [] vs a b = absurd a
-each_both R (x ∷ xs) us (y ∷ ys) vs a b = (a.0, each_both R xs us ys vs a.1 b)
-
 module _ (slim other : Option (List ℕ)) (p q : Parts) (kept others : List EventAt) (a : AreParts p) (b : AreParts q) (these : AreEvents p kept) (those : AreEvents q others) (g : SameKept slim other p q kept others) where
   abbrev EP : EventAt → EventAt → Type 0
   EP = Events slim other p q kept others a b these those g
@@ -135,7 +132,7 @@ module _ (slim other : Option (List ℕ)) (p q : Parts) (kept others : List Even
   unfolding used_keys
   keys_same =
       all_same (nodes_of kept ++ map entry_node (remain p kept)) (nodes_of others ++ map entry_node (remain q others))
-      (each_both (NodePair p q a b) (nodes_of kept) (map entry_node (remain p kept)) (nodes_of others) (map entry_node (remain q others))
+      (each_append (NodePair p q a b) (nodes_of kept) (nodes_of others) (map entry_node (remain p kept)) (map entry_node (remain q others))
       (event_nodes kept others (events slim other p q kept others a b these those g)) (entry_nodes (remain p kept) (remain q others) (entries slim other p q kept others a b these those g)))
 
   -- The same of them are together.
@@ -169,7 +166,7 @@ module _ (slim other : Option (List ℕ)) (p q : Parts) (kept others : List Even
   node_same : (n o : NodeAt) → NodePair p q a b n o → ((t : ℕ × ℕ) → In (targets p.classes p.bytes n) t → In (used_keys p kept) t) → rekeyed_bytes (new_key p kept) p.classes p.bytes n ≡ rekeyed_bytes (new_key q others) q.classes q.bytes o
   node_same n o x u =
       bytes_same (new_key p kept) (new_key q others) p.classes p.bytes n (λ t i. new_same t (u t i))
-      ∙ ap (λ z. option_map_or (λ v. bytes_of (rekeyed (new_key q others) v)) z []) (value_same n o x)
+      ∙ ap (λ z. option_map_or (λ v. bytes_of (changed (rekeying (new_key q others)) None v)) z []) (value_same n o x)
 
   pair_same : (e f : EntryAt) → NP e f → pair_of e ≡ pair_of f
   pair_same e f r = λ i. (r.copied.class i, r.copied.key i)

@@ -20,7 +20,7 @@ use Rattle.jfr_value.proofs.LayoutEnds.{text_ends}
 use Rattle.jfr_value.proofs.PartLaws.{end_seen}
 use Rattle.jfr_renumber.specs.Rekeyed.{rekeyed, rekeyed_bytes}
 use Rattle.jfr_renumber.proofs.BaseLaws.{base_field}
-use Rattle.jfr_renumber.proofs.FieldLaws.{rekeyed_is}
+use Rattle.jfr_renumber.proofs.RekeyedLaws.{node_bytes_are}
 
 -- A string's content, by its kind byte.
 pub string_key : (b rest : List ℕ) (s : Content) → IsString b s → b ≡ 2 ∷ rest → (key : ℕ) × (s ≡ Key key) × Spells rest key
@@ -98,14 +98,14 @@ module _ (k : Classes) (c : List ℕ) (at to : ℕ) (l : FieldLayout) (y : IsFie
   text_key_written new end r m old now sound t h w e g a b =
       let q = text_key new end t.0 t.1 h w e in
       let x : r ≡ record { value = q.key; end = to } = (let y : Some r ≡ Some (record { value = q.key; end = to }) = sym g ∙ q.found in cc) in
-      (ap (λ (z : Var). z.end) x, b ∙ ap (λ z. old ++ z) (ap (λ z. 2 ∷ spell z) (a ∙ ap (λ (z : Var). new (l.shape.class, z.value)) x) ∙ sym (rekeyed_is new k c (node_at l.shape at to) t.0 sound t.1 ∙ q.bytes)))
+      (ap (λ (z : Var). z.end) x, b ∙ ap (λ z. old ++ z) (ap (λ z. 2 ∷ spell z) (a ∙ ap (λ (z : Var). new (l.shape.class, z.value)) x) ∙ sym (node_bytes_are new k sound c (node_at l.shape at to) t.0 t.1 ∙ q.bytes)))
 
   -- If it isn't, it is unchanged.
   pub text_same : (new : ℕ × ℕ → ℕ) (end : ℕ) → Sound k → EndsAt k c l.shape at to → to ≤ end → ((at < end) × (slice_index c at ≡ 2) → ⊥) → rekeyed_bytes new k c (node_at l.shape at to) ≡ slice_range c at to
   text_same new end sound t h n =
       let q = text_field t.0 t.1 in
       let o = q.order in
-      rekeyed_is new k c (node_at l.shape at to) t.0 sound t.1
+      node_bytes_are new k sound c (node_at l.shape at to) t.0 t.1
       ∙ (ap (λ z. bytes_of (rekeyed new z)) q.value
       ∙ ap (λ z. bytes_of (rekeyed new (Single l.shape (leaf_kinds.Base l.kind) (slice_range c at to) z))) (string_other (slice_range c at to) (slice_range c (at + 1) to) (slice_index c at) q.content q.string q.bytes (λ e. n (omega arith, e))))
 

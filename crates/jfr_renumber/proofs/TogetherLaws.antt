@@ -1,5 +1,5 @@
 -- Which keys are together: an equivalence, and what the first entries of groups are.
-use Rattle.std.specs.Prelude.{◌≡◌, ◌⊎◌, ℕ, Bool, true, false, not, ◌||◌, ◌==◌, List, [], ◌∷◌, filter, Option, Some, None, cond}
+use Rattle.std.specs.Prelude.{◌≡◌, ◌⊎◌, ℕ, Bool, true, false, not, ◌||◌, ◌==◌, List, [], ◌∷◌, Option, Some, None}
 use Rattle.std.specs.Cmp.{unsigned_Decides, first_so, second_so}
 use Rattle.std.specs.Cmp.Derive.{both_true}
 use Rattle.std.proofs.Common.{ap, refl, sym, ◌∙◌, subst, inl, inr}
@@ -12,6 +12,8 @@ use Rattle.jfr_chunk.specs.Parts.{Parts}
 use Rattle.jfr_worklist.specs.Members.{In}
 use Rattle.jfr_renumber.specs.Renumber.{together, equal_values, pair_of, firsts_of}
 use Rattle.jfr_renumber.specs.Keys.{Together}
+use Rattle.jfr_chunk.proofs.AllLaws.{in_filter}
+use Rattle.jfr_laws.proofs.Listed.{passes_in}
 
 -- Both have an entry in force, with equal value bytes.
 pub record Twins (p : Parts) (t u : ℕ × ℕ) : Type 0 where
@@ -25,7 +27,7 @@ pub record Twins (p : Parts) (t u : ℕ × ℕ) : Type 0 where
 abbrev pub Alike : Parts → ℕ × ℕ → ℕ × ℕ → Type 0
 Alike p t u = (t.0 ≡ u.0) × ((t.1 ≡ u.1) ⊎ Twins p t u)
 
-pair_is : (t u : ℕ × ℕ) → t.0 ≡ u.0 → t.1 ≡ u.1 → t ≡ u
+pub pair_is : (t u : ℕ × ℕ) → t.0 ≡ u.0 → t.1 ≡ u.1 → t ≡ u
 pair_is t u a b = ap (λ (z : ℕ). (z, t.1)) a ∙ ap (λ (z : ℕ). (u.0, z)) b
 
 or_cases : (a b : Bool) → (a || b) ≡ true → (a ≡ true) ⊎ (b ≡ true)
@@ -84,31 +86,12 @@ module _ (p : Parts) where
   }
 
   -- A first entry is one of the entries.
-  in_filtered : (test : EntryAt → Bool) (es : List EntryAt) (e : EntryAt) → In (filter test es) e → In es e
-  in_filtered test [] e i = absurd i
-  in_filtered test (f ∷ es) e i = by_test (test f) i (in_filtered test es e)
-    where
-      by_test : (b : Bool) → In (cond b (f ∷ filter test es) (filter test es)) e → (In (filter test es) e → In es e) → In (f ∷ es) e
-      by_test true (inl q) g = inl q
-      by_test true (inr j) g = inr (g j)
-      by_test false j g = inr (g j)
-
   pub first_among : (es : List EntryAt) (e : EntryAt) → In (firsts_of p es) e → In es e
   first_among [] e i = absurd i
   first_among (f ∷ es) e (inl q) = inl q
-  first_among (f ∷ es) e (inr i) = inr (first_among es e (in_filtered (λ g. not (together p (pair_of f) (pair_of g))) (firsts_of p es) e i))
+  first_among (f ∷ es) e (inr i) = inr (first_among es e (in_filter (λ g. not (together p (pair_of f) (pair_of g))) (firsts_of p es) e i))
 
   -- Each entry is together with a first one.
-  filtered_in : (test : EntryAt → Bool) (es : List EntryAt) (e : EntryAt) → In es e → test e ≡ true → In (filter test es) e
-  filtered_in test [] e i q = absurd i
-  filtered_in test (f ∷ es) e i q = by_test (test f) refl i (λ j. filtered_in test es e j q)
-    where
-      by_test : (b : Bool) → test f ≡ b → (f ≡ e) ⊎ In es e → (In es e → In (filter test es) e) → In (cond b (f ∷ filter test es) (filter test es)) e
-      by_test true t (inl h) g = inl h
-      by_test true t (inr j) g = inr (g j)
-      by_test false t (inl h) g = let z : test f ≡ true = ap test h ∙ q in cc
-      by_test false t (inr j) g = g j
-
   pub first_with : (es : List EntryAt) (e : EntryAt) → In es e → (f : EntryAt) × In (firsts_of p es) f × (together p (pair_of f) (pair_of e) ≡ true)
   first_with [] e i = absurd i
   first_with (f ∷ es) e (inl q) = (f, inl refl, subst (λ z. together p (pair_of f) (pair_of z) ≡ true) q (together_is.reflexive (pair_of f)))
@@ -117,7 +100,7 @@ module _ (p : Parts) where
       by_test : (g : EntryAt) → In (firsts_of p es) g → together p (pair_of g) (pair_of e) ≡ true → (b : Bool) → together p (pair_of f) (pair_of g) ≡ b
           → (h : EntryAt) × In (firsts_of p (f ∷ es)) h × (together p (pair_of h) (pair_of e) ≡ true)
       by_test g j w true t = (f, inl refl, together_is.transitive (pair_of f) (pair_of g) (pair_of e) t w)
-      by_test g j w false t = (g, inr (filtered_in (λ g. not (together p (pair_of f) (pair_of g))) (firsts_of p es) g j (ap not t)), w)
+      by_test g j w false t = (g, inr (passes_in (λ g. not (together p (pair_of f) (pair_of g))) (firsts_of p es) g j (ap not t)), w)
 
       by_first : (g : EntryAt) × In (firsts_of p es) g × (together p (pair_of g) (pair_of e) ≡ true) → (h : EntryAt) × In (firsts_of p (f ∷ es)) h × (together p (pair_of h) (pair_of e) ≡ true)
       by_first (g, j, w) = by_test g j w (together p (pair_of f) (pair_of g)) refl

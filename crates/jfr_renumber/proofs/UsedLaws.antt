@@ -17,6 +17,7 @@ use Rattle.jfr_pool.proofs.ForceLaws.{Forced, forced, numbered}
 use Rattle.jfr_chunk.proofs.PathLaws.{HasNodes}
 use Rattle.jfr_chunk.proofs.ReachLaws.{leads_on, target_path, reach_least}
 use Rattle.jfr_chunk.proofs.ReachedLaws.{reached_marked}
+use Rattle.jfr_laws.proofs.Listed.{in_map, map_in}
 use Rattle.jfr_renumber.specs.Renumber.{used_keys, together, new_key, pair_of}
 use Rattle.jfr_renumber.specs.Meaning.{AreNewKeys, IsInOrder}
 use Rattle.jfr_renumber.proofs.KeyLaws.{number_most, number_same, number_apart, number_dense, number_order}
@@ -67,16 +68,6 @@ event_in : (es : List EventAt) (e : EventAt) → In es e → In (nodes_of es) e.
 event_in [] e i = absurd i
 event_in (f ∷ es) e (inl q) = inl (ap (λ (z : EventAt). z.node) q)
 event_in (f ∷ es) e (inr i) = inr (event_in es e i)
-
-pub in_map : {X Y : Type 0} (f : X → Y) (xs : List X) (y : Y) → In (map f xs) y → (x : X) × In xs x × (f x ≡ y)
-in_map f [] y i = absurd i
-in_map f (x ∷ xs) y (inl q) = (x, inl refl, q)
-in_map f (x ∷ xs) y (inr i) = let r = in_map f xs y i in (r.0, inr r.1, r.2)
-
-pub map_in : {X Y : Type 0} (f : X → Y) (xs : List X) (x : X) → In xs x → In (map f xs) (f x)
-map_in f [] x i = absurd i
-map_in f (z ∷ xs) x (inl q) = inl (ap f q)
-map_in f (z ∷ xs) x (inr i) = inr (map_in f xs x i)
 
 module _ (p : Parts) (s : HasNodes p) (kept : List EventAt) (nodes : (e : EventAt) → In kept e → (v : Value) × IsNode p.classes p.bytes e.node v) where
   reached_is : (i : ℕ) → Reached p kept i ↔ IsMarked (reached_marks p kept) i
@@ -147,7 +138,7 @@ module _ (p : Parts) (s : HasNodes p) (kept : List EventAt) (nodes : (e : EventA
 
       by_case : (n : NodeAt) → In (targets p.classes p.bytes n) t → In (nodes_of kept) n ⊎ In (map entry_node (remain p kept)) n → Used p kept t
       by_case n j (inl k) = by_event n j (in_events kept n k)
-      by_case n j (inr k) = by_entry n j (in_map entry_node (remain p kept) n k)
+      by_case n j (inr k) = by_entry n j (map_in entry_node (remain p kept) n k)
 
       by_node : (n : NodeAt) × In (nodes_of kept ++ map entry_node (remain p kept)) n × In (targets p.classes p.bytes n) t → Used p kept t
       by_node (n, k, j) = by_case n j (in_cases (nodes_of kept) (map entry_node (remain p kept)) n k)
@@ -159,7 +150,7 @@ module _ (p : Parts) (s : HasNodes p) (kept : List EventAt) (nodes : (e : EventA
   pub entry_used : (e : EntryAt) (t : ℕ × ℕ) → In (remain p kept) e → In (targets p.classes p.bytes (entry_node e)) t → In (used_keys p kept) t
   unfolding used_keys
   entry_used e t i j =
-      node_in p (nodes_of kept ++ map entry_node (remain p kept)) (entry_node e) t (in_right (nodes_of kept) (map entry_node (remain p kept)) (entry_node e) (map_in entry_node (remain p kept) e i)) j
+      node_in p (nodes_of kept ++ map entry_node (remain p kept)) (entry_node e) t (in_right (nodes_of kept) (map entry_node (remain p kept)) (entry_node e) (in_map entry_node (remain p kept) e i)) j
 
   pub used_in : (t : ℕ × ℕ) → Used p kept t → In (used_keys p kept) t
   used_in t u =

@@ -1,5 +1,5 @@
 -- The used keys in order, each with its value, and the numbers of their groups.
-use Rattle.std.specs.Prelude.{◌≡◌, ◌↔◌, ◌⊎◌, ℕ, zero, suc, IfSome, ◌<◌, Bool, true, false, not, is_some, List, [], ◌∷◌, ◌++◌, map, filter, slice_get, take, length, cond, option_to_list, if◌then◌else◌, Contains, ◌+◌, Option, Some, None}
+use Rattle.std.specs.Prelude.{◌≡◌, ◌↔◌, ◌⊎◌, ℕ, zero, suc, IfSome, ◌<◌, Bool, true, false, not, is_some, List, [], ◌∷◌, ◌++◌, map, filter, slice_get, take, length, option_to_list, if◌then◌else◌, Contains, ◌+◌, Option, Some, None}
 use Rattle.std.specs.Option.{option_map}
 use Rattle.std.specs.List.{AllByRecursion, list_any}
 use Rattle.std.proofs.Common.{ap, arith, refl, sym, ◌∙◌, subst, inl, inr, append_assoc}
@@ -29,18 +29,9 @@ use Rattle.jfr_renumber.proofs.NumberLaws.{any_same, number_given}
 use Rattle.jfr_renumber.proofs.OrderLaws.{pair_same}
 use Rattle.jfr_renumber.proofs.LawLaws.{kept_nodes}
 use Rattle.jfr_renumber.proofs.MissingLaws.{flag_there, flagged_is, flagged_not, marked_up}
+use Rattle.jfr_laws.proofs.Listed.{in_map, map_in, passes_in}
 use Rattle.jfr_renumber.proofs.TogetherLaws.{Twins, alike_together, together_alike, together_is}
-use Rattle.jfr_renumber.proofs.UsedLaws.{in_map, in_used, map_in, remains_used, used_in, used_remains}
-
-filtered_in : {X : Type 0} (test : X → Bool) (xs : List X) (x : X) → In xs x → test x ≡ true → In (filter test xs) x
-filtered_in test [] x i q = absurd i
-filtered_in {X = X} test (y ∷ xs) x i q = by_test (test y) refl i (λ j. filtered_in test xs x j q)
-  where
-    by_test : (b : Bool) → test y ≡ b → In (y ∷ xs) x → (In xs x → In (filter test xs) x) → In (cond b (y ∷ filter test xs) (filter test xs)) x
-    by_test true e (inl h) f = inl h
-    by_test true e (inr j) f = inr (f j)
-    by_test false e (inl h) f = let z : false ≡ true = sym e ∙ (ap test h ∙ q) in cc
-    by_test false e (inr j) f = f j
+use Rattle.jfr_renumber.proofs.UsedLaws.{in_used, remains_used, used_in, used_remains}
 
 some_value : (p : Parts) (o : Option EntryAt) (v : List ℕ) → Some v ≡ option_map (λ e. node_bytes p.bytes (entry_node e)) o → (e : EntryAt) × (o ≡ Some e) × (v ≡ node_bytes p.bytes (entry_node e))
 some_value p None v h = cc
@@ -87,29 +78,29 @@ module _ (p : Parts) (s : HasNodes p) (kept : List EventAt) (nodes : (e : EventA
       by_side : In (filter (is_missing p.entries) (used_keys p kept)) t ⊎ In (map pair_of (remain p kept)) t → In (used_keys p kept) t
       by_side (inl j) = in_filter (is_missing p.entries) (used_keys p kept) t j
       by_side (inr j) =
-          let r = in_map pair_of (remain p kept) t j in
+          let r = map_in pair_of (remain p kept) t j in
           subst (In (used_keys p kept)) r.2 (used_in p s kept nodes (pair_of r.0) (remains_used p s kept nodes r.0 r.1).used)
 
   pub used_pairs : (t : ℕ × ℕ) → In (used_keys p kept) t → In all_pairs t
   used_pairs t i = by_number (number_in_force p.entries t) refl
     where
       by_number : (o : Option ℕ) → number_in_force p.entries t ≡ o → In all_pairs t
-      by_number None e = in_left (filter (is_missing p.entries) (used_keys p kept)) (map pair_of (remain p kept)) t (filtered_in (is_missing p.entries) (used_keys p kept) t i (ap (λ o. not (is_some o)) e))
+      by_number None e = in_left (filter (is_missing p.entries) (used_keys p kept)) (map pair_of (remain p kept)) t (passes_in (is_missing p.entries) (used_keys p kept) t i (ap (λ o. not (is_some o)) e))
       by_number (Some n) e =
           let f = forced p.entries t n e in
           let l = (last_is p.entries t n).0 e in
           let h : l.entry ≡ f.entry = (let x : Some l.entry ≡ Some f.entry = sym l.holds ∙ f.there in cc) in
           let q : pair_of f.entry ≡ t = ap pair_of (sym h) ∙ l.has in
           let r = used_remains p s kept nodes t f.entry (in_used p s kept nodes t i) f.is in
-          in_right (filter (is_missing p.entries) (used_keys p kept)) (map pair_of (remain p kept)) t (subst (In (map pair_of (remain p kept))) q (map_in pair_of (remain p kept) f.entry r))
+          in_right (filter (is_missing p.entries) (used_keys p kept)) (map pair_of (remain p kept)) t (subst (In (map pair_of (remain p kept))) q (in_map pair_of (remain p kept) f.entry r))
 
   -- Keys in order, with their values, of just these pairs.
   pub are_pairs : (ps : List (ℕ × ℕ)) (ks : List UsedKey) → IsRising ps → ((t : ℕ × ℕ) → Contains all_pairs t → Contains ps t) → ((t : ℕ × ℕ) → Contains ps t → Contains all_pairs t)
       → map pair_at ks ≡ ps → AllByRecursion (HasValue p) ks → ArePairsOf (together p) (used_keys p kept) ks
   are_pairs ps ks r on off e v = record {
     rising = subst IsRising (sym e) r;
-    used = λ k c. in_contains (used_keys p kept) (pair_at k) (pairs_used (pair_at k) (contains_in all_pairs (pair_at k) (off (pair_at k) (in_contains ps (pair_at k) (subst (λ z. In z (pair_at k)) e (map_in pair_at ks k (contains_in ks k c)))))));
-    all = λ t c. (let j : In ps t = contains_in ps t (on t (in_contains all_pairs t (used_pairs t (contains_in (used_keys p kept) t c)))) in let m = in_map pair_at ks t (subst (λ z. In z t) (sym e) j) in (m.0, in_contains ks m.0 m.1, m.2));
+    used = λ k c. in_contains (used_keys p kept) (pair_at k) (pairs_used (pair_at k) (contains_in all_pairs (pair_at k) (off (pair_at k) (in_contains ps (pair_at k) (subst (λ z. In z (pair_at k)) e (in_map pair_at ks k (contains_in ks k c)))))));
+    all = λ t c. (let j : In ps t = contains_in ps t (on t (in_contains all_pairs t (used_pairs t (contains_in (used_keys p kept) t c)))) in let m = map_in pair_at ks t (subst (λ z. In z t) (sym e) j) in (m.0, in_contains ks m.0 m.1, m.2));
     alike = λ k l c d. alike_by p k l (all_in (HasValue p) ks k v (contains_in ks k c)) (all_in (HasValue p) ks l v (contains_in ks l d));
   }
 
@@ -179,13 +170,13 @@ module _ (p : Parts) (a : AreParts p) (flags marks : List Bool) (m : marks ≡ r
     where
       there : Contains (map pair_at js) t → Used p kept t
       there c =
-          let r = in_map pair_at js t (contains_in (map pair_at js) t c) in
+          let r = map_in pair_at js t (contains_in (map pair_at js) t c) in
           in_used p (has_nodes p a) kept (kept_nodes p a kept (chosen_events p flags)) t (subst (In (used_keys p kept)) r.2 (contains_in (used_keys p kept) (pair_at r.0) (are.used r.0 (in_contains js r.0 r.1))))
 
       back : Used p kept t → Contains (map pair_at js) t
       back u =
           let r = are.all t (in_contains (used_keys p kept) t (used_in p (has_nodes p a) kept (kept_nodes p a kept (chosen_events p flags)) t u)) in
-          in_contains (map pair_at js) t (subst (In (map pair_at js)) r.2 (map_in pair_at js r.0 (contains_in js r.0 r.1)))
+          in_contains (map pair_at js) t (subst (In (map pair_at js)) r.2 (in_map pair_at js r.0 (contains_in js r.0 r.1)))
 
   -- So the numbers of the pairs are the new keys of all that is used.
   pub all_numbered : (ms l ps qs : List (ℕ × ℕ)) (ks js : List UsedKey) (ns : List ℕ) → ((t : ℕ × ℕ) → Contains missing t → Contains ms t) → ((t : ℕ × ℕ) → Contains ms t → Contains missing t) → l ≡ ms ++ map pair_of (marked marks p.entries) → IsRising ps → ((t : ℕ × ℕ) → Contains l t → Contains ps t) → ((t : ℕ × ℕ) → Contains ps t → Contains l t)

@@ -1,15 +1,14 @@
 -- The output chunk, one output record after another.
-use Rattle.std.specs.Prelude.{◌≡◌, ℕ, ◌+◌, ◌-◌, ◌≤◌, ◌==◌, Bool, true, false, List, [], ◌∷◌, ◌++◌, length, drop, filter, find, replicate, slice_range, take, Option, Some, None, Contains, IfSome, slice_get, is_some, unwrap_or, if◌then◌else◌}
+use Rattle.std.specs.Prelude.{◌≡◌, ℕ, ◌+◌, ◌-◌, ◌≤◌, ◌==◌, Bool, true, false, List, [], ◌∷◌, ◌++◌, length, drop, filter, find, replicate, take, Option, Some, None, Contains, IfSome, slice_get, unwrap_or, if◌then◌else◌}
 use Rattle.std.specs.List.{AllByRecursion, flat_map}
 use Rattle.std.proofs.Common.{ap, arith, refl, sym, ◌∙◌, subst, append_assoc, length-append}
 use Rattle.std.proofs.lemmas.Bool.{eqb-true}
 use Rattle.std.proofs.lemmas.List.{append-nil}
 use Rattle.std.proofs.lemmas.List.Elements.{All-contains}
-use Rattle.std.proofs.lemmas.Map.Views.{exact_unsigned_eq}
-use Rattle.jfr_base.specs.Integer.{spell, spell_in}
+use Rattle.jfr_base.specs.Integer.{spell_in}
 use Rattle.jfr_header.specs.Headers.{header_bytes, header_of}
 use Rattle.jfr_header.specs.declared.header.Header.{Header}
-use Rattle.jfr_layout.specs.Classes.{Sound, is_event_class}
+use Rattle.jfr_layout.specs.Classes.{is_event_class}
 use Rattle.jfr_frame.specs.declared.framed.Framed.{Framed}
 use Rattle.jfr_frame.specs.Records.{IsRecord, record_bytes}
 use Rattle.jfr_frame.proofs.RecordLaws.{record_one}
@@ -19,20 +18,12 @@ use Rattle.jfr_worklist.specs.Members.{In}
 use Rattle.jfr_worklist.proofs.Members.{contains_in, in_contains}
 use Rattle.jfr_chunk.specs.Parts.{Parts, EventAt, AreParts, events_of, metadata_at}
 use Rattle.jfr_chunk.specs.Reach.{kept_by, marked}
-use Rattle.jfr_chunk.specs.Written as old
-use Rattle.jfr_chunk.specs.Written.{Group, by_pool, distance, sized}
-use Rattle.jfr_chunk.specs.Metas.{Names, new_metadata}
-use Rattle.jfr_chunk.specs.Scrub.{OutputRecord, Whole, Chained, Rebuilt, Written, groups_of, last_at, moved, older_after, output_records, is_kept_or_metadata, record_of, written_anew}
-use Rattle.jfr_chunk.proofs.AllLaws.{all_in}
-use Rattle.jfr_chunk.proofs.HasNodesLaws.{has_nodes}
-use Rattle.jfr_laws.proofs.Anews.{good_anew}
-use Rattle.jfr_laws.proofs.Groups.{groups_hold}
-use Rattle.jfr_laws.proofs.OutputRecords.{Deltas, IsOutputRecordIn, chained_fits}
+use Rattle.jfr_chunk.specs.Written.{distance, sized}
+use Rattle.jfr_chunk.specs.Scrub.{OutputRecord, Whole, Chained, Rebuilt, Written, groups_of, last_at, moved, older_after, output_records, record_of}
 use Rattle.jfr_laws.proofs.Passing.{clash}
-use Rattle.jfr_laws.proofs.Premises.{Ready, metadata_stands, ready, recorded}
+use Rattle.jfr_laws.proofs.Premises.{metadata_stands}
 use Rattle.jfr_laws.proofs.Quiet.{no_metadata_event}
-use Rattle.jfr_laws.proofs.Same.{chosen_events, event_of_chunk}
-use Rattle.jfr_laws.specs.InChunk.{IsEntryIn, IsGroupIn}
+use Rattle.jfr_laws.proofs.Same.{chosen_events}
 use Rattle.jfr_output.specs.declared.output_records.OutputRecord as contents
 use Rattle.jfr_output.specs.declared.output_records.OutputRecord.TheVariants as declared_records
 use Rattle.jfr_output.specs.OutputRecords.{IsNewMetadata, IsKeptEvent, ShowsEvent, ShowsMetadata, output_record_as, whole_or}
@@ -43,14 +34,14 @@ use Rattle.jfr_output.proofs.PositionLaws.{last_next, last_none, moved_next, or_
 use Rattle.jfr_output.proofs.Widths.{size_width, spelled_length}
 use Rattle.jfr_renumber.specs.Meaning.{AreNewKeys}
 use Rattle.jfr_renumber.specs.Numbers.{NumberedPairs, number_of, number_or_zero}
-use Rattle.jfr_renumber.specs.Renumber.{assembled_by, bytes_by, checkpoint_tail, event_bytes, firsts, group_bytes, new_bytes, new_key, new_key_of, renumber_with, whole_bytes, written_by}
+use Rattle.jfr_renumber.specs.Renumber.{assembled_by, checkpoint_tail, event_bytes, firsts, new_bytes, new_key, new_key_of, renumber_with, whole_bytes}
 use Rattle.jfr_renumber.specs.Writing.{CanWrite, CheckpointFits, IsBody, IsWritten, Progress, with_record}
 use Rattle.jfr_renumber.proofs.AgreeLaws.{number_used, output_same}
 use Rattle.jfr_renumber.proofs.LawLaws.{new_keys_are}
-use Rattle.jfr_renumber.proofs.NewOutput.{find_in}
-use Rattle.jfr_renumber.proofs.NewPools.{groups_short, groups_spelled}
-use Rattle.jfr_renumber.proofs.Rebuilt.{computed}
+use Rattle.jfr_rewrite.specs.Rewrite.{bytes_by, written_by}
+use Rattle.jfr_rewrite.proofs.Accepted.{computed}
 use Rattle.jfr_renumber.proofs.Renumbered.{firsts_marked}
+use Rattle.jfr_renumber.proofs.Room.{all_can, found_event}
 
 -- No kept event is the metadata record.
 pub metadata_no_event : (p : Parts) → AreParts p → (flags : List Bool) (r : Framed) → IsRecord p.bytes r → (r.at == metadata_at p.bytes) ≡ true → find (λ e. e.record_of.at == r.at) (kept_by p flags) ≡ None
@@ -62,10 +53,10 @@ metadata_no_event p a flags r s t = by_find (find (λ e. e.record_of.at == r.at)
     by_find : (o : Option EventAt) → find (λ e. e.record_of.at == r.at) (kept_by p flags) ≡ o → o ≡ None
     by_find None q = refl
     by_find (Some e) q =
-        let f = find_in (λ e. e.record_of.at == r.at) (kept_by p flags) e q in
+        let f = found_event p a flags r e s q in
         let i : In (events_of p) e = contains_in (events_of p) e (All-contains (Contains (events_of p)) (kept_by p flags) e (chosen_events p flags) (in_contains (kept_by p flags) e f.0)) in
         let c = computed p e i in
-        let same : e.record_of ≡ a.metadata_record = record_one p.bytes e.record_of a.metadata_record (all_in (IsRecord p.bytes) p.records e.record_of (recorded p a) (event_of_chunk p a (kept_by p flags) (chosen_events p flags) e f.0).listed) (metadata_stands p a) (exact_unsigned_eq e.record_of.at r.at f.1 ∙ ap (λ (z : Framed). z.at) there) in
+        let same : e.record_of ≡ a.metadata_record = f.1 ∙ there in
         let none : is_event_class p.classes e.record_of.type_id ≡ false = ap (λ (z : Framed). is_event_class p.classes z.type_id) same ∙ (ap (is_event_class p.classes) a.metadata_there.type_is ∙ no_metadata_event p.classes) in
         absurd (clash (is_event_class p.classes e.record_of.type_id) c.class none)
 
@@ -79,84 +70,6 @@ numbers_below p a flags k h t = subst (λ o. unwrap_or o 0 ≤ t.1) (sym (h t)) 
     by_test : (b : Bool) → unwrap_or (if b then Some (new_key p (kept_by p flags) t) else None) 0 ≤ t.1
     by_test true = keys.most t
     by_test false = omega arith
-
-module _ (p : Parts) (a : AreParts p) (flags : List Bool) (new : ℕ × ℕ → ℕ) (most : (t : ℕ × ℕ) → new t ≤ t.1) (fm : List Bool) where
-  abbrev remaining : List EntryAt
-  remaining = marked fm p.entries
-
-  abbrev kept : List EventAt
-  kept = kept_by p flags
-
-  abbrev sound : Sound p.classes
-  sound = (has_nodes p a).sound
-
-  group_entries : (g : Group) → IsGroupIn p.bytes p.classes g → AllByRecursion (IsEntryIn p.bytes p.classes) g.entries
-  group_entries g s = each g.entries s.1
-    where
-      each : (es : List EntryAt) → AllByRecursion (λ e. IsEntryIn p.bytes p.classes e × (e.class ≡ g.class)) es → AllByRecursion (IsEntryIn p.bytes p.classes) es
-      each [] h = tt
-      each (e ∷ es) h = (h.0.0, each es h.1)
-
-  both : (xs ys : List EntryAt) → AllByRecursion (IsEntryIn p.bytes p.classes) xs → AllByRecursion (IsEntryIn p.bytes p.classes) ys → AllByRecursion (IsEntryIn p.bytes p.classes) (xs ++ ys)
-  both [] ys h i = i
-  both (x ∷ xs) ys h i = (h.0, both xs ys h.1 i)
-
-  groups_entries : (gs : List Group) → AllByRecursion (IsGroupIn p.bytes p.classes) gs → AllByRecursion (IsEntryIn p.bytes p.classes) (flat_map (λ g. g.entries) gs)
-  groups_entries [] s = tt
-  groups_entries (g ∷ gs) s = both g.entries (flat_map (λ g. g.entries) gs) (group_entries g s.0) (groups_entries gs s.1)
-
-  -- A checkpoint isn't longer with new keys than with the old ones.
-  tail_short : (l : Link) (delta : ℕ) (gs : List Group) → AllByRecursion (IsGroupIn p.bytes p.classes) gs → length (checkpoint_tail new p l delta gs) ≤ length (old.checkpoint_tail p.bytes l delta gs)
-  tail_short l delta gs s =
-      let t : List ℕ = slice_range p.bytes l.frame.type_at l.frame.body in
-      let m : List ℕ = slice_range p.bytes l.frame.body l.delta_at in
-      let d : List ℕ = spell delta in
-      let k : List ℕ = slice_range p.bytes l.delta_end (l.delta_end + 1) in
-      let n : List ℕ = spell (length gs) in
-      let x : List ℕ = flat_map (group_bytes new p) gs in
-      let y : List ℕ = flat_map (old.group_bytes p.bytes) gs in
-      let short : length x ≤ length y = subst (λ z. length z ≤ length y) (sym (groups_spelled p sound new most gs s)) (groups_short p sound new most gs s) in
-      omega (
-        arith,
-        length-append t (m ++ (d ++ (k ++ (n ++ x)))),
-        length-append m (d ++ (k ++ (n ++ x))),
-        length-append d (k ++ (n ++ x)),
-        length-append k (n ++ x),
-        length-append n x,
-        length-append t (m ++ (d ++ (k ++ (n ++ y)))),
-        length-append m (d ++ (k ++ (n ++ y))),
-        length-append d (k ++ (n ++ y)),
-        length-append k (n ++ y),
-        length-append n y,
-      )
-
-  checkpoint_fits : (i : ℕ) (l : Link) (at : ℕ) (older : Option ℕ) → IsOutputRecordIn p.bytes remaining p.classes (Chained i l) → (is_some older ≡ true → l.delta_end ≡ l.delta_at + 9) → CanWrite new p remaining (Chained i l) at older
-  unfolding CanWrite
-  checkpoint_fits i l at older s d =
-      let es : List EntryAt = filter (λ e. e.checkpoint == i) remaining in
-      let f = chained_fits p.bytes remaining p.classes i l at older s d in
-      let t = tail_short l (distance at older) (by_pool es) s.1 in
-      record { link = s.0; entries = subst (AllByRecursion (IsEntryIn p.bytes p.classes)) (groups_hold es) (groups_entries (by_pool es) s.1); room = omega arith }
-
-  abbrev bytes : OutputRecord → ℕ → Option ℕ → List ℕ
-  bytes = new_bytes new p kept remaining
-
-  abbrev pub CanBeWritten : Written → Type 0
-  CanBeWritten w = CanWrite new p remaining w.output_record w.at w.older
-
-  each_can : (ss : List OutputRecord) (at : ℕ) (older : Option ℕ) → AllByRecursion (IsOutputRecordIn p.bytes remaining p.classes) ss → Deltas (is_some older) ss → AllByRecursion CanBeWritten (written_by bytes at older ss)
-  unfolding CanWrite
-  each_can [] at older s d = tt
-  each_can (Whole r ∷ ss) at older s d = (s.0, each_can ss (at + length (bytes (Whole r) at older)) older s.1 d)
-  each_can (Rebuilt r x ∷ ss) at older s d = (s.0.0, each_can ss (at + length (bytes (Rebuilt r x) at older)) older s.1 d)
-  each_can (Chained i l ∷ ss) at older s d = (checkpoint_fits i l at older s.0 d.0, each_can ss (at + length (bytes (Chained i l) at older)) (Some at) s.1 d.1)
-
-  -- All output records can be written.
-  pub all_can : (names : Names) → AllByRecursion CanBeWritten (written_by bytes 68 None (output_records (new_metadata names p kept) p kept))
-  all_can names =
-      let slim = new_metadata names p kept in
-      let r : Ready p remaining (output_records slim p kept) = ready p a (is_kept_or_metadata p kept) (written_anew slim p) (good_anew names p a kept) fm in
-      each_can (output_records slim p kept) 68 None r.valid r.deltas
 
 seen_not : (o : Option ℕ) (t : Bool) (at : ℕ) → t ≡ false → offset_so_far o t at ≡ o
 seen_not o t at e = ap (λ z. offset_so_far o z at) e ∙ by_place o

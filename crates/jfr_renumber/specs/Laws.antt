@@ -1,5 +1,5 @@
 -- What holds of values with new keys, and of chunks whose events and entries have new keys.
-use Rattle.std.specs.Prelude.{◌≡◌, ◌≤◌, ℕ, List, [], ◌∷◌, length, map, slice_range, Contains, Option, ⊤}
+use Rattle.std.specs.Prelude.{◌≡◌, ◌≤◌, ℕ, List, length, map, slice_range, Contains, Option}
 use Rattle.jfr_base.specs.Formats.{Exactly}
 use Rattle.jfr_layout.specs.Classes.{Classes, Agree}
 use Rattle.jfr_frame.specs.Records.{record_end}
@@ -10,7 +10,9 @@ use Rattle.jfr_value.specs.Nodes.{node_bytes}
 use Rattle.jfr_value.specs.Leaves.{leaves_at}
 use Rattle.jfr_chunk.specs.Parts.{Parts, EventAt}
 use Rattle.jfr_chunk.specs.Reach.{Used}
-use Rattle.jfr_renumber.specs.Rekeyed.{rekeyed, rekeyed_bytes, rekeyed_leaf, content, rekeyed_pair}
+use Rattle.jfr_rewrite.specs.Changed.{content}
+use Rattle.jfr_rewrite.specs.Rewritten.{OneToOne}
+use Rattle.jfr_renumber.specs.Rekeyed.{rekeyed, rekeyed_bytes, rekeyed_leaf, rekeyed_pair}
 
 -- A value with new keys is read from its own bytes. It has the same shape, and the same leaves except for the
 -- keys; it refers to the same classes by the new keys; and it is no longer if none of these is larger than the
@@ -33,10 +35,7 @@ pub record RekeyedRecord (new : ℕ × ℕ → ℕ) (p q : Parts) (e f : EventAt
 
 -- The events correspond one to one, in order, each pair as in RekeyedRecord.
 abbrev pub RekeyedRecords : (ℕ × ℕ → ℕ) → Parts → Parts → List EventAt → List EventAt → Type 0
-RekeyedRecords new p q [] [] = ⊤
-RekeyedRecords new p q (e ∷ es) (f ∷ fs) = RekeyedRecord new p q e f × RekeyedRecords new p q es fs
-RekeyedRecords new p q [] (f ∷ fs) = ⊥
-RekeyedRecords new p q (e ∷ es) [] = ⊥
+RekeyedRecords new p q = OneToOne (RekeyedRecord new p q)
 
 -- The class lists agree on the class of each used class and key.
 abbrev pub AgreeOnUsed : Parts → Parts → List EventAt → Type 0

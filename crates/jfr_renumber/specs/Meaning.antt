@@ -1,6 +1,6 @@
 -- What a renumbered chunk keeps: for each event and each path the same shape and the same leaves, except for
 -- the keys.
-use Rattle.std.specs.Prelude.{◌≡◌, ◌↔◌, ◌≤◌, ◌<◌, ℕ, true, List, [], ◌∷◌, length, IsSome, slice_range, ⊤}
+use Rattle.std.specs.Prelude.{◌≡◌, ◌↔◌, ◌≤◌, ◌<◌, ℕ, true, List, length, IsSome, slice_range}
 use Rattle.jfr_header.specs.Fronts.{Whole}
 use Rattle.jfr_frame.specs.Records.{record_end}
 use Rattle.jfr_value.specs.declared.node.Step.{Step}
@@ -12,6 +12,7 @@ use Rattle.jfr_chunk.specs.Reach.{Used}
 use Rattle.jfr_chunk.specs.Scrub.{scrub_of}
 use Rattle.jfr_chunk.specs.Metas.{remaining_classes, Names}
 use Rattle.jfr_chunk.specs.Paths.{leads}
+use Rattle.jfr_rewrite.specs.Rewritten.{OneToOne}
 use Rattle.jfr_renumber.specs.Rekeyed.{SameButKeys, rekeyed_bytes, rekeyed_pair}
 use Rattle.jfr_renumber.specs.Renumber.{together, new_key, firsts, pair_of, renumber_of}
 
@@ -28,10 +29,7 @@ pub record RekeyedEvent (new : ℕ × ℕ → ℕ) (p q : Parts) (e f : EventAt)
 
 -- The events correspond one to one, in order, each pair as in RekeyedEvent.
 abbrev pub RekeyedMeaning : (ℕ × ℕ → ℕ) → Parts → Parts → List EventAt → List EventAt → Type 0
-RekeyedMeaning new p q [] [] = ⊤
-RekeyedMeaning new p q (e ∷ es) (f ∷ fs) = RekeyedEvent new p q e f × RekeyedMeaning new p q es fs
-RekeyedMeaning new p q [] (f ∷ fs) = ⊥
-RekeyedMeaning new p q (e ∷ es) [] = ⊥
+RekeyedMeaning new p q = OneToOne (RekeyedEvent new p q)
 
 -- These are new keys. None is larger than the old one. Two used keys of a class have equal new keys exactly if
 -- they are together, and the new keys of the used keys of a class have no gaps.
@@ -54,10 +52,7 @@ pub record IsRekeyedEntry (new : ℕ × ℕ → ℕ) (p q : Parts) (e f : EntryA
 
 -- The entries correspond one to one, in order, each pair as in IsRekeyedEntry.
 abbrev pub AreRekeyedEntries : (ℕ × ℕ → ℕ) → Parts → Parts → List EntryAt → List EntryAt → Type 0
-AreRekeyedEntries new p q [] [] = ⊤
-AreRekeyedEntries new p q (e ∷ es) (f ∷ fs) = IsRekeyedEntry new p q e f × AreRekeyedEntries new p q es fs
-AreRekeyedEntries new p q [] (f ∷ fs) = ⊥
-AreRekeyedEntries new p q (e ∷ es) [] = ⊥
+AreRekeyedEntries new p q = OneToOne (IsRekeyedEntry new p q)
 
 -- The output of a chunk with new keys if these events are kept: it is whole, accepted, and no longer than the
 -- chunk or than its output without new keys. Its classes are those of the output without new keys, its entries

@@ -1,21 +1,21 @@
 -- Which keys are used, their new keys, and the output of a chunk with them.
-use Rattle.std.specs.Prelude.{ℕ, ◌+◌, ◌-◌, Bool, false, not, ◌&&◌, ◌||◌, ◌==◌, List, [], ◌∷◌, ◌++◌, length, map, filter, find, Option, Some, None, slice_range, if◌then◌else◌}
-use Rattle.std.specs.List.{list_any, flat_map}
+use Rattle.std.specs.Prelude.{ℕ, Bool, false, not, ◌&&◌, ◌||◌, ◌==◌, List, [], ◌∷◌, ◌++◌, map, filter, Option, Some, None, if◌then◌else◌}
+use Rattle.std.specs.List.{list_any}
 use Rattle.std.specs.Str.{bytes_eq}
-use Rattle.jfr_base.specs.Integer.{spell}
 use Rattle.jfr_frame.specs.declared.framed.Framed.{Framed}
-use Rattle.jfr_frame.specs.Records.{record_bytes, record_end}
 use Rattle.jfr_value.specs.Nodes.{node_bytes}
 use Rattle.jfr_pool.specs.declared.link.Link.{Link}
 use Rattle.jfr_pool.specs.declared.entry.EntryAt.{EntryAt}
 use Rattle.jfr_pool.specs.Entries.{in_force, entry_node}
-use Rattle.jfr_chunk.specs.Parts.{Parts, EventAt, metadata_at}
+use Rattle.jfr_chunk.specs.Parts.{Parts, EventAt}
 use Rattle.jfr_chunk.specs.Reach.{all_targets, nodes_of, remain}
-use Rattle.jfr_chunk.specs.Written.{Group, distance, sized}
+use Rattle.jfr_chunk.specs.Written.{Group}
 use Rattle.jfr_chunk.specs.Metas.{Names, new_metadata}
-use Rattle.jfr_chunk.specs.Scrub.{OutputRecord, Whole, Chained, Rebuilt, Written, groups_of, header_with, last_at, moved, older_after, output_records}
+use Rattle.jfr_chunk.specs.Scrub.{OutputRecord, output_records}
+use Rattle.jfr_rewrite.specs.Rewrite as rewrite
+use Rattle.jfr_rewrite.specs.Rewrite.{Rewrite, old_width}
 use Rattle.jfr_renumber.specs.Keys.{group_number}
-use Rattle.jfr_renumber.specs.Rekeyed.{rekeyed_bytes}
+use Rattle.jfr_renumber.specs.Rekeyed.{rekeying}
 
 -- The used keys, computed: those that kept events and remaining entries refer to.
 unfoldable pub used_keys : Parts → List EventAt → List (ℕ × ℕ)
@@ -57,58 +57,36 @@ firsts_of p es = firsts_with (λ e f. together p (pair_of e) (pair_of f)) es
 unfoldable pub firsts : Parts → List EventAt → List EntryAt
 firsts p kept = firsts_of p (remain p kept)
 
--- What follows the size of a kept event: its type unchanged, its fields with new keys, and the bytes after them
--- unchanged.
-abbrev pub event_tail : (ℕ × ℕ → ℕ) → Parts → EventAt → List ℕ
-event_tail new p e =
-    slice_range p.bytes e.record_of.type_at e.record_of.body ++ (rekeyed_bytes new p.classes p.bytes e.node ++ slice_range p.bytes e.node.end (record_end e.record_of))
+-- How a chunk is rewritten with these keys: references and entries get their new keys, and sizes keep their widths.
+abbrev pub with_keys : (ℕ × ℕ → ℕ) → Option (List ℕ) → Rewrite
+with_keys new metadata = record { change = rekeying new; key = new; width = old_width; metadata = metadata }
 
--- The event, with its new size spelled in the same number of bytes as before.
+-- The bytes of a kept event.
 abbrev pub event_bytes : (ℕ × ℕ → ℕ) → Parts → EventAt → List ℕ
-event_bytes new p e = sized (e.record_of.type_at - e.record_of.at) (event_tail new p e)
+event_bytes new p e = rewrite.event_bytes (with_keys new None) p e
 
--- An entry's bytes: its new key, and its value with new keys.
+-- The bytes of an entry, of a pool, and what follows the size of a chained checkpoint.
 abbrev pub entry_bytes : (ℕ × ℕ → ℕ) → Parts → EntryAt → List ℕ
-entry_bytes new p e = spell (new (pair_of e)) ++ rekeyed_bytes new p.classes p.bytes (entry_node e)
+entry_bytes new p e = rewrite.entry_bytes (with_keys new None) p e
 
--- A pool: its class and the number of its entries, each in its shortest spelling, then the entries.
 abbrev pub group_bytes : (ℕ × ℕ → ℕ) → Parts → Group → List ℕ
-group_bytes new p g = spell g.class ++ (spell (length g.entries) ++ flat_map (entry_bytes new p) g.entries)
+group_bytes new p g = rewrite.group_bytes (with_keys new None) p g
 
--- What follows the size of a chained checkpoint: type, start and duration unchanged, the delta, the type byte
--- unchanged, the number of pools, and the pools.
 abbrev pub checkpoint_tail : (ℕ × ℕ → ℕ) → Parts → Link → ℕ → List Group → List ℕ
-checkpoint_tail new p l delta gs =
-    slice_range p.bytes l.frame.type_at l.frame.body ++ (slice_range p.bytes l.frame.body l.delta_at ++ (spell delta ++ (slice_range p.bytes l.delta_end (l.delta_end + 1)
-    ++ (spell (length gs) ++ flat_map (group_bytes new p) gs))))
+checkpoint_tail new p l delta gs = rewrite.checkpoint_tail (with_keys new None) p l delta gs
 
 -- The bytes of a record that isn't a chained checkpoint: an event with new keys, or the record unchanged.
 abbrev pub whole_bytes : (ℕ × ℕ → ℕ) → Parts → Framed → Option EventAt → List ℕ
-whole_bytes new p r (Some e) = event_bytes new p e
-whole_bytes new p r None = record_bytes p.bytes r
+whole_bytes new p r e = rewrite.whole_bytes (with_keys new None) p r e
 
 -- The bytes of an output record at this offset in the output, with the older checkpoint at `older`, if there is
 -- one. `entries` are those of the output.
 abbrev pub new_bytes : (ℕ × ℕ → ℕ) → Parts → List EventAt → List EntryAt → OutputRecord → ℕ → Option ℕ → List ℕ
-new_bytes new p kept entries (Whole r) at older = whole_bytes new p r (find (λ e. e.record_of.at == r.at) kept)
-new_bytes new p kept entries (Rebuilt r x) at older = x
-new_bytes new p kept entries (Chained number l) at older = sized (l.frame.type_at - l.frame.at) (checkpoint_tail new p l (distance at older) (groups_of entries number))
-
--- The output records with their offsets, one after another, given the bytes of each.
-abbrev pub written_by : (OutputRecord → ℕ → Option ℕ → List ℕ) → ℕ → Option ℕ → List OutputRecord → List Written
-written_by bytes at older [] = []
-written_by bytes at older (s ∷ ss) = record { output_record = s; at = at; older = older } ∷ written_by bytes (at + length (bytes s at older)) (older_after s at older) ss
-
--- The bytes of an output record at its own offset in the output.
-abbrev pub bytes_by : (OutputRecord → ℕ → Option ℕ → List ℕ) → Written → List ℕ
-bytes_by bytes w = bytes w.output_record w.at w.older
+new_bytes new p kept entries o at older = rewrite.new_bytes (with_keys new None) p kept entries o at older
 
 -- The output chunk with these output records, given the bytes of each.
 abbrev pub assembled_by : Parts → (OutputRecord → ℕ → Option ℕ → List ℕ) → List OutputRecord → List ℕ
-assembled_by p bytes ss =
-    let ws = written_by bytes 68 None ss in
-    let body = flat_map (bytes_by bytes) ws in
-    header_with p.bytes (68 + length body) (last_at None ws) (moved ws (metadata_at p.bytes)) ++ body
+assembled_by p bytes ss = rewrite.assembled_by p bytes ss
 
 -- The output chunk with new keys if these events are kept, given the new metadata record, if there is one.
 unfoldable pub renumber_with : Option (List ℕ) → Parts → List EventAt → List ℕ

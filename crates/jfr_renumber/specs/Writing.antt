@@ -12,8 +12,9 @@ use Rattle.jfr_laws.specs.InChunk.{IsEntryIn, IsLinkIn}
 use Rattle.jfr_output.specs.declared.output_records.OutputRecord as contents
 use Rattle.jfr_output.specs.OutputRecords.{ShowsEvent, ShowsMetadata, output_record_as}
 use Rattle.jfr_output.specs.Positions.{offset_so_far}
+use Rattle.jfr_rewrite.specs.Rewrite.{bytes_by, written_by}
 use Rattle.jfr_renumber.specs.declared.output.Output.{Output}
-use Rattle.jfr_renumber.specs.Renumber.{bytes_by, checkpoint_tail, new_bytes, written_by}
+use Rattle.jfr_renumber.specs.Renumber.{checkpoint_tail, new_bytes}
 
 -- The bytes so far, of which the first 68 are for the header, and the offsets of the newest checkpoint and of
 -- the metadata record, if they have been written.

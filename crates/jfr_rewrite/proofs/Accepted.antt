@@ -51,11 +51,11 @@ use Rattle.jfr_rewrite.proofs.Output.{kept, remaining, sound, bytes, after, widt
 use Rattle.jfr_rewrite.proofs.Events.{NewEvent, events_each}
 
 -- An event is that of its record, which is of an event class.
-record Computed (p : Parts) (e : EventAt) : Type 0 where
-  class : is_event_class p.classes e.record_of.type_id ≡ true
-  is : event_of p.bytes p.classes e.record_of ≡ Some e
+pub record Computed (p : Parts) (e : EventAt) : Type 0 where
+  pub class : is_event_class p.classes e.record_of.type_id ≡ true
+  pub is : event_of p.bytes p.classes e.record_of ≡ Some e
 
-computed : (p : Parts) (e : EventAt) → In (events_of p) e → Computed p e
+pub computed : (p : Parts) (e : EventAt) → In (events_of p) e → Computed p e
 unfolding events_of
 computed p e i =
     let r = in_filter_map (event_of p.bytes p.classes) (event_records p.classes p.records) e i in

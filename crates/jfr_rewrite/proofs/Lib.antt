@@ -1,4 +1,4 @@
-mod Accepted
+pub mod Accepted
 mod Carried
 pub mod ChangeLaws
 mod CheckpointBack
@@ -6,13 +6,14 @@ mod Events
 pub mod InForce
 mod Made
 pub mod MeaningLaws
-mod Output
+pub mod OneToOneLaws
+pub mod Output
 pub mod PathLaws
-mod Pools
+pub mod Pools
 mod RecordBack
 pub mod Remaining
-mod Rewriting
+pub mod Rewriting
 mod Rows
-mod Sizes
+pub mod Sizes
 mod SpelledBack
 mod UsedLaws

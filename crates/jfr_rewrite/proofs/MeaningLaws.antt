@@ -1,7 +1,7 @@
 -- Events with changed fields mean the same, but for the changes, on paths that go no further where Follow stops.
-use Rattle.std.specs.Prelude.{◌≡◌, ℕ, List, [], ◌∷◌, ◌++◌, Option, Some, None}
+use Rattle.std.specs.Prelude.{◌≡◌, ℕ, List, [], ◌++◌, Option, Some, None}
 use Rattle.std.specs.Option.{option_map_or}
-use Rattle.std.proofs.Common.{ap, refl, sym, ◌∙◌, subst, inl, inr}
+use Rattle.std.proofs.Common.{ap, refl, sym, ◌∙◌, subst}
 use Rattle.jfr_base.specs.Formats.{Exactly, Format}
 use Rattle.jfr_base.proofs.OnceLaws.{exact_once}
 use Rattle.jfr_layout.specs.Classes.{Sound, Agree}
@@ -27,6 +27,7 @@ use Rattle.jfr_rewrite.specs.Rewrite.{changed_bytes}
 use Rattle.jfr_rewrite.specs.Rewritten.{OneToOne, HasChangedValue, IsChangedEvent}
 use Rattle.jfr_rewrite.specs.Paths.{MeansChanged, MeetsChanged, Retargets, Stops, leads_but, root}
 use Rattle.jfr_rewrite.proofs.ChangeLaws.{changed_fits, changed_shape}
+use Rattle.jfr_rewrite.proofs.OneToOneLaws.{each_to}
 use Rattle.jfr_rewrite.proofs.PathLaws.{Paired, PairedEntries, paths_paired, paired_leaves}
 
 -- Two values that are read exactly from equal bytes are equal.
@@ -98,12 +99,5 @@ module _ (ch : Change) (key : ℕ × ℕ → ℕ) (stops : Stops) (p q : Parts) 
     paths = λ path. both_to (λ m k r. paired_leaves p q ch sound also stops key targets m k r) (leads_but stops p (root e.node) path) (leads q f.node path) (event_leads e f i j c path);
   }
 
-  each_means : (es fs : List EventAt) → ((e : EventAt) → In es e → In kept e) → ((f : EventAt) → In fs f → In others f) → OneToOne (IsChangedEvent ch p q) es fs
-      → OneToOne (MeansChanged ch stops p q) es fs
-  each_means [] [] i j c = tt
-  each_means [] (f ∷ fs) i j c = absurd c
-  each_means (e ∷ es) [] i j c = absurd c
-  each_means (e ∷ es) (f ∷ fs) i j c = (one_means e f (i e (inl refl)) (j f (inl refl)) c.0, each_means es fs (λ z k. i z (inr k)) (λ z k. j z (inr k)) c.1)
-
   pub means_changed : OneToOne (IsChangedEvent ch p q) kept others → OneToOne (MeansChanged ch stops p q) kept others
-  means_changed c = each_means kept others (λ e i. i) (λ f i. i) c
+  means_changed c = each_to kept others one_means c

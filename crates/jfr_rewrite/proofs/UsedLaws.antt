@@ -1,7 +1,7 @@
 -- The output uses the new keys of what the kept events meet, and its entries are reached.
-use Rattle.std.specs.Prelude.{◌≡◌, ◌↔◌, ℕ, suc, ◌<◌, Bool, List, [], ◌∷◌, length, Option, Some, None}
+use Rattle.std.specs.Prelude.{◌≡◌, ◌↔◌, ℕ, ◌<◌, Bool, List, length, Option, Some, None}
 use Rattle.std.specs.Option.{option_map}
-use Rattle.std.proofs.Common.{ap, refl, sym, ◌∙◌, subst, inl, inr}
+use Rattle.std.proofs.Common.{ap, refl, sym, ◌∙◌, subst}
 use Rattle.jfr_value.specs.Nodes.{NodeAt, Both, target}
 use Rattle.jfr_pool.specs.Entries.{number_in_force}
 use Rattle.jfr_worklist.specs.Members.{In}
@@ -17,29 +17,10 @@ use Rattle.jfr_rewrite.specs.Changed.{Change, KeepsFit}
 use Rattle.jfr_rewrite.specs.Rewrite.{Rewrite}
 use Rattle.jfr_rewrite.specs.Rewritten.{OneToOne, IsChangedEntry, IsChangedEvent}
 use Rattle.jfr_rewrite.specs.Paths.{Held, MarksOnlyMet, Met, MetBy, MeetsChanged, Retargets, Stops, leads_but, root, target_but, with_key}
+use Rattle.jfr_rewrite.proofs.OneToOneLaws.{first, same_count, second}
 use Rattle.jfr_rewrite.proofs.InForce.{changed_force}
 use Rattle.jfr_rewrite.proofs.PathLaws.{Paired, target_paired}
 use Rattle.jfr_rewrite.proofs.MeaningLaws.{event_leads}
-
--- What is beside a member of one list.
-second : {A B : Type 0} (R : A → B → Type 0) (xs : List A) (ys : List B) → OneToOne R xs ys → (a : A) → In xs a → (b : B) × In ys b × R a b
-second R [] ys c a i = absurd i
-second R (x ∷ xs) [] c a i = absurd c
-second R (x ∷ xs) (y ∷ ys) c a (inl h) = (y, inl refl, subst (λ z. R z y) h c.0)
-second R (x ∷ xs) (y ∷ ys) c a (inr i) = let r = second R xs ys c.1 a i in (r.0, inr r.1, r.2)
-
-first : {A B : Type 0} (R : A → B → Type 0) (xs : List A) (ys : List B) → OneToOne R xs ys → (b : B) → In ys b → (a : A) × In xs a × R a b
-first R [] [] c b i = absurd i
-first R [] (y ∷ ys) c b i = absurd c
-first R (x ∷ xs) [] c b i = absurd c
-first R (x ∷ xs) (y ∷ ys) c b (inl h) = (x, inl refl, subst (λ z. R x z) h c.0)
-first R (x ∷ xs) (y ∷ ys) c b (inr i) = let r = first R xs ys c.1 b i in (r.0, inr r.1, r.2)
-
-same_count : {A B : Type 0} (R : A → B → Type 0) (xs : List A) (ys : List B) → OneToOne R xs ys → length xs ≡ length ys
-same_count R [] [] c = refl
-same_count R [] (y ∷ ys) c = absurd c
-same_count R (x ∷ xs) [] c = absurd c
-same_count R (x ∷ xs) (y ∷ ys) c = ap suc (same_count R xs ys c.1)
 
 -- If one is there, so is the other.
 both_some : {A B : Type 0} (R : A → B → Type 0) (x : Option A) (y : Option B) (a : A) → Both R x y → x ≡ Some a → (b : B) × (y ≡ Some b) × R a b

@@ -7,7 +7,8 @@ use Rattle.jfr_value.proofs.LayoutLaws.{layout_there, layouts_at, no_layout}
 use Rattle.jfr_value.proofs.RowLaws.{shapes_get, start_of}
 use Rattle.jfr_renumber.specs.Fields.{rekeyed_first}
 use Rattle.jfr_renumber.specs.Rekeyed.{rekeyed, rekeyed_bytes}
-use Rattle.jfr_renumber.proofs.FieldLaws.{field_at, rekeyed_is}
+use Rattle.jfr_renumber.proofs.FieldLaws.{field_at}
+use Rattle.jfr_renumber.proofs.RekeyedLaws.{node_bytes_are}
 use Rattle.jfr_renumber.proofs.NumberFields.{unwalked}
 use Rattle.jfr_renumber.proofs.PassedLaws.{row_begun}
 use Rattle.jfr_renumber.proofs.fields.pass_fields.Goals as goal
@@ -54,7 +55,7 @@ loop-i-preserved g c = λ vs r.
     let p = c.pass_field.new.passed in
     let old = c.args.out.now.items ++ slice_range x c.args.start.from c.args.start.at in
     let all : c.pass_field.new.out.items ++ slice_range x p.from to ≡ old ++ rekeyed_first new vs (i + 1) =
-    written.1 ∙ (ap (λ z. z ++ rekeyed_bytes new k x (node_at s c.loop-i.passed.at to)) a.3 ∙ (ap (λ z. (old ++ rekeyed_first new vs i) ++ z) (rekeyed_is new k x (node_at s c.loop-i.passed.at to) f.value c.requires.sound n)
+    written.1 ∙ (ap (λ z. z ++ rekeyed_bytes new k x (node_at s c.loop-i.passed.at to)) a.3 ∙ (ap (λ z. (old ++ rekeyed_first new vs i) ++ z) (node_bytes_are new k c.requires.sound x (node_at s c.loop-i.passed.at to) f.value n)
     ∙ (append_assoc old (rekeyed_first new vs i) (bytes_of (rekeyed new f.value)) ∙ ap (λ z. old ++ z) (sym f.next)))) in (
       w.0,
       subst (λ z. p.from ≤ z) (sym w.0) written.0,
