@@ -23,7 +23,7 @@ use Rattle.jfr_pool.specs.Entries.{checkpoint_format, number_in_force}
 use Rattle.jfr_chunk.specs.Metas.{rebuilt, stays_in}
 use Rattle.jfr_chunk.specs.Parts.{Parts, events_of}
 use Rattle.jfr_chunk.specs.Refusal.{read_parts}
-use Rattle.jfr_chunk.proofs.Chunks.{header, metadata, metadata_a, event_a, event_b, rings, key_twice, string_ring}
+use Rattle.jfr_chunk.proofs.Chunks.{edited, header, metadata, metadata_a, event_a, event_b, rings, key_twice, string_ring}
 use Rattle.jfr_rewrite.specs.Rewrite.{rewritten}
 use Rattle.jfr_mask.specs.MaskOf.{Masking, dictionary_after, mask_of}
 use Rattle.jfr_mask.specs.Pseudonyms.{is_known}
@@ -83,3 +83,8 @@ last_of_key_is_masked = refl
 ring_has_no_text : becomes all [] (read_parts string_ring) ≡ header 323 307 68 ++ (metadata_a ++ (event_a ++ 144 ∷ 128 ∷ 128 ∷ 128 ∷ 0 ∷ 1 ∷ 0 ∷ 0 ∷ 0 ∷ 0 ∷ 1 ∷ 7 ∷ 1 ∷ 1 ∷ 0 ∷ 0 ∷ []))
 unfolding run int_at string_format meta_format body_format element_format pieces_from described class_flaws classes_of class_of field_of shape_of id_of decimal_number class_faults kind_of read_parts records_of record_at chain_of checkpoint_format class_format value_format is_event_class events_of value_of number_in_force marks_but remain_but rewritten mask_of spell spell_in rebuilt stays_in slim_body slim_root table_of retabled stay_marks slim_in encode glob digits computing
 ring_has_no_text = refl
+
+-- Another text in place of the first one: the output is the same.
+other_text_same_output : becomes all [] (read_parts (edited rings 346 122)) ≡ becomes all [] (read_parts rings)
+unfolding run int_at string_format meta_format body_format element_format pieces_from described class_flaws classes_of class_of field_of shape_of id_of decimal_number class_faults kind_of read_parts records_of record_at chain_of checkpoint_format class_format value_format is_event_class events_of value_of number_in_force marks_but remain_but rewritten mask_of spell spell_in rebuilt stays_in slim_body slim_root table_of retabled stay_marks slim_in encode glob digits computing
+other_text_same_output = refl

@@ -8,21 +8,21 @@ use Rattle.jfr_frame.specs.Records.{record_end}
 use Rattle.jfr_header.specs.declared.header.Header.{Header}
 use Rattle.jfr_header.specs.Headers.{header_bytes}
 use Rattle.jfr_value.specs.declared.leaf.Holder.{Holder}
-use Rattle.jfr_value.specs.Values.{bytes_of}
-use Rattle.jfr_value.specs.Nodes.{NodeAt}
+use Rattle.jfr_value.specs.Values.{Value, bytes_of}
+use Rattle.jfr_value.specs.Nodes.{Both, NodeAt, value_of}
 use Rattle.jfr_pool.specs.declared.link.Link.{Link}
 use Rattle.jfr_pool.specs.declared.entry.EntryAt.{EntryAt}
 use Rattle.jfr_pool.specs.Entries.{entry_node}
 use Rattle.jfr_chunk.specs.Parts.{Parts, EventAt, metadata_at}
 use Rattle.jfr_chunk.specs.Scrub.{OutputRecord, Whole, Chained, Rebuilt, Written, header_with, last_at, moved, older_after, record_of}
 use Rattle.jfr_chunk.specs.Written.{Group, distance, sized}
-use Rattle.jfr_rewrite.specs.Changed.{changed}
+use Rattle.jfr_rewrite.specs.Changed.{Change, changed}
 use Rattle.jfr_rewrite.specs.Rewrite.{Rewrite, bytes_by, changed_bytes, checkpoint_tail, entry_bytes, event_bytes, event_tail, event_there, fewest, group_bytes, new_bytes, resized, rewritten, whole_bytes, written_by}
 use Rattle.jfr_rewrite.specs.Rewritten.{OneToOne}
 use Rattle.jfr_mask.specs.Masked.{masked_texts, masking}
 use Rattle.jfr_mask.specs.MaskOf.{Chosen, Event, Masking, Metadata, Piece, Pools, dictionary_after, entries_left, events_kept, group_texts, is_masked_in, mask_all, mask_of, next_dictionary, node_texts, piece_of, piece_texts, records_out, rewrite_of, whole_piece}
 use Rattle.jfr_mask.specs.Pseudonyms.{shown, with_texts}
-use Rattle.jfr_mask.specs.Secrecy.{IsExchange, AlikeAll, AlikeChunk, AlikeEntry, AlikeEvent, AlikeGroup, AlikeNode, AlikePiece, AlikePools, AlikeRecord}
+use Rattle.jfr_mask.specs.Secrecy.{IsExchange, AlikeAll, AlikeChunk, AlikeEntry, AlikeEvent, AlikeGroup, AlikeNode, AlikePiece, AlikePools, AlikeRecord, AlikeValue}
 use Rattle.jfr_mask.proofs.ExchangeLaws.{all_mapped}
 use Rattle.jfr_mask.proofs.OneToOnes.{flat_map_alike, flat_map_mapped, same_length}
 use Rattle.jfr_mask.proofs.SecrecyLaws.{masked_alike, texts_exchanged}
@@ -76,12 +76,16 @@ module _ (m : Masking) (g : List ℕ → List ℕ) (ex : IsExchange m.known g) (
   same_masked : is_masked_in m q.classes ≡ here
   same_masked = ap (is_masked_in m) (sym alike.classes)
 
+  values_mapped : (x y : Option Value) → Both (AlikeValue here g p q None) x y → option_map_or (masked_texts here m.known q None) y [] ≡ map g (option_map_or (masked_texts here m.known p None) x [])
+  values_mapped None None a = refl
+  values_mapped (Some v) (Some w) a = texts_exchanged m.known g ex here p q None v w a
+  values_mapped None (Some w) a = absurd a
+  values_mapped (Some v) None a = absurd a
+
   node_mapped : (n o : NodeAt) → AlikeNode m g p q n o → node_texts m q o ≡ map g (node_texts m p n)
   node_mapped n o a =
-      ap (λ z. option_map_or (masked_texts (is_masked_in m q.classes) m.known q None) z []) a.there
-      ∙ (ap (λ z. masked_texts z m.known q None a.other) same_masked
-      ∙ (texts_exchanged m.known g ex here p q None a.value a.other a.alike
-      ∙ ap (λ z. map g (option_map_or (masked_texts here m.known p None) z [])) (sym a.here)))
+      let v : Option Value = value_of q.classes q.bytes o in
+      ap (λ z. option_map_or (masked_texts z m.known q None) v []) same_masked ∙ values_mapped (value_of p.classes p.bytes n) v a
 
   group_mapped : (x y : Group) → AlikeGroup m g p q x y → group_texts m q y ≡ map g (group_texts m p x)
   group_mapped x y a =
@@ -120,12 +124,19 @@ module _ (m : Masking) (g : List ℕ → List ℕ) (ex : IsExchange m.known g) (
     abbrev two : Rewrite
     two = rewrite_of m (map g d) q others
 
+    abbrev changed_value : Change → Option Value → List ℕ
+    changed_value ch = λ o. option_map_or (λ v. bytes_of (changed ch None v)) o []
+
+    values_alike : (x y : Option Value) → Both (AlikeValue here g p q None) x y → changed_value (masking here (shown m.known (map g d)) q) y ≡ changed_value one.change x
+    values_alike None None a = refl
+    values_alike (Some v) (Some w) a = ap bytes_of (masked_alike m.known g ex here p q d None v w a)
+    values_alike None (Some w) a = absurd a
+    values_alike (Some v) None a = absurd a
+
     node_alike : (n o : NodeAt) → AlikeNode m g p q n o → changed_bytes two.change q.classes q.bytes o ≡ changed_bytes one.change p.classes p.bytes n
     node_alike n o a =
-        ap (λ z. option_map_or (λ v. bytes_of (changed two.change None v)) z []) a.there
-        ∙ (ap (λ z. bytes_of (changed (masking z (shown m.known (map g d)) q) None a.other)) same_masked
-        ∙ (ap bytes_of (masked_alike m.known g ex here p q d None a.value a.other a.alike)
-        ∙ ap (λ z. option_map_or (λ v. bytes_of (changed one.change None v)) z []) (sym a.here)))
+        let v : Option Value = value_of q.classes q.bytes o in
+        ap (λ z. changed_value (masking z (shown m.known (map g d)) q) v) same_masked ∙ values_alike (value_of p.classes p.bytes n) v a
 
     tail_alike : (e f : EventAt) → AlikeEvent m g p q e f → event_tail two q f ≡ event_tail one p e
     tail_alike e f a =

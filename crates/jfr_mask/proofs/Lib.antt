@@ -3,6 +3,7 @@ mod EqualOutputs
 mod ExchangeLaws
 pub mod FieldLaws
 mod HeadlineLaws
+mod ItselfLaws
 pub mod KnownLaws
 pub mod MapLaws
 mod MaskLaws

@@ -1,11 +1,11 @@
 -- When two chunks, and two recordings, differ only in masked texts.
-use Rattle.std.specs.Prelude.{◌≡◌, ℕ, zero, suc, ◌+◌, ◌==◌, Bool, true, false, List, Option, None, Some, slice_range, ⊤}
+use Rattle.std.specs.Prelude.{◌≡◌, ℕ, zero, suc, ◌+◌, ◌==◌, Bool, true, false, List, Option, None, slice_range, ⊤}
 use Rattle.std.specs.Option.{option_map}
 use Rattle.jfr_frame.specs.Records.{record_end}
 use Rattle.jfr_value.specs.declared.leaf.Holder.{Holder}
 use Rattle.jfr_value.specs.Leaves.{part_holder}
 use Rattle.jfr_value.specs.Values.{Value, Values, Single, Group, Nil, Cons}
-use Rattle.jfr_value.specs.Nodes.{NodeAt, value_of}
+use Rattle.jfr_value.specs.Nodes.{Both, NodeAt, value_of}
 use Rattle.jfr_pool.specs.declared.link.Link.{Link}
 use Rattle.jfr_pool.specs.declared.entry.EntryAt.{EntryAt}
 use Rattle.jfr_pool.specs.Entries.{entry_node}
@@ -50,12 +50,8 @@ abbrev mutual
   AlikeValues masked g p q f (Cons v vs) Nil = ⊥
 
 -- Two nodes that are in no field have such values.
-pub record AlikeNode (m : Masking) (g : List ℕ → List ℕ) (p q : Parts) (n o : NodeAt) : Type 0 where
-  pub value : Value
-  pub other : Value
-  pub here : value_of p.classes p.bytes n ≡ Some value
-  pub there : value_of q.classes q.bytes o ≡ Some other
-  pub alike : AlikeValue (is_masked_in m p.classes) g p q None value other
+abbrev pub AlikeNode : Masking → (List ℕ → List ℕ) → Parts → Parts → NodeAt → NodeAt → Type 0
+AlikeNode m g p q n o = Both (AlikeValue (is_masked_in m p.classes) g p q None) (value_of p.classes p.bytes n) (value_of q.classes q.bytes o)
 
 -- Two events have the same class, spelled the same, such fields, and the same bytes after them.
 pub record AlikeEvent (m : Masking) (g : List ℕ → List ℕ) (p q : Parts) (e f : EventAt) : Type 0 where
