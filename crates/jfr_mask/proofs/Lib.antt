@@ -1,4 +1,5 @@
 mod ChunkRows
+mod DictionaryLaws
 mod EqualOutputs
 mod ExchangeLaws
 pub mod FieldLaws

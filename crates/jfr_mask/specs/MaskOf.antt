@@ -86,9 +86,13 @@ piece_texts m p (Pools l pools) = flat_map (group_texts m p) pools
 abbrev pub records_out : Masking → Parts → List EventAt → List OutputRecord
 records_out m p kept = output_records (new_metadata m.described p kept) p kept
 
--- The dictionary after a chunk, given the one before it: with the texts of its output records, one after another.
+-- The texts of the masked strings of its output records, one after another, without those that are shown as they are.
+abbrev pub chunk_texts : Masking → Parts → List EventAt → List (List ℕ)
+chunk_texts m p kept = flat_map (λ o. piece_texts m p (piece_of p kept (entries_left m p kept) o)) (records_out m p kept)
+
+-- The dictionary after a chunk, given the one before it.
 abbrev pub dictionary_after : Masking → List (List ℕ) → Parts → List EventAt → List (List ℕ)
-dictionary_after m d p kept = with_texts d (flat_map (λ o. piece_texts m p (piece_of p kept (entries_left m p kept) o)) (records_out m p kept))
+dictionary_after m d p kept = with_texts d (chunk_texts m p kept)
 
 -- The masked chunk, if these events are kept, given the dictionary before it. All its texts have their numbers from the
 -- dictionary after it.
@@ -110,3 +114,8 @@ next_dictionary m d c = dictionary_after m d c.parts (events_kept c)
 abbrev pub mask_all : Masking → List (List ℕ) → List Chosen → List (List ℕ)
 mask_all m d [] = []
 mask_all m d (c ∷ cs) = mask_of m d c.parts (events_kept c) ∷ mask_all m (next_dictionary m d c) cs
+
+-- The dictionary after all of them.
+abbrev pub last_dictionary : Masking → List (List ℕ) → List Chosen → List (List ℕ)
+last_dictionary m d [] = d
+last_dictionary m d (c ∷ cs) = last_dictionary m (next_dictionary m d c) cs

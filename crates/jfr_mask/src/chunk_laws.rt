@@ -16,10 +16,10 @@ ghost use Rattle.jfr_chunk.specs.Paths.{text_of};
 ghost use Rattle.jfr_chunk.specs.Reach.{Reached, kept_by};
 ghost use Rattle.jfr_rewrite.specs.Changed.{IsReadChanged, changed};
 ghost use Rattle.jfr_rewrite.specs.Paths.{MarksMet, MarksOnlyMet, Stops};
-ghost use Rattle.jfr_mask.specs.Headline.{AllFit, AllMasked, AllReached, IsAccepted, IsMasked, MeansTheSame};
-ghost use Rattle.jfr_mask.specs.MaskOf.{Chosen, Masking, dictionary_after, mask_all, mask_of};
+ghost use Rattle.jfr_mask.specs.Headline.{AllFit, AllMasked, AllNumbered, AllReached, IsAccepted, IsMasked, MeansTheSame};
+ghost use Rattle.jfr_mask.specs.MaskOf.{Chosen, Masking, dictionary_after, last_dictionary, mask_all, mask_of};
 ghost use Rattle.jfr_mask.specs.Masked.{masking, own_text, string_bytes, string_text};
-ghost use Rattle.jfr_mask.specs.Pseudonyms.{shown};
+ghost use Rattle.jfr_mask.specs.Pseudonyms.{IsDictionary, shown};
 ghost use Rattle.jfr_mask.specs.ReachBut.{marks_but};
 ghost use Rattle.jfr_mask.specs.Secrecy.{AlikeAll, AlikeChunk, AlikeValue, IsExchange};
 
@@ -67,6 +67,15 @@ pub fn masked_chunks_mean_the_same()
 {
     paths_lead_to_changed_leaves();
 }
+
+/// One dictionary has all masked texts of a recording, the one after its last chunk: each text has its number there in the
+/// chunk's own dictionary, too. So, by the law `pseudonyms_are_distinct`, texts have equal pseudonyms in a recording
+/// exactly if they are equal.
+#[tactic(auto, using(crate::proofs::DictionaryLaws::all_numbered, crate::proofs::DictionaryLaws::is_dictionary))]
+pub fn numbers_hold_in_all_chunks()
+    ensures distinct { (m : Masking) (cs : List Chosen) → IsDictionary (last_dictionary m [] cs) }
+    ensures same { (m : Masking) (cs : List Chosen) → AllNumbered m (last_dictionary m [] cs) [] cs }
+{}
 
 /// Values that differ only in masked texts are equal when each is masked with its dictionary, if the texts of the second
 /// dictionary are the exchanged ones (`value`). So are whole chunks, byte for byte (`chunk`), and the dictionaries after

@@ -24,6 +24,7 @@
 //! | `what_remains_is_reached` | which entries a masked chunk has |
 //! | `masked_chunks_are_accepted`, `masked_chunks_mean_the_same` | a masked chunk is accepted; its paths lead to the same, except for masked strings |
 //! | `outputs_are_masked` | both, for a chunk and for each chunk of a recording |
+//! | `numbers_hold_in_all_chunks` | a text has one pseudonym in all chunks |
 //! | `masks_keep_secrets`, `equal_outputs` | chunks, and recordings, that differ only in masked texts have equal outputs |
 //!
 //! Read `specs/Pseudonyms.antt` first, for what is shown, and then `specs/Fields.antt`, for which fields are masked.
@@ -40,7 +41,7 @@ mod shown;
 
 pub use chunk_laws::{
     equal_outputs, masked_chunks_are_accepted, masked_chunks_mean_the_same, masked_values_are_read,
-    masks_keep_secrets, outputs_are_masked, what_remains_is_reached,
+    masks_keep_secrets, numbers_hold_in_all_chunks, outputs_are_masked, what_remains_is_reached,
 };
 pub use dictionary::Dictionary;
 pub use fields::MaskedFields;
