@@ -32,9 +32,11 @@ module _ (m : Masking) where
   pub all_numbered : (cs : List Chosen) (d : List (List ℕ)) → AllNumbered m (last_dictionary m d cs) d cs
   all_numbered [] d = tt
   all_numbered (c ∷ cs) d =
-      let e : List (List ℕ) = next_dictionary m d c in
-      (all_so (λ t. has_text e t ≡ true) (λ t. (has_text (last_dictionary m e cs) t ≡ true) × (number_of e t ≡ number_of (last_dictionary m e cs) t)) (λ t h. (has_last cs e t h, number_last cs e t h))
-      (chunk_texts m c.parts (events_kept c)) (after d c).there, all_numbered cs e)
+      let e : List (List ℕ) = next_dictionary m d c in (
+        all_so (λ t. has_text e t ≡ true) (λ t. (has_text (last_dictionary m e cs) t ≡ true) × (number_of e t ≡ number_of (last_dictionary m e cs) t)) (λ t h. (has_last cs e t h, number_last cs e t h))
+            (chunk_texts m c.parts (events_kept c)) (after d c).there,
+        all_numbered cs e,
+      )
 
   pub is_dictionary : (cs : List Chosen) → IsDictionary (last_dictionary m [] cs)
   is_dictionary cs = distinct_last cs [] distinct_nil
