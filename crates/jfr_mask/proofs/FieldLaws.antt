@@ -1,5 +1,5 @@
 -- The full names of fields, and flags by their numbers.
-use Rattle.std.specs.Prelude.{◌≡◌, ℕ, zero, suc, ◌+◌, ◌&&◌, ◌||◌, Bool, true, false, List, [], ◌∷◌, ◌++◌, map, take, get_or, slice_get, Some, IsUtf8}
+use Rattle.std.specs.Prelude.{◌≡◌, ℕ, zero, suc, ◌+◌, ◌||◌, Bool, true, false, List, [], ◌∷◌, ◌++◌, map, take, get_or, slice_get, Some, IsUtf8}
 use Rattle.std.specs.List.{list_any}
 use Rattle.std.specs.Str.{chars}
 use Rattle.std.proofs.Common.{ap, append_assoc, refl, ◌∙◌}
@@ -31,16 +31,3 @@ any_taken f xs i x e = ap (list_any f) (take_next xs i x e) ∙ (list_any-append
     or_false : (b : Bool) → (b || false) ≡ b
     or_false true = refl
     or_false false = refl
-
-pub and_true : (a b : Bool) → a ≡ true → b ≡ true → (a && b) ≡ true
-and_true true true e f = refl
-and_true true false e f = f
-and_true false b e f = e
-
-pub and_second : (a b : Bool) → b ≡ false → (a && b) ≡ false
-and_second true b e = e
-and_second false b e = refl
-
-pub and_first : (a b : Bool) → a ≡ false → (a && b) ≡ false
-and_first true b e = let z : true ≡ false = e in cc
-and_first false b e = refl

@@ -11,8 +11,8 @@ use Rattle.jfr_chunk.specs.Parts.{EventAt, Parts}
 use Rattle.jfr_chunk.specs.Written as chunk_written
 use Rattle.jfr_rewrite.specs.Rewritten.{OneToOne}
 use Rattle.jfr_mask.specs.Masked.{is_masked_string, string_text}
-use Rattle.jfr_mask.specs.MaskOf.{Event, Masking, Metadata, Piece, Pools, entries_left, is_masked_in, piece_of, records_out}
-use Rattle.jfr_mask.specs.Secrecy.{AlikeChunk, AlikeEntry, AlikeGroup, AlikeNode, AlikePiece, AlikeRecord, AlikeSingle, AlikeValue, AlikeValues, IsExchange}
+use Rattle.jfr_mask.specs.MaskOf.{Event, Masking, Metadata, Origin, Pools, entries_left, is_masked_in, origin_of, records_out}
+use Rattle.jfr_mask.specs.Secrecy.{AlikeChunk, AlikeEntry, AlikeGroup, AlikeNode, AlikeOrigin, AlikeRecord, AlikeSingle, AlikeValue, AlikeValues, IsExchange}
 
 pub no_exchange : (known : List ℕ → Bool) → IsExchange known (λ t. t)
 no_exchange known = record { one = λ t u e. e; same = λ t e. refl; others = λ t. refl; descriptor = λ t. refl }
@@ -50,14 +50,14 @@ module _ (m : Masking) (p : Parts) where
   group_itself : (g : chunk_written.Group) → AlikeGroup m (λ t. t) p p g g
   group_itself g = record { class = refl; entries = each_itself (AlikeEntry m (λ t. t) p p) (λ e. record { key = refl; value = node_itself (entry_node e) }) g.entries }
 
-  piece_itself : (x : Piece) → AlikePiece m (λ t. t) p p x x
-  piece_itself (Event e) = record { class = refl; type = refl; fields = node_itself e.node; rest = refl }
-  piece_itself (Metadata bytes) = refl
-  piece_itself (Pools l pools) = record { type_id = refl; type = refl; times = refl; type_byte = refl; pools = each_itself (AlikeGroup m (λ t. t) p p) group_itself pools }
+  origin_itself : (x : Origin) → AlikeOrigin m (λ t. t) p p x x
+  origin_itself (Event e) = record { class = refl; type = refl; fields = node_itself e.node; rest = refl }
+  origin_itself (Metadata bytes) = refl
+  origin_itself (Pools l pools) = record { type_id = refl; type = refl; times = refl; type_byte = refl; pools = each_itself (AlikeGroup m (λ t. t) p p) group_itself pools }
 
   pub chunk_itself : (kept : List EventAt) → AlikeChunk m (λ t. t) p p kept kept
   chunk_itself kept = record {
     classes = refl;
     header = refl;
-    records = each_itself (AlikeRecord m (λ t. t) p p kept kept) (λ o. record { piece = piece_itself (piece_of p kept (entries_left m p kept) o); position = refl }) (records_out m p kept);
+    records = each_itself (AlikeRecord m (λ t. t) p p kept kept) (λ o. record { origin = origin_itself (origin_of p kept (entries_left m p kept) o); position = refl }) (records_out m p kept);
   }

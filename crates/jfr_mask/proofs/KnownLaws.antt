@@ -34,7 +34,8 @@ flip : (a b : List ℕ) → bytes_eq a b ≡ bytes_eq b a
 flip = nat_list_eq_equiv.symm
 
 -- A set has a text, by its bytes or by its characters.
-pub has_by_bytes : (keys : List (String Global)) (bytes : List ℕ) → IsUtf8 bytes → list_any (is_at (λ k. slice_cmp nat_cmp bytes (string_bytes k))) keys ≡ has_text (map (λ k. chars (string_bytes k)) keys) (chars bytes)
+pub has_by_bytes : (keys : List (String Global)) (bytes : List ℕ) → IsUtf8 bytes
+    → list_any (is_at (λ k. slice_cmp nat_cmp bytes (string_bytes k))) keys ≡ has_text (map (λ k. chars (string_bytes k)) keys) (chars bytes)
 has_by_bytes [] bytes u = refl
 has_by_bytes (k ∷ ks) bytes u =
     let one : is_eq (slice_cmp nat_cmp bytes (string_bytes k)) ≡ bytes_eq (chars (string_bytes k)) (chars bytes) =

@@ -35,7 +35,8 @@ number_updated m n key v u bytes = by_eq (bytes_eq (rc_str_bytes key) bytes) ref
   where
     by_eq : (b : Bool) → bytes_eq (rc_str_bytes key) bytes ≡ b → number_under n bytes ≡ cond b (Some v) (number_under m bytes)
     by_eq true e = subst (λ z. number_under n z ≡ Some v) (eq_is (rc_str_bytes key) bytes e) u.1
-    by_eq false e = u.3 (is_at (λ k. slice_cmp nat_cmp bytes (rc_str_bytes k))) (λ x y. (eq_by_cmp_equiv nat_list_cmp_total).congr bytes (rc_str_bytes x) (rc_str_bytes y)) (λ k. apart (rc_str_bytes key) bytes (rc_str_bytes k) e)
+    by_eq false e = u.3 (is_at (λ k. slice_cmp nat_cmp bytes (rc_str_bytes k)))
+        (λ x y. (eq_by_cmp_equiv nat_list_cmp_total).congr bytes (rc_str_bytes x) (rc_str_bytes y)) (λ k. apart (rc_str_bytes key) bytes (rc_str_bytes k) e)
 
 -- Texts with different bytes have different characters.
 pub chars_apart : (a b : List ℕ) → IsUtf8 a → IsUtf8 b → bytes_eq (chars a) (chars b) ≡ bytes_eq a b
@@ -59,7 +60,8 @@ numbers_added d m n key text v old absent is utf8 next u = record {
   each = λ bytes b. number_updated m n key v u bytes ∙ (ap (λ z. cond (bytes_eq z bytes) (Some v) (number_under m bytes)) is ∙ by_eq bytes b (bytes_eq text bytes) refl);
 }
   where
-    by_old : (bytes : List ℕ) (b : Bool) → has_text d (chars bytes) ≡ b → (if b then Some (number_of d (chars bytes)) else None) ≡ (if b then Some (number_of (d ++ chars text ∷ []) (chars bytes)) else None)
+    by_old : (bytes : List ℕ) (b : Bool) → has_text d (chars bytes) ≡ b
+        → (if b then Some (number_of d (chars bytes)) else None) ≡ (if b then Some (number_of (d ++ chars text ∷ []) (chars bytes)) else None)
     by_old bytes true h = ap Some (sym (number_old d (chars text) (chars bytes) h))
     by_old bytes false h = refl
 
@@ -81,5 +83,6 @@ pub length-texts_in : (texts : List (RcStr Global)) → length (texts_in texts) 
 length-texts_in texts = length-map texts (λ t. chars (rc_str_bytes t))
 
 -- The text with an index.
-pub text_got : (texts : List (RcStr Global)) (d : List (List ℕ)) (i : ℕ) (got : Option (RcStr Global)) → texts_in texts ≡ d → got ≡ slice_get texts i → option_map (λ t. chars (rc_str_bytes t)) got ≡ slice_get d i
+pub text_got : (texts : List (RcStr Global)) (d : List (List ℕ)) (i : ℕ) (got : Option (RcStr Global))
+    → texts_in texts ≡ d → got ≡ slice_get texts i → option_map (λ t. chars (rc_str_bytes t)) got ≡ slice_get d i
 text_got texts d i got view is = ap (option_map (λ t. chars (rc_str_bytes t))) is ∙ (sym (slice_get-map (λ t. chars (rc_str_bytes t)) texts i) ∙ ap (λ z. slice_get z i) view)

@@ -23,7 +23,8 @@ at_index : (d : List (List ℕ)) (t : List ℕ) → has_text d t ≡ true → sl
 at_index [] t h = cc
 at_index (u ∷ us) t h = by_eq (bytes_eq u t) refl h (at_index us t)
   where
-    by_eq : (b : Bool) → bytes_eq u t ≡ b → (b || has_text us t) ≡ true → (has_text us t ≡ true → slice_get us (index_of us t) ≡ Some t) → slice_get (u ∷ us) (cond (not b) (1 + index_of us t) 0) ≡ Some t
+    by_eq : (b : Bool) → bytes_eq u t ≡ b → (b || has_text us t) ≡ true → (has_text us t ≡ true → slice_get us (index_of us t) ≡ Some t)
+        → slice_get (u ∷ us) (cond (not b) (1 + index_of us t) 0) ≡ Some t
     by_eq true e h rest = ap Some (eq_is u t e)
     by_eq false e h rest = let s : 1 + index_of us t ≡ suc (index_of us t) = omega arith in rw s (rest h)
 
@@ -126,14 +127,7 @@ index_absent (u ∷ us) t h = by_eq (bytes_eq u t) h (index_absent us t)
 pub number_absent : (d : List (List ℕ)) (t : List ℕ) → has_text d t ≡ false → number_of d t ≡ length d + 1
 number_absent d t h = ap (λ n. n + 1) (index_absent d t h)
 
--- The number that a look-up gives.
-pub number_found : (d : List (List ℕ)) (t : List ℕ) (n : ℕ) → Some n ≡ (if has_text d t then Some (number_of d t) else None) → n ≡ number_of d t
-number_found d t n e = by_there (has_text d t) e
-  where
-    by_there : (b : Bool) → Some n ≡ (if b then Some (number_of d t) else None) → n ≡ number_of d t
-    by_there true e = cc
-    by_there false e = cc
-
+-- A look-up without a result.
 pub absent_found : (d : List (List ℕ)) (t : List ℕ) → None ≡ (if has_text d t then Some (number_of d t) else None) → has_text d t ≡ false
 absent_found d t e = by_there (has_text d t) e
   where

@@ -97,7 +97,8 @@ pseudonym_bytes false n h = encodes-append (codes "masked-") (decimal n) ∙ ap 
 pub text_shown : (known : List ℕ → Bool) (d : List (List ℕ)) (text : List ℕ) → IsUtf8 text → stays known (chars text) ≡ true → text ≡ encode_utf8_all (shown known d (chars text))
 text_shown known d text u h = sym (encodes-chars text u) ∙ ap (λ b. encode_utf8_all (if b then chars text else pseudonym (is_descriptor (chars text)) (number_of d (chars text)))) (sym h)
 
-pub pseudonym_shown : (known : List ℕ → Bool) (d : List (List ℕ)) (t : List ℕ) (a : Bool) (n : ℕ) → n < 2 ^ 64 → a ≡ is_descriptor t → n ≡ number_of d t → stays known t ≡ false → pseudonym a n ≡ encode_utf8_all (shown known d t)
+pub pseudonym_shown : (known : List ℕ → Bool) (d : List (List ℕ)) (t : List ℕ) (a : Bool) (n : ℕ)
+    → n < 2 ^ 64 → a ≡ is_descriptor t → n ≡ number_of d t → stays known t ≡ false → pseudonym a n ≡ encode_utf8_all (shown known d t)
 pseudonym_shown known d t a n small is e h =
     sym (pseudonym_bytes a n small)
     ∙ (ap (λ z. encode_utf8_all (pseudonym z n)) is ∙ (ap (λ z. encode_utf8_all (pseudonym (is_descriptor t) z)) e

@@ -15,7 +15,8 @@ returns-clause-numbers c =
     let added : texts_in c.push.new.self.items ≡ texts_in old ++ chars c.args.text.now ∷ [] = texts_added old c.push.new.self.items c.in_ok-shared.shared c.args.text.now (search rules) shared in
     let next : c.len.result + 1 ≡ length (texts_in old) + 1 = ap (λ n. n + 1) (search rules ∙ sym (length-texts_in old)) in
     subst (λ z. AreNumbersOf z c.insert.new.self) (sym added)
-    (numbers_added (texts_in old) c.args.numbers.now c.insert.new.self c.in_ok-key.key c.args.text.now (c.len.result + 1) c.requires.numbers c.requires.absent key c.utf8.text next c.in_default.ensures.updates)
+    (numbers_added (texts_in old) c.args.numbers.now c.insert.new.self c.in_ok-key.key c.args.text.now (c.len.result + 1)
+    c.requires.numbers c.requires.absent key c.utf8.text next c.in_default.ensures.updates)
 
 pub returns-clause-number : goal.returns-clause-number
 returns-clause-number c =

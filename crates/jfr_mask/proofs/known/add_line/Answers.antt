@@ -10,8 +10,10 @@ use Rattle.jfr_mask.proofs.known.add_line.Goals as goal
 
 pub returns-then-is_like_pseudonym : goal.returns-then-is_like_pseudonym
 returns-then-is_like_pseudonym c =
-    let text : chars (string_bytes c.in_ok-text.text) ≡ lossy_chars c.args.line.now = lossy_text (string_bytes c.in_ok-text.text) c.args.line.now (IsUtf8-string_bytes c.in_ok-text.text) c.in_ok-text.ensures.lossy in
-    let begins : is_like_pseudonym (lossy_chars c.args.line.now) ≡ true = ap is_like_pseudonym (sym text) ∙ (ap (λ z. is_like_pseudonym (chars z)) (sym c.as_str.ensures.value) ∙ (sym c.is_like_pseudonym.ensures ∙ c.if-is_like_pseudonym.true)) in
+    let text : chars (string_bytes c.in_ok-text.text) ≡ lossy_chars c.args.line.now =
+    lossy_text (string_bytes c.in_ok-text.text) c.args.line.now (IsUtf8-string_bytes c.in_ok-text.text) c.in_ok-text.ensures.lossy in
+    let begins : is_like_pseudonym (lossy_chars c.args.line.now) ≡ true =
+    ap is_like_pseudonym (sym text) ∙ (ap (λ z. is_like_pseudonym (chars z)) (sym c.as_str.ensures.value) ∙ (sym c.is_like_pseudonym.ensures ∙ c.if-is_like_pseudonym.true)) in
     record {
       ok = λ t.
           let had = has_text (texts_of c.args.texts.now) t in
@@ -20,8 +22,10 @@ returns-then-is_like_pseudonym c =
 
 pub returns : goal.returns
 returns c =
-    let text : chars (string_bytes c.in_ok-text.text) ≡ lossy_chars c.args.line.now = lossy_text (string_bytes c.in_ok-text.text) c.args.line.now (IsUtf8-string_bytes c.in_ok-text.text) c.in_ok-text.ensures.lossy in
-    let begins : is_like_pseudonym (lossy_chars c.args.line.now) ≡ false = ap is_like_pseudonym (sym text) ∙ (ap (λ z. is_like_pseudonym (chars z)) (sym c.as_str.ensures.value) ∙ (sym c.is_like_pseudonym.ensures ∙ c.if-is_like_pseudonym.false)) in
+    let text : chars (string_bytes c.in_ok-text.text) ≡ lossy_chars c.args.line.now =
+    lossy_text (string_bytes c.in_ok-text.text) c.args.line.now (IsUtf8-string_bytes c.in_ok-text.text) c.in_ok-text.ensures.lossy in
+    let begins : is_like_pseudonym (lossy_chars c.args.line.now) ≡ false =
+    ap is_like_pseudonym (sym text) ∙ (ap (λ z. is_like_pseudonym (chars z)) (sym c.as_str.ensures.value) ∙ (sym c.is_like_pseudonym.ensures ∙ c.if-is_like_pseudonym.false)) in
     record {
       ok = λ t.
           let had = has_text (texts_of c.args.texts.now) t in

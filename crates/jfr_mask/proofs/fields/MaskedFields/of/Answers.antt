@@ -20,6 +20,7 @@ loop-index-preserved c =
           ∙ (ap (λ z. map masks (take c.loop-index.index k) ++ z ∷ []) c.in_ok-masked.ensures.ok
           ∙ sym (map_next masks k c.loop-index.index class c.class_at-class.ensures)))),
       ap (λ b. b || c.has_constant-constants.result) c.loop-index.invariant.1
-          ∙ (ap (λ b. list_any constants (take c.loop-index.index k) || b) (c.has_constant-constants.ensures (is_masked c.args.strings.now c.args.except.now k class) (c.deref.ensures.value ∙ c.in_ok-masked.ensures.ok))
+          ∙ (ap (λ b. list_any constants (take c.loop-index.index k) || b)
+          (c.has_constant-constants.ensures (is_masked c.args.strings.now c.args.except.now k class) (c.deref.ensures.value ∙ c.in_ok-masked.ensures.ok))
           ∙ sym (any_taken constants k c.loop-index.index class c.class_at-class.ensures)),
     )

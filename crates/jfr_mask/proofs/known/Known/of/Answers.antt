@@ -25,7 +25,8 @@ returns c =
     let bytes = c.args.bytes.now in
     let from = c.into_iter-line-iterator.ensures.into_iter_gives in
     let split = c.split-line-items.ensures in
-    let all = YieldsList-end (YieldsList-from_slice_split _ (λ b. b == 10) bytes (ap slice.split_rest from ∙ split.rest) (ap slice.split_done from ∙ split.done) (ap slice.split_callee from ∙ split.closure) (λ x r q k. search (rules, tests)))
+    let all = YieldsList-end (YieldsList-from_slice_split _ (λ b. b == 10) bytes (ap slice.split_rest from ∙ split.rest)
+    (ap slice.split_done from ∙ split.done) (ap slice.split_callee from ∙ split.closure) (λ x r q k. search (rules, tests)))
     c.loop-line.yielded _ c.loop-line.yielded_by _ _ c.in-None.is c.next.ensures.steps in
     record {
       ok = λ t. c.loop-line.invariant t ∙ ap (λ z. is_known z t) (map_now c.loop-line.yielded ∙ ap (map lossy_chars) all.0);

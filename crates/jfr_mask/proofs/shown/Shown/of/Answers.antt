@@ -9,5 +9,6 @@ returns-then-stays c = text_shown (has_text c.args.known.now) c.args.dictionary.
 
 pub returns : goal.returns
 returns c =
-    pseudonym_shown (has_text c.args.known.now) c.args.dictionary.now (chars c.args.text.now) c.is_descriptor.result c.number_or_next.result (omega arith) c.is_descriptor.ensures c.number_or_next.ensures
+    pseudonym_shown (has_text c.args.known.now) c.args.dictionary.now (chars c.args.text.now) c.is_descriptor.result c.number_or_next.result (omega arith)
+    c.is_descriptor.ensures c.number_or_next.ensures
     (sym c.stays.ensures ∙ c.if-stays.false)
