@@ -1,9 +1,9 @@
-pub mod Lines
-pub mod Orders
-pub mod Leaving
-pub mod Counting
+mod Lines
+mod Orders
+mod Leaving
+mod Counting
 mod Rows
-pub mod Sampling
-pub mod Checking
-pub mod Building
-pub mod Clauses
+mod Sampling
+mod Checking
+mod Building
+mod Clauses

@@ -23,7 +23,7 @@ use Rattle.jfr_pool.specs.Entries.{checkpoint_format, number_in_force}
 use Rattle.jfr_chunk.specs.Metas.{rebuilt, stays_in}
 use Rattle.jfr_chunk.specs.Parts.{Parts, events_of}
 use Rattle.jfr_chunk.specs.Refusal.{read_parts}
-use Rattle.jfr_chunk.proofs.Chunks.{header, metadata, metadata_a, event_a, event_b, rings, key_twice, string_ring}
+use Rattle.jfr_chunk.proofs.Chunks.{edited, header, metadata, metadata_a, event_a, event_b, rings, key_twice, string_ring}
 use Rattle.jfr_rewrite.specs.Rewrite.{rewritten}
 use Rattle.jfr_mask.specs.MaskOf.{Masking, dictionary_after, mask_of}
 use Rattle.jfr_mask.specs.Pseudonyms.{is_known}
@@ -50,23 +50,28 @@ after m d (Err flaw) = []
 abbrev masked : ℕ → List ℕ
 masked digit = 3 ∷ 8 ∷ (codes "masked-" ++ digit ∷ [])
 
+-- The output of `rings` with this size, this first byte of the checkpoint's size, and these strings of the nodes.
+abbrev rings_with : ℕ → ℕ → List ℕ → List ℕ → List ℕ → List ℕ → List ℕ
+rings_with size first a b c d =
+    header size 333 68 ++ (metadata ++ (event_a ++ (event_b ++ first ∷ 128 ∷ 128 ∷ 128 ∷ 0 ∷ 1 ∷ 0 ∷ 0 ∷ 0 ∷ 0 ∷ 1 ∷ 7 ∷ 4 ∷ 1 ∷ 2 ∷ (a ++ 2 ∷ 1 ∷ (b ++ 3 ∷ 4 ∷ (c ++ 4 ∷ 3 ∷ d))))))
+
 -- Four texts, numbered in the order of the entries.
-each_is_masked : becomes all [] (read_parts rings) ≡ header 394 333 68 ++ (metadata ++ (event_a ++ (event_b ++ (189 ∷ 128 ∷ 128 ∷ 128 ∷ 0 ∷ 1 ∷ 0 ∷ 0 ∷ 0 ∷ 0 ∷ 1 ∷ 7 ∷ 4 ∷ 1 ∷ 2 ∷ (masked 49 ++ 2 ∷ 1 ∷ (masked 50 ++ 3 ∷ 4 ∷ (masked 51 ++ 4 ∷ 3 ∷ masked 52)))))))
+each_is_masked : becomes all [] (read_parts rings) ≡ rings_with 394 189 (masked 49) (masked 50) (masked 51) (masked 52)
 unfolding run int_at string_format meta_format body_format element_format pieces_from described class_flaws classes_of class_of field_of shape_of id_of decimal_number class_faults kind_of read_parts records_of record_at chain_of checkpoint_format class_format value_format is_event_class events_of value_of number_in_force marks_but remain_but rewritten mask_of spell spell_in rebuilt stays_in slim_body slim_root table_of retabled stay_marks slim_in encode glob digits computing
 each_is_masked = refl
 
 -- One of them is known, a line that begins as a pseudonym isn't.
-known_stays : becomes (masks (codes "t.Node.text" ∷ []) (codes "q" ∷ codes "masked-1" ∷ [])) [] (read_parts rings) ≡ header 387 333 68 ++ (metadata ++ (event_a ++ (event_b ++ (182 ∷ 128 ∷ 128 ∷ 128 ∷ 0 ∷ 1 ∷ 0 ∷ 0 ∷ 0 ∷ 0 ∷ 1 ∷ 7 ∷ 4 ∷ 1 ∷ 2 ∷ (masked 49 ++ 2 ∷ 1 ∷ ((3 ∷ 1 ∷ 113 ∷ []) ++ 3 ∷ 4 ∷ (masked 50 ++ 4 ∷ 3 ∷ masked 51)))))))
+known_stays : becomes (masks (codes "t.Node.text" ∷ []) (codes "q" ∷ codes "masked-1" ∷ [])) [] (read_parts rings) ≡ rings_with 387 182 (masked 49) (3 ∷ 1 ∷ 113 ∷ []) (masked 50) (masked 51)
 unfolding run int_at string_format meta_format body_format element_format pieces_from described class_flaws classes_of class_of field_of shape_of id_of decimal_number class_faults kind_of read_parts records_of record_at chain_of checkpoint_format class_format value_format is_event_class events_of value_of number_in_force marks_but remain_but rewritten mask_of spell spell_in rebuilt stays_in slim_body slim_root table_of retabled stay_marks slim_in encode glob digits computing
 known_stays = refl
 
 -- No field of strings matches, but sizes are five bytes long all the same.
-nothing_is_masked : becomes (masks (codes "t.A.text" ∷ codes "t.Node.next" ∷ []) []) [] (read_parts rings) ≡ header 366 333 68 ++ (metadata ++ (event_a ++ (event_b ++ (161 ∷ 128 ∷ 128 ∷ 128 ∷ 0 ∷ 1 ∷ 0 ∷ 0 ∷ 0 ∷ 0 ∷ 1 ∷ 7 ∷ 4 ∷ 1 ∷ 2 ∷ ((3 ∷ 1 ∷ 112 ∷ []) ++ 2 ∷ 1 ∷ ((3 ∷ 1 ∷ 113 ∷ []) ++ 3 ∷ 4 ∷ ((3 ∷ 1 ∷ 114 ∷ []) ++ 4 ∷ 3 ∷ (3 ∷ 1 ∷ 115 ∷ []))))))))
+nothing_is_masked : becomes (masks (codes "t.A.text" ∷ codes "t.Node.next" ∷ []) []) [] (read_parts rings) ≡ rings_with 366 161 (3 ∷ 1 ∷ 112 ∷ []) (3 ∷ 1 ∷ 113 ∷ []) (3 ∷ 1 ∷ 114 ∷ []) (3 ∷ 1 ∷ 115 ∷ [])
 unfolding run int_at string_format meta_format body_format element_format pieces_from described class_flaws classes_of class_of field_of shape_of id_of decimal_number class_faults kind_of read_parts records_of record_at chain_of checkpoint_format class_format value_format is_event_class events_of value_of number_in_force marks_but remain_but rewritten mask_of spell spell_in rebuilt stays_in slim_body slim_root table_of retabled stay_marks slim_in encode glob digits computing
 nothing_is_masked = refl
 
 -- The dictionary before the chunk has two of the texts.
-dictionary_goes_on : becomes all (codes "s" ∷ codes "q" ∷ []) (read_parts rings) ≡ header 394 333 68 ++ (metadata ++ (event_a ++ (event_b ++ (189 ∷ 128 ∷ 128 ∷ 128 ∷ 0 ∷ 1 ∷ 0 ∷ 0 ∷ 0 ∷ 0 ∷ 1 ∷ 7 ∷ 4 ∷ 1 ∷ 2 ∷ (masked 51 ++ 2 ∷ 1 ∷ (masked 50 ++ 3 ∷ 4 ∷ (masked 52 ++ 4 ∷ 3 ∷ masked 49)))))))
+dictionary_goes_on : becomes all (codes "s" ∷ codes "q" ∷ []) (read_parts rings) ≡ rings_with 394 189 (masked 51) (masked 50) (masked 52) (masked 49)
 unfolding run int_at string_format meta_format body_format element_format pieces_from described class_flaws classes_of class_of field_of shape_of id_of decimal_number class_faults kind_of read_parts records_of record_at chain_of checkpoint_format class_format value_format is_event_class events_of value_of number_in_force marks_but remain_but rewritten mask_of spell spell_in rebuilt stays_in slim_body slim_root table_of retabled stay_marks slim_in encode glob digits computing
 dictionary_goes_on = refl
 
@@ -75,7 +80,8 @@ unfolding run int_at string_format meta_format body_format element_format pieces
 others_are_added = refl
 
 -- The last entry of a key is in force; the checkpoint of the other stays, without pools.
-last_of_key_is_masked : becomes all [] (read_parts key_twice) ≡ header 351 318 68 ++ (metadata_a ++ (139 ∷ 128 ∷ 128 ∷ 128 ∷ 0 ∷ 1 ∷ 0 ∷ 0 ∷ 0 ∷ 0 ∷ 0 ∷ (event_a ++ 161 ∷ 128 ∷ 128 ∷ 128 ∷ 0 ∷ 1 ∷ 0 ∷ 0 ∷ 240 ∷ 255 ∷ 255 ∷ 255 ∷ 255 ∷ 255 ∷ 255 ∷ 255 ∷ 255 ∷ 0 ∷ 1 ∷ 7 ∷ 1 ∷ 1 ∷ 0 ∷ masked 49)))
+last_of_key_is_masked : becomes all [] (read_parts key_twice) ≡ header 351 318 68
+    ++ (metadata_a ++ (139 ∷ 128 ∷ 128 ∷ 128 ∷ 0 ∷ 1 ∷ 0 ∷ 0 ∷ 0 ∷ 0 ∷ 0 ∷ (event_a ++ 161 ∷ 128 ∷ 128 ∷ 128 ∷ 0 ∷ 1 ∷ 0 ∷ 0 ∷ 240 ∷ 255 ∷ 255 ∷ 255 ∷ 255 ∷ 255 ∷ 255 ∷ 255 ∷ 255 ∷ 0 ∷ 1 ∷ 7 ∷ 1 ∷ 1 ∷ 0 ∷ masked 49)))
 unfolding run int_at string_format meta_format body_format element_format pieces_from described class_flaws classes_of class_of field_of shape_of id_of decimal_number class_faults kind_of read_parts records_of record_at chain_of checkpoint_format class_format value_format is_event_class events_of value_of number_in_force marks_but remain_but rewritten mask_of spell spell_in rebuilt stays_in slim_body slim_root table_of retabled stay_marks slim_in encode glob digits computing
 last_of_key_is_masked = refl
 
@@ -83,3 +89,8 @@ last_of_key_is_masked = refl
 ring_has_no_text : becomes all [] (read_parts string_ring) ≡ header 323 307 68 ++ (metadata_a ++ (event_a ++ 144 ∷ 128 ∷ 128 ∷ 128 ∷ 0 ∷ 1 ∷ 0 ∷ 0 ∷ 0 ∷ 0 ∷ 1 ∷ 7 ∷ 1 ∷ 1 ∷ 0 ∷ 0 ∷ []))
 unfolding run int_at string_format meta_format body_format element_format pieces_from described class_flaws classes_of class_of field_of shape_of id_of decimal_number class_faults kind_of read_parts records_of record_at chain_of checkpoint_format class_format value_format is_event_class events_of value_of number_in_force marks_but remain_but rewritten mask_of spell spell_in rebuilt stays_in slim_body slim_root table_of retabled stay_marks slim_in encode glob digits computing
 ring_has_no_text = refl
+
+-- Another text in place of the first one: the output is the same.
+other_text_same_output : becomes all [] (read_parts (edited rings 346 122)) ≡ becomes all [] (read_parts rings)
+unfolding run int_at string_format meta_format body_format element_format pieces_from described class_flaws classes_of class_of field_of shape_of id_of decimal_number class_faults kind_of read_parts records_of record_at chain_of checkpoint_format class_format value_format is_event_class events_of value_of number_in_force marks_but remain_but rewritten mask_of spell spell_in rebuilt stays_in slim_body slim_root table_of retabled stay_marks slim_in encode glob digits computing
+other_text_same_output = refl

@@ -8,21 +8,21 @@ use Rattle.jfr_frame.specs.Records.{record_end}
 use Rattle.jfr_header.specs.declared.header.Header.{Header}
 use Rattle.jfr_header.specs.Headers.{header_bytes}
 use Rattle.jfr_value.specs.declared.leaf.Holder.{Holder}
-use Rattle.jfr_value.specs.Values.{bytes_of}
-use Rattle.jfr_value.specs.Nodes.{NodeAt}
+use Rattle.jfr_value.specs.Values.{Value, bytes_of}
+use Rattle.jfr_value.specs.Nodes.{Both, NodeAt, value_of}
 use Rattle.jfr_pool.specs.declared.link.Link.{Link}
 use Rattle.jfr_pool.specs.declared.entry.EntryAt.{EntryAt}
 use Rattle.jfr_pool.specs.Entries.{entry_node}
 use Rattle.jfr_chunk.specs.Parts.{Parts, EventAt, metadata_at}
 use Rattle.jfr_chunk.specs.Scrub.{OutputRecord, Whole, Chained, Rebuilt, Written, header_with, last_at, moved, older_after, record_of}
 use Rattle.jfr_chunk.specs.Written.{Group, distance, sized}
-use Rattle.jfr_rewrite.specs.Changed.{changed}
+use Rattle.jfr_rewrite.specs.Changed.{Change, changed}
 use Rattle.jfr_rewrite.specs.Rewrite.{Rewrite, bytes_by, changed_bytes, checkpoint_tail, entry_bytes, event_bytes, event_tail, event_there, fewest, group_bytes, new_bytes, resized, rewritten, whole_bytes, written_by}
 use Rattle.jfr_rewrite.specs.Rewritten.{OneToOne}
 use Rattle.jfr_mask.specs.Masked.{masked_texts, masking}
-use Rattle.jfr_mask.specs.MaskOf.{Chosen, Event, Masking, Metadata, Piece, Pools, dictionary_after, entries_left, events_kept, group_texts, is_masked_in, mask_all, mask_of, next_dictionary, node_texts, piece_of, piece_texts, records_out, rewrite_of, whole_piece}
+use Rattle.jfr_mask.specs.MaskOf.{Chosen, Event, Masking, Metadata, Origin, Pools, dictionary_after, entries_left, events_kept, group_texts, is_masked_in, mask_all, mask_of, next_dictionary, node_texts, origin_of, origin_texts, records_out, rewrite_of, whole_origin}
 use Rattle.jfr_mask.specs.Pseudonyms.{shown, with_texts}
-use Rattle.jfr_mask.specs.Secrecy.{IsExchange, AlikeAll, AlikeChunk, AlikeEntry, AlikeEvent, AlikeGroup, AlikeNode, AlikePiece, AlikePools, AlikeRecord}
+use Rattle.jfr_mask.specs.Secrecy.{IsExchange, AlikeAll, AlikeChunk, AlikeEntry, AlikeEvent, AlikeGroup, AlikeNode, AlikeOrigin, AlikePools, AlikeRecord, AlikeValue}
 use Rattle.jfr_mask.proofs.ExchangeLaws.{all_mapped}
 use Rattle.jfr_mask.proofs.OneToOnes.{flat_map_alike, flat_map_mapped, same_length}
 use Rattle.jfr_mask.proofs.SecrecyLaws.{masked_alike, texts_exchanged}
@@ -38,31 +38,31 @@ moved_cons x ws at = by_test ((record_of x.output_record).at == at)
     by_test true = refl
     by_test false = refl
 
--- The bytes of a piece, and the older checkpoint after it.
-abbrev piece_bytes : Rewrite → Parts → Piece → ℕ → Option ℕ → List ℕ
-piece_bytes w p (Event e) at older = event_bytes w p e
-piece_bytes w p (Metadata bytes) at older = bytes
-piece_bytes w p (Pools l pools) at older = resized w l.frame (checkpoint_tail w p l (distance at older) pools)
+-- The bytes of an output record by its origin, and the older checkpoint after it.
+abbrev origin_bytes : Rewrite → Parts → Origin → ℕ → Option ℕ → List ℕ
+origin_bytes w p (Event e) at older = event_bytes w p e
+origin_bytes w p (Metadata bytes) at older = bytes
+origin_bytes w p (Pools l pools) at older = resized w l.frame (checkpoint_tail w p l (distance at older) pools)
 
-abbrev piece_older : Piece → ℕ → Option ℕ → Option ℕ
-piece_older (Event e) at older = older
-piece_older (Metadata bytes) at older = older
-piece_older (Pools l pools) at older = Some at
+abbrev origin_older : Origin → ℕ → Option ℕ → Option ℕ
+origin_older (Event e) at older = older
+origin_older (Metadata bytes) at older = older
+origin_older (Pools l pools) at older = Some at
 
 module _ (w : Rewrite) (p : Parts) (kept : List EventAt) (entries : List EntryAt) where
-  bytes_are : (o : OutputRecord) (at : ℕ) (older : Option ℕ) → new_bytes w p kept entries o at older ≡ piece_bytes w p (piece_of p kept entries o) at older
+  bytes_are : (o : OutputRecord) (at : ℕ) (older : Option ℕ) → new_bytes w p kept entries o at older ≡ origin_bytes w p (origin_of p kept entries o) at older
   bytes_are (Whole r) at older = by_event (event_there kept r)
     where
-      by_event : (o : Option EventAt) → whole_bytes w p r o ≡ piece_bytes w p (whole_piece p r o) at older
+      by_event : (o : Option EventAt) → whole_bytes w p r o ≡ origin_bytes w p (whole_origin p r o) at older
       by_event None = refl
       by_event (Some e) = refl
   bytes_are (Rebuilt r x) at older = refl
   bytes_are (Chained number l) at older = refl
 
-  older_is : (o : OutputRecord) (at : ℕ) (older : Option ℕ) → older_after o at older ≡ piece_older (piece_of p kept entries o) at older
+  older_is : (o : OutputRecord) (at : ℕ) (older : Option ℕ) → older_after o at older ≡ origin_older (origin_of p kept entries o) at older
   older_is (Whole r) at older = by_event (event_there kept r)
     where
-      by_event : (o : Option EventAt) → older ≡ piece_older (whole_piece p r o) at older
+      by_event : (o : Option EventAt) → older ≡ origin_older (whole_origin p r o) at older
       by_event None = refl
       by_event (Some e) = refl
   older_is (Rebuilt r x) at older = refl
@@ -76,41 +76,45 @@ module _ (m : Masking) (g : List ℕ → List ℕ) (ex : IsExchange m.known g) (
   same_masked : is_masked_in m q.classes ≡ here
   same_masked = ap (is_masked_in m) (sym alike.classes)
 
+  values_mapped : (x y : Option Value) → Both (AlikeValue here g p q None) x y → option_map_or (masked_texts here m.known q None) y [] ≡ map g (option_map_or (masked_texts here m.known p None) x [])
+  values_mapped None None a = refl
+  values_mapped (Some v) (Some w) a = texts_exchanged m.known g ex here p q None v w a
+  values_mapped None (Some w) a = absurd a
+  values_mapped (Some v) None a = absurd a
+
   node_mapped : (n o : NodeAt) → AlikeNode m g p q n o → node_texts m q o ≡ map g (node_texts m p n)
   node_mapped n o a =
-      ap (λ z. option_map_or (masked_texts (is_masked_in m q.classes) m.known q None) z []) a.there
-      ∙ (ap (λ z. masked_texts z m.known q None a.other) same_masked
-      ∙ (texts_exchanged m.known g ex here p q None a.value a.other a.alike
-      ∙ ap (λ z. map g (option_map_or (masked_texts here m.known p None) z [])) (sym a.here)))
+      let v : Option Value = value_of q.classes q.bytes o in
+      ap (λ z. option_map_or (masked_texts z m.known q None) v []) same_masked ∙ values_mapped (value_of p.classes p.bytes n) v a
 
   group_mapped : (x y : Group) → AlikeGroup m g p q x y → group_texts m q y ≡ map g (group_texts m p x)
   group_mapped x y a =
       flat_map_mapped (AlikeEntry m g p q) g (λ e. node_texts m p (entry_node e)) (λ e. node_texts m q (entry_node e)) (λ e f b. node_mapped (entry_node e) (entry_node f) b.value) x.entries y.entries a.entries
 
-  piece_mapped : (x y : Piece) → AlikePiece m g p q x y → piece_texts m q y ≡ map g (piece_texts m p x)
-  piece_mapped (Event e) (Event f) a = node_mapped e.node f.node a.fields
-  piece_mapped (Metadata x) (Metadata y) a = refl
-  piece_mapped (Pools l xs) (Pools k ys) a = flat_map_mapped (AlikeGroup m g p q) g (group_texts m p) (group_texts m q) group_mapped xs ys a.pools
-  piece_mapped (Event e) (Metadata y) a = absurd a
-  piece_mapped (Event e) (Pools k ys) a = absurd a
-  piece_mapped (Metadata x) (Event f) a = absurd a
-  piece_mapped (Metadata x) (Pools k ys) a = absurd a
-  piece_mapped (Pools l xs) (Event f) a = absurd a
-  piece_mapped (Pools l xs) (Metadata y) a = absurd a
+  origin_mapped : (x y : Origin) → AlikeOrigin m g p q x y → origin_texts m q y ≡ map g (origin_texts m p x)
+  origin_mapped (Event e) (Event f) a = node_mapped e.node f.node a.fields
+  origin_mapped (Metadata x) (Metadata y) a = refl
+  origin_mapped (Pools l xs) (Pools k ys) a = flat_map_mapped (AlikeGroup m g p q) g (group_texts m p) (group_texts m q) group_mapped xs ys a.pools
+  origin_mapped (Event e) (Metadata y) a = absurd a
+  origin_mapped (Event e) (Pools k ys) a = absurd a
+  origin_mapped (Metadata x) (Event f) a = absurd a
+  origin_mapped (Metadata x) (Pools k ys) a = absurd a
+  origin_mapped (Pools l xs) (Event f) a = absurd a
+  origin_mapped (Pools l xs) (Metadata y) a = absurd a
 
-  abbrev pieces : OutputRecord → Piece
-  pieces = piece_of p kept (entries_left m p kept)
+  abbrev origins : OutputRecord → Origin
+  origins = origin_of p kept (entries_left m p kept)
 
-  abbrev other_pieces : OutputRecord → Piece
-  other_pieces = piece_of q others (entries_left m q others)
+  abbrev other_origins : OutputRecord → Origin
+  other_origins = origin_of q others (entries_left m q others)
 
   -- So the dictionary after the second chunk is the exchanged one.
   pub dictionary_exchanged : (d : List (List ℕ)) → dictionary_after m (map g d) q others ≡ map g (dictionary_after m d p kept)
   dictionary_exchanged d =
       ap (with_texts (map g d))
-      (flat_map_mapped (AlikeRecord m g p q kept others) g (λ o. piece_texts m p (pieces o)) (λ u. piece_texts m q (other_pieces u)) (λ o u a. piece_mapped (pieces o) (other_pieces u) a.piece)
+      (flat_map_mapped (AlikeRecord m g p q kept others) g (λ o. origin_texts m p (origins o)) (λ u. origin_texts m q (other_origins u)) (λ o u a. origin_mapped (origins o) (other_origins u) a.origin)
       (records_out m p kept) (records_out m q others) alike.records)
-      ∙ all_mapped m.known g ex d (flat_map (λ o. piece_texts m p (pieces o)) (records_out m p kept))
+      ∙ all_mapped m.known g ex d (flat_map (λ o. origin_texts m p (origins o)) (records_out m p kept))
 
   -- With it, the same is written.
   module _ (d : List (List ℕ)) where
@@ -120,12 +124,19 @@ module _ (m : Masking) (g : List ℕ → List ℕ) (ex : IsExchange m.known g) (
     abbrev two : Rewrite
     two = rewrite_of m (map g d) q others
 
+    abbrev changed_value : Change → Option Value → List ℕ
+    changed_value ch = λ o. option_map_or (λ v. bytes_of (changed ch None v)) o []
+
+    values_alike : (x y : Option Value) → Both (AlikeValue here g p q None) x y → changed_value (masking here (shown m.known (map g d)) q) y ≡ changed_value one.change x
+    values_alike None None a = refl
+    values_alike (Some v) (Some w) a = ap bytes_of (masked_alike m.known g ex here p q d None v w a)
+    values_alike None (Some w) a = absurd a
+    values_alike (Some v) None a = absurd a
+
     node_alike : (n o : NodeAt) → AlikeNode m g p q n o → changed_bytes two.change q.classes q.bytes o ≡ changed_bytes one.change p.classes p.bytes n
     node_alike n o a =
-        ap (λ z. option_map_or (λ v. bytes_of (changed two.change None v)) z []) a.there
-        ∙ (ap (λ z. bytes_of (changed (masking z (shown m.known (map g d)) q) None a.other)) same_masked
-        ∙ (ap bytes_of (masked_alike m.known g ex here p q d None a.value a.other a.alike)
-        ∙ ap (λ z. option_map_or (λ v. bytes_of (changed one.change None v)) z []) (sym a.here)))
+        let v : Option Value = value_of q.classes q.bytes o in
+        ap (λ z. changed_value (masking z (shown m.known (map g d)) q) v) same_masked ∙ values_alike (value_of p.classes p.bytes n) v a
 
     tail_alike : (e f : EventAt) → AlikeEvent m g p q e f → event_tail two q f ≡ event_tail one p e
     tail_alike e f a =
@@ -164,19 +175,19 @@ module _ (m : Masking) (g : List ℕ → List ℕ) (ex : IsExchange m.known g) (
         ∙ (ap (λ z. tail type_here times_here kind_here z items) (same_length (AlikeGroup m g p q) xs ys a.pools)
         ∙ ap (λ z. tail type_here times_here kind_here (length xs) z) (flat_map_alike (AlikeGroup m g p q) (group_bytes one p) (group_bytes two q) group_alike xs ys a.pools))))
 
-    piece_alike : (x y : Piece) → AlikePiece m g p q x y → (at : ℕ) (older : Option ℕ) → piece_bytes two q y at older ≡ piece_bytes one p x at older
-    piece_alike (Event e) (Event f) a at older = event_alike e f a
-    piece_alike (Metadata x) (Metadata y) a at older = sym a
-    piece_alike (Pools l xs) (Pools k ys) a at older =
+    origin_alike : (x y : Origin) → AlikeOrigin m g p q x y → (at : ℕ) (older : Option ℕ) → origin_bytes two q y at older ≡ origin_bytes one p x at older
+    origin_alike (Event e) (Event f) a at older = event_alike e f a
+    origin_alike (Metadata x) (Metadata y) a at older = sym a
+    origin_alike (Pools l xs) (Pools k ys) a at older =
         ap (λ z. sized_by z (checkpoint_tail two q k (distance at older) ys)) (sym a.type_id) ∙ ap (sized_by l.frame.type_id) (checkpoint_alike l k xs ys (distance at older) a)
-    piece_alike (Event e) (Metadata y) a at older = absurd a
-    piece_alike (Event e) (Pools k ys) a at older = absurd a
-    piece_alike (Metadata x) (Event f) a at older = absurd a
-    piece_alike (Metadata x) (Pools k ys) a at older = absurd a
-    piece_alike (Pools l xs) (Event f) a at older = absurd a
-    piece_alike (Pools l xs) (Metadata y) a at older = absurd a
+    origin_alike (Event e) (Metadata y) a at older = absurd a
+    origin_alike (Event e) (Pools k ys) a at older = absurd a
+    origin_alike (Metadata x) (Event f) a at older = absurd a
+    origin_alike (Metadata x) (Pools k ys) a at older = absurd a
+    origin_alike (Pools l xs) (Event f) a at older = absurd a
+    origin_alike (Pools l xs) (Metadata y) a at older = absurd a
 
-    same_older : (x y : Piece) → AlikePiece m g p q x y → (at : ℕ) (older : Option ℕ) → piece_older y at older ≡ piece_older x at older
+    same_older : (x y : Origin) → AlikeOrigin m g p q x y → (at : ℕ) (older : Option ℕ) → origin_older y at older ≡ origin_older x at older
     same_older (Event e) (Event f) a at older = refl
     same_older (Metadata x) (Metadata y) a at older = refl
     same_older (Pools l xs) (Pools k ys) a at older = refl
@@ -195,11 +206,11 @@ module _ (m : Masking) (g : List ℕ → List ℕ) (ex : IsExchange m.known g) (
 
     record_alike : (o u : OutputRecord) → AlikeRecord m g p q kept others o u → (at : ℕ) (older : Option ℕ) → second u at older ≡ first o at older
     record_alike o u a at older =
-        bytes_are two q others (entries_left m q others) u at older ∙ (piece_alike (pieces o) (other_pieces u) a.piece at older ∙ sym (bytes_are one p kept (entries_left m p kept) o at older))
+        bytes_are two q others (entries_left m q others) u at older ∙ (origin_alike (origins o) (other_origins u) a.origin at older ∙ sym (bytes_are one p kept (entries_left m p kept) o at older))
 
     older_alike : (o u : OutputRecord) → AlikeRecord m g p q kept others o u → (at : ℕ) (older : Option ℕ) → older_after u at older ≡ older_after o at older
     older_alike o u a at older =
-        older_is two q others (entries_left m q others) u at older ∙ (same_older (pieces o) (other_pieces u) a.piece at older ∙ sym (older_is one p kept (entries_left m p kept) o at older))
+        older_is two q others (entries_left m q others) u at older ∙ (same_older (origins o) (other_origins u) a.origin at older ∙ sym (older_is one p kept (entries_left m p kept) o at older))
 
     -- What is written of all: the bytes, the last checkpoint, and the position of the metadata record.
     record AllWritten (xs ys : List OutputRecord) (at : ℕ) (older : Option ℕ) : Type 0 where

@@ -1,16 +1,18 @@
 mod ChunkRows
+mod DictionaryLaws
 mod EqualOutputs
 mod ExchangeLaws
-pub mod FieldLaws
+mod FieldLaws
 mod HeadlineLaws
-pub mod KnownLaws
-pub mod MapLaws
+mod ItselfLaws
+mod KnownLaws
+mod MapLaws
 mod MaskLaws
-pub mod NumberLaws
+mod NumberLaws
 mod OneToOnes
 mod ReachBut
 mod Remains
 mod Rows
 mod SecrecyLaws
-pub mod ShownLaws
+mod ShownLaws
 mod TextLaws

@@ -69,7 +69,8 @@ text_kind kinds.Composite h = cc
 
 module _ (masked : Option Holder → Bool) (show : List ℕ → List ℕ) (p : Parts) where
   -- A string in place of a string fits.
-  string_fits : (k : Classes) (s : Shape) (kind : LeafKind) (b : List ℕ) (key : Option ℕ) (o : Option (List ℕ)) → is_string_leaf kind ≡ true → IsSingle k s kind b key → IsSingle k s kind (string_bytes o) None
+  string_fits : (k : Classes) (s : Shape) (kind : LeafKind) (b : List ℕ) (key : Option ℕ) (o : Option (List ℕ)) → is_string_leaf kind ≡ true
+      → IsSingle k s kind b key → IsSingle k s kind (string_bytes o) None
   string_fits k s kind b key o h (inl i) = let e : is_string_leaf kind ≡ false = ap is_string_leaf i.4 in cc
   string_fits k s kind b key o h (inr i) =
       let t : kind_of i.2.name ≡ kinds.Text = text_kind (kind_of i.2.name) (sym (ap is_string_leaf i.4) ∙ h) in
@@ -103,7 +104,8 @@ module _ (masked : Option Holder → Bool) (show : List ℕ → List ℕ) (p : P
       same None = refl
       same (Some k) = refl
 
-      by_mask : (t : Bool) → own_target (single_of s (if t then plain kind (string_bytes o) None else plain kind b key)) ≡ (if t then None else option_map (with_key (λ t. t.1)) (option_map (λ k. (s.class, k)) key))
+      by_mask : (t : Bool) → own_target (single_of s (if t then plain kind (string_bytes o) None else plain kind b key))
+          ≡ (if t then None else option_map (with_key (λ t. t.1)) (option_map (λ k. (s.class, k)) key))
       by_mask true = refl
       by_mask false = same key
   masking_retargets k h (Group s head vs) f = refl

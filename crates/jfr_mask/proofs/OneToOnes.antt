@@ -5,14 +5,15 @@ use Rattle.std.proofs.Common.{ap, refl, sym, ◌∙◌}
 use Rattle.std.proofs.lemmas.List.{map-append}
 use Rattle.jfr_rewrite.specs.Rewritten.{OneToOne}
 
-pub flat_map_alike : {A B X : Type 0} (R : A → B → Type 0) (f : A → List X) (h : B → List X) → ((x : A) (y : B) → R x y → h y ≡ f x) → (xs : List A) (ys : List B) → OneToOne R xs ys → flat_map h ys ≡ flat_map f xs
+pub flat_map_alike : {A B X : Type 0} (R : A → B → Type 0) (f : A → List X) (h : B → List X) → ((x : A) (y : B) → R x y → h y ≡ f x)
+    → (xs : List A) (ys : List B) → OneToOne R xs ys → flat_map h ys ≡ flat_map f xs
 flat_map_alike R f h one [] [] a = refl
 flat_map_alike R f h one [] (y ∷ ys) a = absurd a
 flat_map_alike R f h one (x ∷ xs) [] a = absurd a
 flat_map_alike R f h one (x ∷ xs) (y ∷ ys) a = ap (λ z. z ++ flat_map h ys) (one x y a.0) ∙ ap (λ z. f x ++ z) (flat_map_alike R f h one xs ys a.1)
 
-pub flat_map_mapped : {A B : Type 0} (R : A → B → Type 0) (g : List ℕ → List ℕ) (f : A → List (List ℕ)) (h : B → List (List ℕ)) → ((x : A) (y : B) → R x y → h y ≡ map g (f x)) → (xs : List A) (ys : List B) → OneToOne R xs ys
-    → flat_map h ys ≡ map g (flat_map f xs)
+pub flat_map_mapped : {A B : Type 0} (R : A → B → Type 0) (g : List ℕ → List ℕ) (f : A → List (List ℕ)) (h : B → List (List ℕ)) → ((x : A) (y : B) → R x y → h y ≡ map g (f x))
+    → (xs : List A) (ys : List B) → OneToOne R xs ys → flat_map h ys ≡ map g (flat_map f xs)
 flat_map_mapped R g f h one [] [] a = refl
 flat_map_mapped R g f h one [] (y ∷ ys) a = absurd a
 flat_map_mapped R g f h one (x ∷ xs) [] a = absurd a

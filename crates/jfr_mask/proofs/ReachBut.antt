@@ -175,7 +175,8 @@ module _ (stops : Stops) (p : Parts) where
     part_in : (v u : Value) (st : Step) (t : ℕ × ℕ) → part v st ≡ Some u → Contains (targets_of u) t → Contains (targets_of v) t
     part_in v u st t e c = let r = in_within u t c in within_in (st ∷ r.path) v r.value t (ap (option_and_then _) e ∙ r.leads) r.refers
 
-    less_part : (n : Held) (v u : Value) (st : Step) → IsNode p.classes p.bytes n.node v → part v st ≡ Some u → part (less n.holder v) st ≡ Some (less (stepped (unkeyed stops) n.holder n.node.shape st) u)
+    less_part : (n : Held) (v u : Value) (st : Step) → IsNode p.classes p.bytes n.node v → part v st ≡ Some u
+        → part (less n.holder v) st ≡ Some (less (stepped (unkeyed stops) n.holder n.node.shape st) u)
     less_part n v u st i e =
         changed_part (unkeyed stops) n.holder v st ∙ (ap (λ z. option_map (less (stepped (unkeyed stops) n.holder z st)) (part v st)) (sym i.shape)
         ∙ ap (option_map (less (stepped (unkeyed stops) n.holder n.node.shape st))) e)
@@ -187,15 +188,16 @@ module _ (stops : Stops) (p : Parts) where
     own_found : (n : Held) (v : Value) (t : ℕ × ℕ) → IsNode p.classes p.bytes n.node v → AllOf n.holder v → target_but stops p n ≡ Some t → AllFound t
     own_found n v t i all r = all t (within_in [] (less n.holder v) (less n.holder v) t refl (sym (target_less n v i) ∙ r))
 
-    met_from : (path : List Step) (n m : Held) (v : Value) (t : ℕ × ℕ) → IsNode p.classes p.bytes n.node v → AllOf n.holder v → leads_but stops p n path ≡ Some m → target_but stops p m ≡ Some t → AllFound t
+    met_from : (path : List Step) (n m : Held) (v : Value) (t : ℕ × ℕ) → IsNode p.classes p.bytes n.node v → AllOf n.holder v → leads_but stops p n path ≡ Some m
+        → target_but stops p m ≡ Some t → AllFound t
     met_from [] n m v t i all e r = let h : n ≡ m = cc in own_found n v t i all (subst (λ z. target_but stops p z ≡ Some t) (sym h) r)
     met_from (st ∷ path) n m v t i all e r = by_step st (node_after stops p n st) refl e (λ k b j g l. met_from path k m b t j g l r)
       where
         After : Type 0
         After = (k : Held) (b : Value) → IsNode p.classes p.bytes k.node b → AllOf k.holder b → leads_but stops p k path ≡ Some m → AllFound t
 
-        by_child : (st : Step) (h : Option Holder) (k : NodeAt) → h ≡ stepped (unkeyed stops) n.holder n.node.shape st → child p.classes p.bytes n.node st ≡ Some k → leads_but stops p (record { holder = h; node = k }) path ≡ Some m
-            → After → AllFound t
+        by_child : (st : Step) (h : Option Holder) (k : NodeAt) → h ≡ stepped (unkeyed stops) n.holder n.node.shape st → child p.classes p.bytes n.node st ≡ Some k
+            → leads_but stops p (record { holder = h; node = k }) path ≡ Some m → After → AllFound t
         by_child st h k w c l f =
             let b = some_to (IsNode p.classes p.bytes) (child p.classes p.bytes n.node st) (part v st) k (child_is p.classes p.bytes n.node v s.sound i st) c in
             let q : part (less n.holder v) st ≡ Some (less h b.0) = subst (λ z. part (less n.holder v) st ≡ Some (less z b.0)) (sym w) (less_part n v b.0 st i b.1) in
@@ -232,7 +234,9 @@ module _ (stops : Stops) (p : Parts) where
         After : Type 0
         After = (k : Held) (b : Value) → IsNode p.classes p.bytes k.node b → within (less k.holder b) path ≡ Some u → Inside k path u
 
-        onward : (st : Step) (k : NodeAt) (b : Value) → child p.classes p.bytes n.node st ≡ Some k → IsNode p.classes p.bytes k b → within (less (stepped (unkeyed stops) n.holder n.node.shape st) b) path ≡ Some u → After → Inside n (st ∷ path) u
+        onward : (st : Step) (k : NodeAt) (b : Value) → child p.classes p.bytes n.node st ≡ Some k → IsNode p.classes p.bytes k b
+            → within (less (stepped (unkeyed stops) n.holder n.node.shape st) b) path ≡ Some u → After
+            → Inside n (st ∷ path) u
         onward (steps.Field f) k b c j l g =
             let r = g (held_after n (steps.Field f) k) b j l in
             record { node = r.node; leads_there = ap (option_and_then (λ m. leads_but stops p (held_after n (steps.Field f) m) path)) c ∙ r.leads_there; value = r.value; is = r.is; changes = r.changes }
@@ -274,7 +278,8 @@ module _ (stops : Stops) (p : Parts) where
       found t m =
           let i : In kept m.event = contains_in kept m.event m.is_kept in
           let v = nodes m.event i in
-          met_from m.path (paths.root m.event.node) m.node v.0 t v.1 (λ u c j g. root (those_in (number_in_force p.entries) event_targets u j (event_in m.event u i (subst (λ z. Contains z u) (sym (node_targets m.event.node v.0 v.1)) c)) g))
+          met_from m.path (paths.root m.event.node) m.node v.0 t v.1
+          (λ u c j g. root (those_in (number_in_force p.entries) event_targets u j (event_in m.event u i (subst (λ z. Contains z u) (sym (node_targets m.event.node v.0 v.1)) c)) g))
           m.leads_there m.refers
         where
           event_in : (e : EventAt) (u : ℕ × ℕ) → In kept e → Contains (node_targets_but stops p e.node) u → In event_targets u

@@ -1,12 +1,14 @@
 -- What holds of a masked chunk, and of a masked recording.
-use Rattle.std.specs.Prelude.{ℕ, ◌<◌, ◌^◌, List, [], ◌∷◌, length, ⊤}
+use Rattle.std.specs.Prelude.{◌≡◌, ℕ, ◌<◌, ◌^◌, true, List, [], ◌∷◌, length, ⊤}
+use Rattle.std.specs.List.{AllByRecursion}
 use Rattle.jfr_header.specs.Fronts.{Whole}
 use Rattle.jfr_chunk.specs.Metas.{remaining_classes}
 use Rattle.jfr_chunk.specs.Parts.{AreParts, EventAt, Parts, events_of}
 use Rattle.jfr_chunk.specs.Reach.{Reached}
 use Rattle.jfr_rewrite.specs.Paths.{MeansChanged}
 use Rattle.jfr_rewrite.specs.Rewritten.{IsRewritten, OneToOne}
-use Rattle.jfr_mask.specs.MaskOf.{Chosen, Masking, dictionary_after, entries_left, events_kept, mask_of, masks_in, next_dictionary, rewrite_of, stops_in}
+use Rattle.jfr_mask.specs.MaskOf.{Chosen, Masking, chunk_texts, dictionary_after, entries_left, events_kept, mask_of, masks_in, next_dictionary, rewrite_of, stops_in}
+use Rattle.jfr_mask.specs.Pseudonyms.{has_text, number_of}
 
 -- The masked chunk is accepted, with the kept events and the entries that remain, each with its masked strings changed.
 abbrev pub IsAccepted : Masking → List (List ℕ) → Parts → List EventAt → Type 0
@@ -36,3 +38,9 @@ AllFit m d (c ∷ cs) = (AreParts c.parts × Whole c.parts.bytes × (length (mas
 abbrev pub AllMasked : Masking → List (List ℕ) → List Chosen → Type 0
 AllMasked m d [] = ⊤
 AllMasked m d (c ∷ cs) = IsMasked m d c.parts (events_kept c) × AllMasked m (next_dictionary m d c) cs
+
+-- Each text of a masked string of a chunk has the number by which it is shown there in this dictionary, too.
+abbrev pub AllNumbered : Masking → List (List ℕ) → List (List ℕ) → List Chosen → Type 0
+AllNumbered m last d [] = ⊤
+AllNumbered m last d (c ∷ cs) =
+    AllByRecursion (λ t. (has_text last t ≡ true) × (number_of (next_dictionary m d c) t ≡ number_of last t)) (chunk_texts m c.parts (events_kept c)) × AllNumbered m last (next_dictionary m d c) cs

@@ -52,43 +52,47 @@ rewrite_of m d p kept = record { change = masks_in m d p; key = λ t. t.1; width
 abbrev pub entries_left : Masking → Parts → List EventAt → List EntryAt
 entries_left m p kept = remain_but (stops_in m p) p kept
 
--- What an output record is: a kept event; the metadata record with its bytes; or a chained checkpoint with the pools
--- that it has left.
-pub data Piece : Type 0 where
-  Event : (event : EventAt) → Piece
-  Metadata : (bytes : List ℕ) → Piece
-  Pools : (link : Link) (pools : List Group) → Piece
+-- What an output record is made from: a kept event; the metadata record as it is written; or a chained checkpoint and
+-- the pools that it has left.
+pub data Origin : Type 0 where
+  Event : (event : EventAt) → Origin
+  Metadata : (bytes : List ℕ) → Origin
+  Pools : (link : Link) (pools : List Group) → Origin
 
--- The piece for a record that isn't a chained checkpoint: its event, or the record itself.
-abbrev pub whole_piece : Parts → Framed → Option EventAt → Piece
-whole_piece p r (Some e) = Event e
-whole_piece p r None = Metadata (record_bytes p.bytes r)
+-- That of a record that isn't a chained checkpoint: its event, or the record itself.
+abbrev pub whole_origin : Parts → Framed → Option EventAt → Origin
+whole_origin p r (Some e) = Event e
+whole_origin p r None = Metadata (record_bytes p.bytes r)
 
-abbrev pub piece_of : Parts → List EventAt → List EntryAt → OutputRecord → Piece
-piece_of p kept entries (Whole r) = whole_piece p r (event_there kept r)
-piece_of p kept entries (Rebuilt r bytes) = Metadata bytes
-piece_of p kept entries (Chained number l) = Pools l (groups_of entries number)
+abbrev pub origin_of : Parts → List EventAt → List EntryAt → OutputRecord → Origin
+origin_of p kept entries (Whole r) = whole_origin p r (event_there kept r)
+origin_of p kept entries (Rebuilt r bytes) = Metadata bytes
+origin_of p kept entries (Chained number l) = Pools l (groups_of entries number)
 
 -- The texts of the masked strings in a node that is in no field, as an event's and an entry's are.
 abbrev pub node_texts : Masking → Parts → NodeAt → List (List ℕ)
 node_texts m p n = option_map_or (masked_texts (is_masked_in m p.classes) m.known p None) (value_of p.classes p.bytes n) []
 
--- Those of a piece: of the event's fields, or of the values of the entries.
+-- Those of an output record: of the event's fields, or of the values of the entries.
 abbrev pub group_texts : Masking → Parts → Group → List (List ℕ)
 group_texts m p g = flat_map (λ e. node_texts m p (entry_node e)) g.entries
 
-abbrev pub piece_texts : Masking → Parts → Piece → List (List ℕ)
-piece_texts m p (Event e) = node_texts m p e.node
-piece_texts m p (Metadata bytes) = []
-piece_texts m p (Pools l pools) = flat_map (group_texts m p) pools
+abbrev pub origin_texts : Masking → Parts → Origin → List (List ℕ)
+origin_texts m p (Event e) = node_texts m p e.node
+origin_texts m p (Metadata bytes) = []
+origin_texts m p (Pools l pools) = flat_map (group_texts m p) pools
 
 -- The output records of a masked chunk.
 abbrev pub records_out : Masking → Parts → List EventAt → List OutputRecord
 records_out m p kept = output_records (new_metadata m.described p kept) p kept
 
--- The dictionary after a chunk, given the one before it: with the texts of its output records, one after another.
+-- The texts of the masked strings of its output records, one after another, without those that are shown as they are.
+abbrev pub chunk_texts : Masking → Parts → List EventAt → List (List ℕ)
+chunk_texts m p kept = flat_map (λ o. origin_texts m p (origin_of p kept (entries_left m p kept) o)) (records_out m p kept)
+
+-- The dictionary after a chunk, given the one before it.
 abbrev pub dictionary_after : Masking → List (List ℕ) → Parts → List EventAt → List (List ℕ)
-dictionary_after m d p kept = with_texts d (flat_map (λ o. piece_texts m p (piece_of p kept (entries_left m p kept) o)) (records_out m p kept))
+dictionary_after m d p kept = with_texts d (chunk_texts m p kept)
 
 -- The masked chunk, if these events are kept, given the dictionary before it. All its texts have their numbers from the
 -- dictionary after it.
@@ -110,3 +114,8 @@ next_dictionary m d c = dictionary_after m d c.parts (events_kept c)
 abbrev pub mask_all : Masking → List (List ℕ) → List Chosen → List (List ℕ)
 mask_all m d [] = []
 mask_all m d (c ∷ cs) = mask_of m d c.parts (events_kept c) ∷ mask_all m (next_dictionary m d c) cs
+
+-- The dictionary after all of them.
+abbrev pub last_dictionary : Masking → List (List ℕ) → List Chosen → List (List ℕ)
+last_dictionary m d [] = d
+last_dictionary m d (c ∷ cs) = last_dictionary m (next_dictionary m d c) cs

@@ -1,11 +1,11 @@
 -- When two chunks, and two recordings, differ only in masked texts.
-use Rattle.std.specs.Prelude.{◌≡◌, ℕ, zero, suc, ◌+◌, ◌==◌, Bool, true, false, List, Option, None, Some, slice_range, ⊤}
+use Rattle.std.specs.Prelude.{◌≡◌, ℕ, zero, suc, ◌+◌, ◌==◌, Bool, true, false, List, Option, None, slice_range, ⊤}
 use Rattle.std.specs.Option.{option_map}
 use Rattle.jfr_frame.specs.Records.{record_end}
 use Rattle.jfr_value.specs.declared.leaf.Holder.{Holder}
 use Rattle.jfr_value.specs.Leaves.{part_holder}
 use Rattle.jfr_value.specs.Values.{Value, Values, Single, Group, Nil, Cons}
-use Rattle.jfr_value.specs.Nodes.{NodeAt, value_of}
+use Rattle.jfr_value.specs.Nodes.{Both, NodeAt, value_of}
 use Rattle.jfr_pool.specs.declared.link.Link.{Link}
 use Rattle.jfr_pool.specs.declared.entry.EntryAt.{EntryAt}
 use Rattle.jfr_pool.specs.Entries.{entry_node}
@@ -15,7 +15,7 @@ use Rattle.jfr_chunk.specs.Written as chunk_written
 use Rattle.jfr_laws.specs.Told.{told_header}
 use Rattle.jfr_rewrite.specs.Rewritten.{OneToOne}
 use Rattle.jfr_mask.specs.Masked.{is_masked_string, string_text}
-use Rattle.jfr_mask.specs.MaskOf.{Chosen, Event, Masking, Metadata, Piece, Pools, entries_left, events_kept, is_masked_in, piece_of, records_out}
+use Rattle.jfr_mask.specs.MaskOf.{Chosen, Event, Masking, Metadata, Origin, Pools, entries_left, events_kept, is_masked_in, origin_of, records_out}
 use Rattle.jfr_mask.specs.Pseudonyms.{is_descriptor, stays}
 
 -- Other texts in place of texts: different ones for different ones. Texts that are shown as they are, which are the
@@ -50,12 +50,8 @@ abbrev mutual
   AlikeValues masked g p q f (Cons v vs) Nil = ⊥
 
 -- Two nodes that are in no field have such values.
-pub record AlikeNode (m : Masking) (g : List ℕ → List ℕ) (p q : Parts) (n o : NodeAt) : Type 0 where
-  pub value : Value
-  pub other : Value
-  pub here : value_of p.classes p.bytes n ≡ Some value
-  pub there : value_of q.classes q.bytes o ≡ Some other
-  pub alike : AlikeValue (is_masked_in m p.classes) g p q None value other
+abbrev pub AlikeNode : Masking → (List ℕ → List ℕ) → Parts → Parts → NodeAt → NodeAt → Type 0
+AlikeNode m g p q n o = Both (AlikeValue (is_masked_in m p.classes) g p q None) (value_of p.classes p.bytes n) (value_of q.classes q.bytes o)
 
 -- Two events have the same class, spelled the same, such fields, and the same bytes after them.
 pub record AlikeEvent (m : Masking) (g : List ℕ → List ℕ) (p q : Parts) (e f : EventAt) : Type 0 where
@@ -84,20 +80,20 @@ pub record AlikePools (m : Masking) (g : List ℕ → List ℕ) (p q : Parts) (l
   pub pools : OneToOne (AlikeGroup m g p q) xs ys
 
 -- Two events that differ only in masked texts, two equal metadata records, or two such checkpoints.
-abbrev pub AlikePiece : Masking → (List ℕ → List ℕ) → Parts → Parts → Piece → Piece → Type 0
-AlikePiece m g p q (Event e) (Event f) = AlikeEvent m g p q e f
-AlikePiece m g p q (Metadata x) (Metadata y) = x ≡ y
-AlikePiece m g p q (Pools l xs) (Pools k ys) = AlikePools m g p q l k xs ys
-AlikePiece m g p q (Event e) (Metadata y) = ⊥
-AlikePiece m g p q (Event e) (Pools k ys) = ⊥
-AlikePiece m g p q (Metadata x) (Event f) = ⊥
-AlikePiece m g p q (Metadata x) (Pools k ys) = ⊥
-AlikePiece m g p q (Pools l xs) (Event f) = ⊥
-AlikePiece m g p q (Pools l xs) (Metadata y) = ⊥
+abbrev pub AlikeOrigin : Masking → (List ℕ → List ℕ) → Parts → Parts → Origin → Origin → Type 0
+AlikeOrigin m g p q (Event e) (Event f) = AlikeEvent m g p q e f
+AlikeOrigin m g p q (Metadata x) (Metadata y) = x ≡ y
+AlikeOrigin m g p q (Pools l xs) (Pools k ys) = AlikePools m g p q l k xs ys
+AlikeOrigin m g p q (Event e) (Metadata y) = ⊥
+AlikeOrigin m g p q (Event e) (Pools k ys) = ⊥
+AlikeOrigin m g p q (Metadata x) (Event f) = ⊥
+AlikeOrigin m g p q (Metadata x) (Pools k ys) = ⊥
+AlikeOrigin m g p q (Pools l xs) (Event f) = ⊥
+AlikeOrigin m g p q (Pools l xs) (Metadata y) = ⊥
 
 -- Two output records differ so, and both or neither are at the metadata position of their header.
 pub record AlikeRecord (m : Masking) (g : List ℕ → List ℕ) (p q : Parts) (kept others : List EventAt) (o u : OutputRecord) : Type 0 where
-  pub piece : AlikePiece m g p q (piece_of p kept (entries_left m p kept) o) (piece_of q others (entries_left m q others) u)
+  pub origin : AlikeOrigin m g p q (origin_of p kept (entries_left m p kept) o) (origin_of q others (entries_left m q others) u)
   pub position : ((record_of o).at == metadata_at p.bytes) ≡ ((record_of u).at == metadata_at q.bytes)
 
 -- Two chunks, with the events that are kept of each, have equal classes, and headers that are equal except for the size

@@ -16,10 +16,10 @@ ghost use Rattle.jfr_chunk.specs.Paths.{text_of};
 ghost use Rattle.jfr_chunk.specs.Reach.{Reached, kept_by};
 ghost use Rattle.jfr_rewrite.specs.Changed.{IsReadChanged, changed};
 ghost use Rattle.jfr_rewrite.specs.Paths.{MarksMet, MarksOnlyMet, Stops};
-ghost use Rattle.jfr_mask.specs.Headline.{AllFit, AllMasked, AllReached, IsAccepted, IsMasked, MeansTheSame};
-ghost use Rattle.jfr_mask.specs.MaskOf.{Chosen, Masking, dictionary_after, mask_all, mask_of};
+ghost use Rattle.jfr_mask.specs.Headline.{AllFit, AllMasked, AllNumbered, AllReached, IsAccepted, IsMasked, MeansTheSame};
+ghost use Rattle.jfr_mask.specs.MaskOf.{Chosen, Masking, dictionary_after, last_dictionary, mask_all, mask_of};
 ghost use Rattle.jfr_mask.specs.Masked.{masking, own_text, string_bytes, string_text};
-ghost use Rattle.jfr_mask.specs.Pseudonyms.{shown};
+ghost use Rattle.jfr_mask.specs.Pseudonyms.{IsDictionary, shown};
 ghost use Rattle.jfr_mask.specs.ReachBut.{marks_but};
 ghost use Rattle.jfr_mask.specs.Secrecy.{AlikeAll, AlikeChunk, AlikeValue, IsExchange};
 
@@ -68,14 +68,24 @@ pub fn masked_chunks_mean_the_same()
     paths_lead_to_changed_leaves();
 }
 
+/// One dictionary has all masked texts of a recording, the one after its last chunk: each text has its number there in the
+/// chunk's own dictionary, too. So, by the law `pseudonyms_are_distinct`, texts have equal pseudonyms in a recording
+/// exactly if they are equal.
+#[tactic(auto, using(crate::proofs::DictionaryLaws::all_numbered, crate::proofs::DictionaryLaws::is_dictionary))]
+pub fn numbers_hold_in_all_chunks()
+    ensures distinct { (m : Masking) (cs : List Chosen) → IsDictionary (last_dictionary m [] cs) }
+    ensures same { (m : Masking) (cs : List Chosen) → AllNumbered m (last_dictionary m [] cs) [] cs }
+{}
+
 /// Values that differ only in masked texts are equal when each is masked with its dictionary, if the texts of the second
 /// dictionary are the exchanged ones (`value`). So are whole chunks, byte for byte (`chunk`), and the dictionaries after
-/// them correspond again (`dictionary`).
-#[tactic(auto, using(crate::proofs::SecrecyLaws::masked_alike, crate::proofs::EqualOutputs::masked_equal, crate::proofs::EqualOutputs::dictionary_exchanged))]
+/// them correspond again (`dictionary`). Each chunk differs so from itself (`itself`).
+#[tactic(auto, using(crate::proofs::SecrecyLaws::masked_alike, crate::proofs::EqualOutputs::masked_equal, crate::proofs::EqualOutputs::dictionary_exchanged, crate::proofs::ItselfLaws::chunk_itself, crate::proofs::ItselfLaws::no_exchange))]
 pub fn masks_keep_secrets()
     ensures value { (known : List ℕ → Bool) (g : List ℕ → List ℕ) → IsExchange known g → (masked : Option Holder → Bool) (p q : Parts) (d : List (List ℕ)) (h : Option Holder) (v w : Value) → AlikeValue masked g p q h v w → changed (masking masked (shown known (map g d)) q) h w ≡ changed (masking masked (shown known d) p) h v }
     ensures chunk { (m : Masking) (g : List ℕ → List ℕ) → IsExchange m.known g → (p q : Parts) (kept others : List EventAt) → AlikeChunk m g p q kept others → (d : List (List ℕ)) → mask_of m (map g d) q others ≡ mask_of m d p kept }
     ensures dictionary { (m : Masking) (g : List ℕ → List ℕ) → IsExchange m.known g → (p q : Parts) (kept others : List EventAt) → AlikeChunk m g p q kept others → (d : List (List ℕ)) → dictionary_after m (map g d) q others ≡ map g (dictionary_after m d p kept) }
+    ensures itself { (m : Masking) (p : Parts) (kept : List EventAt) → IsExchange m.known (λ t. t) × AlikeChunk m (λ t. t) p p kept kept }
 {}
 
 /// Two recordings that differ only in masked texts, chunk by chunk, have equal outputs, byte for byte.

@@ -3,7 +3,7 @@ mod Carried
 pub mod ChangeLaws
 mod CheckpointBack
 mod Events
-pub mod InForce
+mod InForce
 mod Made
 pub mod MeaningLaws
 pub mod OneToOneLaws

@@ -1,4 +1,5 @@
 use Rattle.jfr_mask.proofs.EqualOutputs.{dictionary_exchanged, masked_equal}
+use Rattle.jfr_mask.proofs.ItselfLaws.{chunk_itself, no_exchange}
 use Rattle.jfr_mask.proofs.SecrecyLaws.{masked_alike}
 use Rattle.jfr_mask.proofs.chunk_laws.masks_keep_secrets.Goals as goal
 
@@ -10,3 +11,6 @@ returns-clause-chunk c = λ m g ex p q kept others alike d. masked_equal m g ex 
 
 pub returns-clause-dictionary : goal.returns-clause-dictionary
 returns-clause-dictionary c = λ m g ex p q kept others alike d. dictionary_exchanged m g ex p q kept others alike d
+
+pub returns-clause-itself : goal.returns-clause-itself
+returns-clause-itself c = λ m p kept. (no_exchange m.known, chunk_itself m p kept)
