@@ -24,7 +24,7 @@ use Rattle.jfr_value.proofs.RowLaws.{row_stands, start_of}
 use Rattle.jfr_renumber.specs.Fields.{rekeyed_first}
 use Rattle.jfr_renumber.specs.Rekeyed.{rekeyed, rekeyed_all, rekeyed_bytes}
 use Rattle.jfr_renumber.proofs.RekeyedLaws.{node_bytes_are}
-use Rattle.jfr_renumber.proofs.RewritingLaws.{spell_small}
+use Rattle.jfr_base.proofs.Writing.{spell_byte}
 
 -- All of the values.
 pub first_all : (new : ℕ × ℕ → ℕ) (vs : Values) (n : ℕ) → length (shapes_of vs) ≡ n → rekeyed_first new vs n ≡ bytes_of_all (rekeyed_all new vs)
@@ -145,7 +145,7 @@ null_same new k c at to end s sound h w z n a o t l =
     let found : int_at c at end ≡ Some (record { value = 0; end = at + 1 }) = one_byte c at end h w (omega (arith, z)) ∙ ap (λ v. Some (record { value = v; end = at + 1 })) z in
     let q = key_written new k c at to end s (record { value = 0; end = at + 1 }) 0 [] (spell 0) sound l w t a o found (sym n) refl in
     let one : slice_range c at to ≡ 0 ∷ [] = ap (slice_range c at) (sym q.0) ∙ (range_one c at (omega (arith, h, w)) ∙ ap (λ v. v ∷ []) z) in
-    (q.0, sym q.1 ∙ (spell_small 0 (omega arith) ∙ sym one))
+    (q.0, sym q.1 ∙ (spell_byte 0 (omega arith) ∙ sym one))
 
 -- Where the last value of a row ends.
 start_all : (at : ℕ) (vs : Values) (n : ℕ) → length (shapes_of vs) ≡ n → start_of at vs n ≡ at + length (bytes_of_all vs)

@@ -6,9 +6,9 @@ ghost use Rattle.jfr_laws.specs.InChunk.{IsEntryIn, IsLinkIn};
 ghost use Rattle.jfr_renumber.specs.Renumber.{checkpoint_tail, entry_bytes, group_bytes};
 
 use crate::fields::put_value;
-use crate::rewriting::{NewKeys, put_integer};
+use crate::rewriting::NewKeys;
 use crate::size::put_size;
-use jfr_base::NoMemory;
+use jfr_base::{NoMemory, push_var};
 use jfr_chunk::Chunk;
 use jfr_layout::Shape;
 use jfr_output::pool_len;
@@ -41,7 +41,7 @@ fn put_entry<N: NewKeys>(
         at: entry.value_at,
         end: entry.end,
     };
-    put_integer(out, new.new_key(entry.class, entry.key))?;
+    push_var(out, new.new_key(entry.class, entry.key))?;
     put_value(out, chunk.classes(), node, new)
 }
 
@@ -74,8 +74,8 @@ fn put_pools<N: NewKeys>(
     let mut rest = entries;
     'pools: while let Some(first) = rest.first() {
         let (pool, others) = rest.split_at(pool_len(first, rest));
-        put_integer(out, first.class)?;
-        put_integer(out, pool.len() as u64)?;
+        push_var(out, first.class)?;
+        push_var(out, pool.len() as u64)?;
         put_entries(out, chunk, pool, new)?;
         rest = others;
     }
@@ -100,9 +100,9 @@ pub(crate) fn put_checkpoint<N: NewKeys>(
     let frame = link.frame;
     let from = out.len();
     out.extend_from_slice(&bytes[frame.at..link.delta_at])?;
-    put_integer(out, checkpoint.delta)?;
+    push_var(out, checkpoint.delta)?;
     out.extend_from_slice(&bytes[link.delta_end..link.delta_end + 1])?;
-    put_integer(out, pool_count(checkpoint.entries) as u64)?;
+    push_var(out, pool_count(checkpoint.entries) as u64)?;
     put_pools(out, chunk, checkpoint.entries, new)?;
     put_size(out, from, frame.type_at - frame.at);
     Ok(())

@@ -4,9 +4,9 @@ ghost use Rattle.jfr_base.specs.Formats.{int_at};
 ghost use Rattle.jfr_layout.specs.declared.form.Form.TheVariants as forms;
 ghost use Rattle.jfr_renumber.specs.Passed.{FieldFollows, IsPassed};
 
-use crate::rewriting::{NewKeys, put_integer, put_rekeyed};
+use crate::rewriting::{NewKeys, put_rekeyed};
 use crate::same::{is_zero, text_end};
-use jfr_base::{NoMemory, Var, read_within};
+use jfr_base::{NoMemory, Var, push_var, read_within};
 use jfr_layout::{Classes, FieldLayout, Form};
 use jfr_text::{KEY_BYTE, is_key};
 use jfr_value::{Node, end_of};
@@ -86,7 +86,7 @@ fn pass_key<N: NewKeys>(
     }
     put_waiting(out, context.bytes, *passed)?;
     let key = integer_at(context.bytes, passed.at, context.end);
-    put_integer(out, context.new.new_key(layout.shape.class, key.value))?;
+    push_var(out, context.new.new_key(layout.shape.class, key.value))?;
     passed.at = key.end;
     passed.from = key.end;
     Ok(())
@@ -111,7 +111,7 @@ fn pass_text<N: NewKeys>(
     put_waiting(out, context.bytes, *passed)?;
     let key = integer_at(context.bytes, passed.at + 1, context.end);
     out.push(KEY_BYTE)?;
-    put_integer(out, context.new.new_key(layout.shape.class, key.value))?;
+    push_var(out, context.new.new_key(layout.shape.class, key.value))?;
     passed.at = key.end;
     passed.from = key.end;
     Ok(())

@@ -5,9 +5,10 @@
 //! entry in force is a group of its own. The groups of a class are numbered from 0, in the order of their
 //! smallest keys, and the number is the new key.
 //!
-//! `Renumberer` makes the output of one chunk, `renumber_stream` that of a recording. The laws say what the
-//! output keeps. Read `specs/Renumber.antt` first (the new keys and the bytes of the output), then
-//! `specs/Meaning.antt` (what the output means) and `specs/Headline.antt` (the output of a recording).
+//! The output is the chunk rewritten (`jfr_rewrite: Rewrite.rewritten`) as `Renumber.with_keys` says, so the laws
+//! of `jfr_rewrite` hold of it. `Renumberer` makes the output of one chunk, `renumber_stream` that of a recording.
+//! The laws say what the output keeps. Read `specs/Renumber.antt` first (the new keys and the bytes of the output),
+//! then `specs/Meaning.antt` (what the output means) and `specs/Headline.antt` (the output of a recording).
 #![tactic(auto)]
 
 mod checkpoints;

@@ -9,7 +9,7 @@ ghost use Rattle.jfr_value.specs.Nodes.{IsValue, node_of};
 ghost use Rattle.jfr_renumber.specs.Rekeyed.{rekeyed_bytes};
 ghost use Rattle.jfr_renumber.specs.Rewriting.{KeyFollowsKind, leaf_with};
 
-use jfr_base::{NoMemory, read_within, write_var};
+use jfr_base::{NoMemory, push_var, read_within};
 use jfr_layout::{Classes, Kind};
 use jfr_text::{KEY_BYTE, is_key};
 use jfr_value::{Leaf, LeafKind, Leaves, Node};
@@ -54,7 +54,7 @@ fn put_leaf<N: NewKeys>(out: &mut Vec<u8>, leaf: Leaf<'_>, new: &N) -> Result<()
     ensures ok { OnOk result (out.new.items ≡ out.old.items ++ leaf_with (N.keys new.now) (leaf_of leaf.entry)) }
 {
     match leaf.kind {
-        LeafKind::Key(key) => put_integer(out, new.new_key(leaf.class, key)),
+        LeafKind::Key(key) => push_var(out, new.new_key(leaf.class, key)),
         LeafKind::Base(Kind::Text) => put_string(out, leaf, new),
         _ => out.extend_from_slice(leaf.spelled),
     }
@@ -74,27 +74,5 @@ fn put_string<N: NewKeys>(out: &mut Vec<u8>, leaf: Leaf<'_>, new: &N) -> Result<
         unreachable!()
     };
     out.push(KEY_BYTE)?;
-    put_integer(out, new.new_key(leaf.class, key.value))
-}
-
-/// Appends an integer in its shortest spelling.
-#[inline]
-pub(crate) fn put_integer(out: &mut Vec<u8>, value: u64) -> Result<(), AllocError>
-    ensures ok { OnOk result (out.new.items ≡ out.old.items ++ spell value) }
-{
-    if value < 128 {
-        out.push(value as u8)?;
-        return Ok(());
-    }
-    put_long_integer(out, value)
-}
-
-// Appends an integer in its shortest spelling of any length, out of line.
-#[inline(never)]
-fn put_long_integer(out: &mut Vec<u8>, value: u64) -> Result<(), AllocError>
-    ensures ok { OnOk result (out.new.items ≡ out.old.items ++ spell value) }
-{
-    let mut spelled = [0; 9];
-    let len = write_var(value, &mut spelled);
-    out.extend_from_slice(&spelled[..len])
+    push_var(out, new.new_key(leaf.class, key.value))
 }

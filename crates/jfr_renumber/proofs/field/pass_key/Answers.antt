@@ -29,8 +29,8 @@ returns g c = record {
       let passed = c.args.passed.now in
       let f = c.requires.field in
       let waited = c.put_waiting.new.out.items in
-      let out = c.put_integer.new.out.items in
+      let out = c.push_var.new.out.items in
       let m = key_shape s c.args.layout.now.kind (sym c.requires.key ∙ f.layout.form) in
-      let q = key_written (g.N.NewKeys.keys c.args.context.new.now) c.args.context.classes.now c.args.context.bytes.now passed.at to c.args.context.end s c.integer_at-key.result c.new_key.result waited out f.sound l f.within t m.0 m.1 c.integer_at-key.ensures c.new_key.ensures c.in_ok-put_integer.ensures.ok in
+      let q = key_written (g.N.NewKeys.keys c.args.context.new.now) c.args.context.classes.now c.args.context.bytes.now passed.at to c.args.context.end s c.integer_at-key.result c.new_key.result waited out f.sound l f.within t m.0 m.1 c.integer_at-key.ensures c.new_key.ensures c.in_ok-push_var.ensures.ok in
       is_written g.N.NewKeys.keys c.args.context s c.args.out.now.items waited out passed to c.integer_at-key.result.end c.in_ok-put_waiting.ensures.ok q);
 }

@@ -37,8 +37,8 @@ returns g c = record {
       (let passed = c.args.passed.now in
       let f = c.requires.field in
       let waited = c.put_waiting.new.out.items in
-      let out = c.put_integer.new.out.items in
+      let out = c.push_var.new.out.items in
       let q = text_key_written c.args.context.classes.now c.args.context.bytes.now passed.at to c.args.layout.now f.layout c.requires.text (g.N.NewKeys.keys c.args.context.new.now) c.args.context.end c.integer_at-key.result c.new_key.result waited out f.sound t l f.within (c.is_key.ensures.exact.0 c.if-not-is_key.false).1 c.integer_at-key.ensures c.new_key.ensures
-      (c.in_ok-put_integer.ensures.ok ∙ (ap (λ z. z ++ spell c.new_key.result) c.in_ok-push.ensures.items ∙ append_assoc waited (2 ∷ []) (spell c.new_key.result))) in
+      (c.in_ok-push_var.ensures.ok ∙ (ap (λ z. z ++ spell c.new_key.result) c.in_ok-push.ensures.items ∙ append_assoc waited (2 ∷ []) (spell c.new_key.result))) in
       is_written g.N.NewKeys.keys c.args.context c.args.layout.now.shape c.args.out.now.items waited out passed to c.integer_at-key.result.end c.in_ok-put_waiting.ensures.ok q);
 }

@@ -1,6 +1,0 @@
-use Rattle.std.proofs.Common.{◌++◌, ap, sym, ◌∙◌}
-use Rattle.jfr_renumber.proofs.RewritingLaws.{spell_small}
-use Rattle.jfr_renumber.proofs.rewriting.put_integer.Goals as goal
-
-pub returns-then-value-lt128 : goal.returns-then-value-lt128
-returns-then-value-lt128 c = record { ok = c.in_ok-push.ensures.items ∙ ap (λ z. c.args.out.now.items ++ z) (sym (spell_small c.args.value c.if-value-lt128.true)) }
