@@ -1,5 +1,5 @@
 -- What a build leaves.
-use Rattle.std.specs.Prelude.{◌≡◌, ◌≢◌, ℕ, Bool, IsTrue, List, None}
+use Rattle.std.specs.Prelude.{◌≡◌, ◌≢◌, ℕ, Bool, List, None}
 use Rattle.std.proofs.Common.{refl, sym, subst}
 use Rattle.jfr_outside.specs.World.{World, State, SinkState, IfKnown, file}
 use Rattle.jfr_header.specs.declared.ending.Ending.{Ending}

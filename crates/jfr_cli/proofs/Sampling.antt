@@ -1,21 +1,21 @@
 -- The sample's text on the output sink.
-use Rattle.std.specs.Prelude.{◌≡◌, ◌≢◌, ℕ, List, [], Option, None, Some, Err, encode_utf8_all}
+use Rattle.std.specs.Prelude.{◌≡◌, ◌≢◌, ℕ, List, [], Err, encode_utf8_all}
 use Rattle.std.proofs.Common.{ap, refl}
-use Rattle.jfr_outside.specs.World.{World, State, SinkState, IfKnown, IsAfterAppend, added}
+use Rattle.jfr_outside.specs.World.{State, SinkState, IsAfterAppend, added}
 use Rattle.jfr_outside.specs.Counts.{Counts}
 use Rattle.jfr_outside.specs.declared.fault.Fault.{Fault}
 use Rattle.jfr_outside.specs.declared.fault.Fault.TheVariants as faults
 use Rattle.jfr_header.specs.declared.ending.Ending.{Ending}
 use Rattle.jfr_header.specs.declared.ending.Ending.TheVariants.{Done, Refused, ReadFault, WriteFault, TooManyParts, Memory}
 use Rattle.jfr_header.specs.Endings.{after_write}
-use Rattle.jfr_plan.specs.Ends.{Fine, CommandEnd, Ends, NotWritten, RanOut, command_end}
+use Rattle.jfr_plan.specs.Ends.{CommandEnd, command_end}
 use Rattle.jfr_plan.specs.Effects.{Plan, Write, outside, snapshot, effects}
 use Rattle.jfr_plan.specs.Rules.{Text}
 use Rattle.jfr_plan.specs.Outcomes.{Tallied}
 use Rattle.jfr_report.specs.Demo.{sampled}
 use Rattle.jfr_words.specs.declared.order.Order.TheVariants.{Sample}
 use Rattle.jfr_cli.specs.Texts.{IsWritten}
-use Rattle.jfr_cli.specs.Works.{sample_plan, work_of, IsAfterWork, WorkOutcome, Planned}
+use Rattle.jfr_cli.specs.Works.{sample_plan, work_of, IsAfterWork}
 use Rattle.jfr_cli.specs.Runs.{Carries}
 
 module _ (seed events : ℕ) (a : State) (s z : SinkState) where
