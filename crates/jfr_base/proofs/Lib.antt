@@ -5,7 +5,7 @@ pub mod Ends
 pub mod Exact
 pub mod ExactLaws
 pub mod FormatLaws
-pub mod Found
+mod Found
 pub mod FreeLaws
 pub mod Groups
 pub mod HoldLaws
@@ -15,7 +15,7 @@ pub mod OneAnswer
 pub mod OneInt
 pub mod Ranges
 pub mod ReadLaws
-pub mod Rows
+mod Rows
 pub mod RunLaws
 pub mod FormatEnds
 pub mod Shorts

@@ -1,8 +1,8 @@
 pub mod AnyLaws
-pub mod GlobLaws
-pub mod IndexLaws
+mod GlobLaws
+mod IndexLaws
 pub mod KeepLaws
 pub mod TextsLaws
-pub mod NameLaws
-pub mod Rows
-pub mod SplitLaws
+mod NameLaws
+mod Rows
+mod SplitLaws

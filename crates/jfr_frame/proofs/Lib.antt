@@ -1,8 +1,8 @@
-pub mod FindLaws
+mod FindLaws
 pub mod FramingLaws
-pub mod Reading
+mod Reading
 pub mod RecordLaws
-pub mod Rows
-pub mod StartLaws
-pub mod UsualHeads
+mod Rows
+mod StartLaws
+mod UsualHeads
 pub mod WrittenRecords

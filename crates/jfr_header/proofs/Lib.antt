@@ -1,10 +1,10 @@
-pub mod Clauses
+mod Clauses
 pub mod CutLaws
 pub mod Cutting
-pub mod Grows
-pub mod Judges
+mod Grows
+mod Judges
 pub mod Layouts
 pub mod MadeHeaders
-pub mod Numbers
+mod Numbers
 mod Rows
 pub mod Steps

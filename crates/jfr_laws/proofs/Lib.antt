@@ -8,11 +8,11 @@ pub mod ReadBack
 pub mod Checkpoints
 pub mod Chains
 pub mod Entries
-pub mod Free
+mod Free
 pub mod Copied
 pub mod Metadata
 pub mod Header
-pub mod Front
+mod Front
 pub mod Order
 pub mod OutputRecords
 pub mod Anew
@@ -24,7 +24,7 @@ pub mod Passing
 pub mod Chosen
 pub mod Premises
 pub mod Quiet
-pub mod Kept
+mod Kept
 pub mod Five
 pub mod AnewLaws
 pub mod Suits
@@ -32,23 +32,23 @@ pub mod Anews
 pub mod Assembled
 pub mod Whole
 pub mod Rebuilt
-pub mod Targets
+mod Targets
 pub mod Same
 pub mod Listed
-pub mod Regrouped
-pub mod Rewritten
-pub mod AllOutput
-pub mod Again
-pub mod Reslim
-pub mod SlimAgain
-pub mod Settles
-pub mod Clocks
+mod Regrouped
+mod Rewritten
+mod AllOutput
+mod Again
+mod Reslim
+mod SlimAgain
+mod Settles
+mod Clocks
 pub mod Scrubbed
-pub mod SameTexts
+mod SameTexts
 pub mod Settled
 pub mod ToldLaws
 pub mod Outlines
 pub mod PoolsAlike
 pub mod KeptPairs
 pub mod OnlyKept
-pub mod Itself
+mod Itself

@@ -1,19 +1,19 @@
-pub mod Answered
+mod Answered
 pub mod Bare
-pub mod Bodies
-pub mod Categories
-pub mod ElementsStand
-pub mod FirstValues
-pub mod Judging
-pub mod NamedLaws
-pub mod NameLaws
-pub mod OneDescription
-pub mod Parts
-pub mod Runs
-pub mod Table
+mod Bodies
+mod Categories
+mod ElementsStand
+mod FirstValues
+mod Judging
+mod NamedLaws
+mod NameLaws
+mod OneDescription
+mod Parts
+mod Runs
+mod Table
 pub mod Texts
 pub mod Told
-pub mod WrittenLaws
+mod WrittenLaws
 pub mod ReadBack
 mod Rows
 pub mod Lists
@@ -22,9 +22,9 @@ pub mod SlimClasses
 pub mod Tables
 pub mod SlimLaws
 pub mod StayLaws
-pub mod PutsLaws
-pub mod HeldLaws
-pub mod NewTableLaws
+mod PutsLaws
+mod HeldLaws
+mod NewTableLaws
 pub mod Depths
 pub mod WithinLaws
-pub mod RewriteLaws
+mod RewriteLaws

@@ -1,9 +1,18 @@
 //! The metadata of a chunk: a table of strings, a tree of elements, and the classes that the tree describes
 //! (docs/FORMAT.md, Metadata).
 //!
-//! `read_metadata` reads the metadata record of a chunk, and `write_metadata` writes one. `staying` finds the
-//! classes that a scrubbed chunk needs, and `slim` writes a record with only these. Read `specs/Trees.antt`
-//! first, then `specs/Body.antt` for the body of a record, `specs/Attributes.antt` and
+//! | entry | what it is |
+//! |---|---|
+//! | `read_metadata` | reads the metadata record of a chunk, or returns its first flaw |
+//! | `Metadata` | the contents of a record: its strings, its tree, and the classes that they describe |
+//! | `Element`, `Elements` | an element of the tree, and a list of elements |
+//! | `Pairs` | the attributes of an element |
+//! | `ClassNames` | the strings that name a class and its categories, by `class_names` |
+//! | `staying`, `Ids` | the classes that a scrubbed chunk needs, as a set of ids |
+//! | `slim` | the record with only these |
+//! | `write_metadata`, `metadata_len` | a record of strings and a tree, and its length |
+//!
+//! Read `specs/Trees.antt` first, then `specs/Body.antt` for the body of a record, `specs/Attributes.antt` and
 //! `specs/Described.antt` for the classes that it describes and the flaws, `specs/Written.antt` for the bytes
 //! that are written, and `specs/Stays.antt` and `specs/Slimmed.antt` for the smaller record.
 #![tactic(auto)]

@@ -1,3 +1,3 @@
 pub mod HeldLaws
-pub mod NameLaws
-pub mod ScriptLaws
+mod NameLaws
+mod ScriptLaws

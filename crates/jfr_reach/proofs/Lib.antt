@@ -1,4 +1,4 @@
-pub mod BoundLaws
-pub mod EntryWalk
-pub mod EventWalk
-pub mod KeyLaws
+mod BoundLaws
+mod EntryWalk
+mod EventWalk
+mod KeyLaws

@@ -1,2 +1,2 @@
-pub mod PromiseLaws
+mod PromiseLaws
 pub mod ReceiptLaws

@@ -1,13 +1,13 @@
-pub mod AnswerLaws
-pub mod AsciiLaws
-pub mod DecodingSteps
-pub mod EqualLists
-pub mod IntegerSteps
+mod AnswerLaws
+mod AsciiLaws
+mod DecodingSteps
+mod EqualLists
+mod IntegerSteps
 pub mod KeylessLaws
-pub mod ListSteps
+mod ListSteps
 pub mod ReadSteps
-pub mod Rows
-pub mod ShortUnits
-pub mod SpellLaws
+mod Rows
+mod ShortUnits
+mod SpellLaws
 pub mod StringLaws
-pub mod TopBits
+mod TopBits

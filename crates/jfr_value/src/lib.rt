@@ -1,11 +1,20 @@
 //! The values of classes (docs/FORMAT.md, Values): where they end, their parts, their leaves, and what they
 //! refer to.
 //!
-//! `end_of` and `end_by_layout` return where the value at an offset ends, and `end_visiting` also passes the
-//! value's references to a visitor. `child` is a field or an item of a node, and `target` what the node
-//! itself refers to. `Leaves` gives a node's leaves from left to right, and `visit_targets` all that it
-//! refers to. Read `specs/Values.antt` first, then `specs/Reading.antt`, `specs/Nodes.antt`,
-//! `specs/Leaves.antt` and `specs/Visits.antt`. The laws of values are in `specs/Laws.antt`.
+//! | entry | what it is |
+//! |---|---|
+//! | `Node` | a value in a chunk: its shape and the range of its bytes |
+//! | `child`, `Step` | a field or an item of a node, by a step |
+//! | `target` | the class and the key to which a node itself refers |
+//! | `Leaves`, `Leaf` | the parts of a node without parts of their own, from left to right |
+//! | `visit_targets`, `Visit` | passes all that a node refers to, to a visitor |
+//! | `end_of`, `end_by_layout` | where the value at an offset ends, by its shape or by its layout |
+//! | `end_visiting` | the same, and passes the value's references to a visitor |
+//! | `layout_of`, `item_layout` | the layout of a shape, and of an array's items |
+//! | `Steps` | a count of steps, for contracts only |
+//!
+//! Read `specs/Values.antt` first, then `specs/Reading.antt`, `specs/Nodes.antt`, `specs/Leaves.antt` and
+//! `specs/Visits.antt`. The laws of values are in `specs/Laws.antt`.
 #![tactic(auto)]
 
 mod cursor;

@@ -1,8 +1,8 @@
 pub mod Members
-pub mod Rounds
+mod Rounds
 pub mod SweepLaws
 pub mod Counts
-pub mod ClosureLaws
+mod ClosureLaws
 pub mod PutLaws
 pub mod WalkLaws
 pub mod MarkLaws
