@@ -6,3 +6,4 @@ pub mod TextsLaws
 mod NameLaws
 mod Rows
 mod SplitLaws
+mod OptionLaws

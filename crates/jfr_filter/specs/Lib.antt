@@ -1,4 +1,5 @@
 pub mod Filters
 pub mod Indexes
+pub mod Options
 pub mod Patterns
 pub mod Walks

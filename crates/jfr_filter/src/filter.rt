@@ -1,17 +1,18 @@
 //! A filter: the patterns of eight options, and a time window.
 ghost use Rattle.std.specs.Prelude.{◌≡◌, ◌↔◌, IsTrue, OnOk, OnErr, IsSome, Some, None, Err};
+ghost use Rattle.std.specs.Option.{option_copied};
 ghost use Rattle.std.specs.Str.{chars};
 ghost use Rattle.jfr_base.specs.Texts.{text_in};
 ghost use Rattle.jfr_filter.specs.declared.side.FilterFault.TheVariants.{EmptyPattern};
 ghost use Rattle.jfr_filter.specs.Filters.{nothing_given, given_at, with_patterns, event_matches, category_matches, allows, allows_class, allows_thread, has_window, keeps, some_matches};
 ghost use Rattle.jfr_filter.specs.Patterns.{patterns_in, has_empty_part};
 
-use crate::list::has_empty_part;
 use crate::matching::{any_category, any_event, any_thread};
 use crate::patterns::Patterns;
 use crate::{FilterFault, Side};
 use jfr_base::Words;
 use std::alloc::Global;
+use std::collections::BTreeMap;
 use std::marker::Model;
 
 /// Which events are kept, and which classes are described without events. Contracts see a filter as what each
@@ -19,24 +20,19 @@ use std::marker::Model;
 #[derive(Drop)]
 pub struct Filter {
     alloc: Global,
-    include_events: Option<Patterns>,
-    exclude_events: Option<Patterns>,
-    include_categories: Option<Patterns>,
-    exclude_categories: Option<Patterns>,
-    include_threads: Option<Patterns>,
-    exclude_threads: Option<Patterns>,
+    /// The patterns of each option that has some.
+    patterns: BTreeMap<Side, Patterns>,
     from: Option<i64>,
     to: Option<i64>,
-    always: Option<Patterns>,
-    describe: Option<Patterns>,
 }
 
 impl Model for Filter {
     ghost use Rattle.jfr_filter.specs.Filters.{Given};
+    ghost use Rattle.jfr_filter.specs.Options.{given_of};
 
     ghost Value = { Given };
 
-    ghost view = { λ f. record { include_events = f.include_events; exclude_events = f.exclude_events; include_categories = f.include_categories; exclude_categories = f.exclude_categories; include_threads = f.include_threads; exclude_threads = f.exclude_threads; from = f.from; to = f.to; always = f.always; describe = f.describe } };
+    ghost view = { λ f. given_of f.patterns.entries f.from f.to };
 }
 
 impl Filter {
@@ -46,16 +42,9 @@ impl Filter {
     {
         Filter {
             alloc,
-            include_events: None,
-            exclude_events: None,
-            include_categories: None,
-            exclude_categories: None,
-            include_threads: None,
-            exclude_threads: None,
+            patterns: BTreeMap::new(alloc),
             from: None,
             to: None,
-            always: None,
-            describe: None,
         }
     }
 
@@ -67,19 +56,10 @@ impl Filter {
     }
 
     /// The patterns of an option.
-    fn patterns(&self, side: Side) -> &Option<Patterns>
-        ensures { result.now ≡ given_at side self.now }
+    fn patterns(&self, side: Side) -> Option<&Patterns>
+        ensures { option_copied result ≡ given_at side self.now }
     {
-        match side {
-            Side::IncludeEvents => &self.include_events,
-            Side::ExcludeEvents => &self.exclude_events,
-            Side::IncludeCategories => &self.include_categories,
-            Side::ExcludeCategories => &self.exclude_categories,
-            Side::IncludeThreads => &self.include_threads,
-            Side::ExcludeThreads => &self.exclude_threads,
-            Side::Always => &self.always,
-            Side::Describe => &self.describe,
-        }
+        self.patterns.get(&side)
     }
 
     /// Sets the patterns of an option: the parts of the list between its commas, with nothing trimmed. Fails
@@ -91,20 +71,8 @@ impl Filter {
         ensures refused { (result ≡ Err EmptyPattern) ↔ IsTrue (has_empty_part (chars list.now)) }
         ensures unchanged { OnErr result (self.new ≡ self.old) }
     {
-        if has_empty_part(list) {
-            return Err(FilterFault::EmptyPattern);
-        }
-        let patterns = Some(Patterns::of(self.alloc, list)?);
-        match side {
-            Side::IncludeEvents => self.include_events = patterns,
-            Side::ExcludeEvents => self.exclude_events = patterns,
-            Side::IncludeCategories => self.include_categories = patterns,
-            Side::ExcludeCategories => self.exclude_categories = patterns,
-            Side::IncludeThreads => self.include_threads = patterns,
-            Side::ExcludeThreads => self.exclude_threads = patterns,
-            Side::Always => self.always = patterns,
-            Side::Describe => self.describe = patterns,
-        }
+        let patterns = Patterns::read(self.alloc, list)?;
+        self.patterns.insert(side, patterns)?;
         Ok(())
     }
 
@@ -172,12 +140,12 @@ impl Filter {
     pub fn allows_thread(&self, thread: Option<&str>) -> bool
         ensures { result ≡ allows_thread self.now (text_in thread.entry) }
     {
-        if let Some(patterns) = &self.include_threads
+        if let Some(patterns) = self.patterns(Side::IncludeThreads)
             && !any_thread(patterns, thread)
         {
             return false;
         }
-        if let Some(patterns) = &self.exclude_threads
+        if let Some(patterns) = self.patterns(Side::ExcludeThreads)
             && any_thread(patterns, thread)
         {
             return false;
@@ -208,12 +176,12 @@ impl Filter {
     fn allows_event(&self, name: &str) -> bool
         ensures { result ≡ allows (event_matches (chars name.now)) self.now.include_events self.now.exclude_events }
     {
-        if let Some(patterns) = &self.include_events
+        if let Some(patterns) = self.patterns(Side::IncludeEvents)
             && !any_event(patterns, name)
         {
             return false;
         }
-        if let Some(patterns) = &self.exclude_events
+        if let Some(patterns) = self.patterns(Side::ExcludeEvents)
             && any_event(patterns, name)
         {
             return false;
@@ -225,12 +193,12 @@ impl Filter {
     fn allows_categories(&self, categories: &Words) -> bool
         ensures { result ≡ allows (category_matches categories.now) self.now.include_categories self.now.exclude_categories }
     {
-        if let Some(patterns) = &self.include_categories
+        if let Some(patterns) = self.patterns(Side::IncludeCategories)
             && !any_category(patterns, categories)
         {
             return false;
         }
-        if let Some(patterns) = &self.exclude_categories
+        if let Some(patterns) = self.patterns(Side::ExcludeCategories)
             && any_category(patterns, categories)
         {
             return false;

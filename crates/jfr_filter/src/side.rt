@@ -3,11 +3,12 @@ ghost use Rattle.std.specs.Prelude.{◌≡◌};
 ghost use Rattle.jfr_filter.specs.declared.side.FilterFault.TheVariants.{Memory};
 
 use jfr_base::NoMemory;
+use std::alloc::AllocFailed;
 use thiserror::Error;
 
 /// An option of a filter: what its patterns are matched with, and whether events that match are kept or
 /// dropped.
-#[derive(Clone, Copy, Debug, PartialEq, Eq)]
+#[derive(Clone, Copy, Debug, PartialEq, Eq, PartialOrd, Ord)]
 pub enum Side {
     /// Keeps only the events whose class name or simple name matches.
     IncludeEvents,
@@ -42,6 +43,14 @@ impl From<NoMemory> for FilterFault {
     ghost from_gives = { λ _ fault. fault ≡ Memory };
 
     fn from(_: NoMemory) -> Self {
+        FilterFault::Memory
+    }
+}
+
+impl<T: Drop> From<AllocFailed<T>> for FilterFault {
+    ghost from_gives = { λ _ fault. fault ≡ Memory };
+
+    fn from(_: AllocFailed<T>) -> Self {
         FilterFault::Memory
     }
 }
