@@ -1,5 +1,5 @@
 //! The choice of the events that are kept.
-ghost use Rattle.std.specs.Prelude.{◌≡◌, ◌<◌, get_or, length, replicate, slice_get, slice_set, false, true, IfOk};
+ghost use Rattle.std.specs.Prelude.{◌≡◌, ◌<◌, length, replicate, slice_get, slice_set, unwrap_or, false, true, IfOk};
 ghost use Rattle.std.specs.List.{count_by, list_all};
 
 use jfr_base::NoMemory;
@@ -67,7 +67,7 @@ impl Kept {
     /// Whether there is such an event, and it is kept.
     #[inline]
     pub fn is_kept(&self, at: usize) -> bool
-        ensures { result ≡ get_or self.now at false }
+        ensures { result ≡ unwrap_or (slice_get self.now at) false }
     {
         self.flags.get(at).copied().unwrap_or(false)
     }
