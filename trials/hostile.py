@@ -4,7 +4,8 @@
 The recording is spelled by the rules of docs/FORMAT.md, with all sizes, positions and deltas true unless its kind
 says otherwise. SIZE scales what is large in it, from 0 to 1; without it 1, so that the largest recordings are chunks
 of the greatest size. Writes the recording to OUT and prints nothing; the status is 1 where there is no such kind.
-A kind whose name begins with text_ makes a text for the command `build` instead.
+A kind whose name begins with text_ makes a text for the command `build` instead, and one that begins with patterns_ is
+for long patterns.
 """
 import math
 import struct
@@ -296,6 +297,19 @@ def classes(size):
     many = count(2**20, size)
     described = metadata(lambda of: [class_(of, "t.C%d" % n, 100 + n, event=True) for n in range(many)])
     return chunk(described, b"".join(record(100 + n, b"") for n in range(many)))
+
+
+def patterns_classes(size):
+    """500,000 event classes with names as the JDK's, and an event of each."""
+    many = count(500000, size)
+    described = metadata(lambda of: [class_(of, "jdk.t.C%d" % n, 100 + n, event=True) for n in range(many)])
+    return chunk(described, b"".join(record(100 + n, b"") for n in range(many)))
+
+
+def patterns_name(size):
+    """An event class with a name of a megabyte, and an event."""
+    name = "a" * count(2**20, size)
+    return chunk(metadata(lambda of: [class_(of, name, EVENT, event=True)]), record(EVENT, b""))
 
 
 def same_names(size):
@@ -800,7 +814,7 @@ TEXTS = {make.__name__: make for make in (
 KINDS = {make.__name__: make for make in (
     constants, distinct_constants, events, checkpoints, inert_checkpoints, inert_empty_checkpoints, pools,
     references, array, array_short, strings, elements, attributes, long_key, long_names, alike_fields, classes,
-    same_names, fields, categories, long_categories, long_class_names, alike_classes, inline_32, inline_33,
+    patterns_classes, patterns_name, same_names, fields, categories, long_categories, long_class_names, alike_classes, inline_32, inline_33,
     inline_wide, inline_array, ring, string_ring, fan, chain, thread_name, shared_name, shared_text,
     stacks, long_stack, long_methods, frame_ring, late_names, late_method, equal_constants, alike_constants, equal_megabytes, alike_megabytes,
     chunks,

@@ -6,6 +6,15 @@
 # has to end with status 0, 2, 5 or (verify) 7, in 20 seconds of processor time, and with a peak of at most 20 times the file's size
 # and 64 MB of memory. The seconds are of processor time, since those of the clock depend on what else the machine does.
 #
+# Each run has a stack of 256 KB (STACK, in KB), which docs/jfr.1 says is enough.
+#
+# A kind whose name begins with patterns_ is for the patterns of an option: a list as long as a word can be, without
+# wildcards and with them, and one pattern of 60 KB. Without wildcards the bounds are the usual ones. With them the seconds
+# may grow with the product of the lengths, by 10 nanoseconds for each character of a pattern and each of a name, and by 25
+# for each pattern of one character and each class. At scale 1 these two runs take ten minutes each.
+#
+# `verify` of a recording with itself and its receipt has both chunks in memory, so that its bound is 60 times both files.
+#
 # Of a kind that is a text for `build`, runs that command, which has to end with status 0, 5 or 8, and then `summary` and
 # `scrub` on what it made, which they have to accept. For the text of a million records the bounds of `build` are 2 seconds
 # and 10 times the file's size.
@@ -31,15 +40,18 @@ missed=0
 
 # One run: run LABEL WORD.., with its row.
 run() {
-    local label=$1 clock own system peak status mb bound='' line most=20 times=20
+    local label=$1 clock own system peak status mb bound='' line most=${seconds:-20} times=${memory:-20} limit=${LIMIT:-120}
     shift
+    # A run that may take longer isn't ended before.
+    [ "$limit" -ge $((2 * most)) ] || limit=$((2 * most))
     # shellcheck disable=SC2053 # it is a pattern
     [[ $label == ${ONLY-*} ]] || return 0
     rm -rf "$work/made" "$work/out.jfr"
     mkdir "$work/made"
     (
         ulimit -v "${MEMORY:-6000000}"
-        exec /usr/bin/time -q -o "$work/took" -f '%e %U %S %M' timeout "${LIMIT:-120}" "$program" "$@"
+        ulimit -s "${stack:-${STACK:-256}}"
+        exec /usr/bin/time -q -o "$work/took" -f '%e %U %S %M' timeout "$limit" "$program" "$@"
     ) >/dev/null 2>"$work/said"
     status=$?
     ended=$status
@@ -51,7 +63,7 @@ run() {
         0) ;;
         # A recording that `build` made is accepted.
         2) [[ $kind != text_* ]] || bound="$bound status" ;;
-        7) [ "$label" = verify ] || bound="$bound status" ;;
+        7) [[ $label == verify* ]] || bound="$bound status" ;;
         8) [ "$label" = build ] || bound="$bound status" ;;
         5) lacking=$((lacking + 1)) ;;
         *) bound="$bound status" ;;
@@ -62,6 +74,36 @@ run() {
     echo "| $kind | $size | $label | $status | $clock | $own | $mb | $(awk "BEGIN { printf \"%.1f\", $peak * 1024 / $size }") | ${line% } | ${bound# } |"
     runs=$((runs + 1))
     [ -z "$bound" ] || missed=$((missed + 1))
+}
+
+# so_many COUNT: that many at this scale, and at least two.
+so_many() { awk "BEGIN { n = int($1 * $scale); print n < 2 ? 2 : n }"; }
+
+# repeated TEXT COUNT: the text so many times.
+repeated() { yes "$1" | head -n "$2" | tr -d '\n'; }
+
+# The runs of a kind for patterns. A list of patterns may be longer than what a stack of 256 KB leaves for words.
+patterns() {
+    local stack=8192 many length list
+    if [ "$kind" = patterns_classes ]; then
+        many=$(so_many 65535)
+        list=$(repeated 'a,' "$many")b
+        run 'scrub, exact' scrub --include-events "${list:2}" "$file" "$work/out.jfr"
+        list=$(seq -s , -f 'jdk.t.C%.0f' "$(so_many 10000)")
+        run 'scrub, names' scrub --include-events "$list" "$file" "$work/out.jfr"
+        list=$(repeated '?,' "$many")b
+        seconds=$(awk "BEGIN { print 20 + int($many * $(so_many 500000) * 25e-9) }") \
+            run 'scrub, wildcards' scrub --include-events "${list:2}" "$file" "$work/out.jfr"
+    else
+        length=$(so_many 61440)
+        list=$(repeated a "$length")
+        run 'scrub, exact' scrub --include-events "$list" "$file" "$work/out.jfr"
+        # The name and what follows its last dot are compared, here twice the same.
+        seconds=$(awk "BEGIN { print 20 + int(2 * $length * $(so_many 1048576) * 10e-9) }") \
+            run 'scrub, wildcards' scrub --include-events "*${list}b" "$file" "$work/out.jfr"
+        list=$(repeated '*a' "$((length / 2))")
+        run 'scrub, stars' scrub --include-events "${list}b" "$file" "$work/out.jfr"
+    fi
 }
 
 echo "| kind | bytes | command | status | seconds | of processor | peak MB | times | said | missed |"
@@ -82,6 +124,11 @@ for kind in "${kinds[@]}"; do
         rm -f "$file"
         continue
     fi
+    if [[ $kind == patterns_* ]]; then
+        patterns
+        rm -f "$file"
+        continue
+    fi
     run summary summary "$file"
     run metadata metadata "$file"
     run print print "$file"
@@ -92,6 +139,7 @@ for kind in "${kinds[@]}"; do
     mv "$work/out.jfr" "$work/scrubbed.jfr" 2>/dev/null
     run receipt receipt "$file" "$work/receipt"
     [ ! -e "$work/scrubbed.jfr" ] || run verify verify "$file" "$work/scrubbed.jfr" "$work/receipt"
+    [ ! -e "$work/receipt" ] || memory=120 run 'verify, itself' verify "$file" "$file" "$work/receipt"
     rm -f "$work/scrubbed.jfr" "$work/receipt"
     run 'scrub, new keys' scrub --renumber yes "$file" "$work/out.jfr"
     run 'scrub, threads' scrub --include-threads '*a*a*a*b,*a*a*a*c' "$file" "$work/out.jfr"
