@@ -11,7 +11,7 @@
 # A kind whose name begins with patterns_ is for the patterns of an option: a list as long as a word can be, without
 # wildcards and with them, and one pattern of 60 KB. Without wildcards the bounds are the usual ones. With them the seconds
 # may grow with the product of the lengths, by 10 nanoseconds for each character of a pattern and each of a name, and by 25
-# for each pattern of one character and each class. At scale 1 these two runs take ten minutes each.
+# for each pattern of one character and each class. By smaller scales, these two runs take ten minutes each at scale 1.
 #
 # `verify` of a recording with itself and its receipt has both chunks in memory, so that its bound is 60 times both files.
 #
