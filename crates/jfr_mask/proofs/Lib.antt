@@ -6,13 +6,17 @@ mod FieldLaws
 mod HeadlineLaws
 mod ItselfLaws
 mod KnownLaws
+mod LeafReferences
 mod MapLaws
+mod MarkedRest
 mod MaskLaws
 mod NumberLaws
 mod OneToOnes
+mod PuttingRest
 mod ReachBut
 mod Remains
 mod Rows
 mod SecrecyLaws
 mod ShownLaws
 mod TextLaws
+mod WalkBut

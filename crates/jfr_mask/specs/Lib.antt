@@ -6,5 +6,6 @@ pub mod MaskOf
 pub mod Masked
 pub mod Pseudonyms
 pub mod ReachBut
+pub mod Reaching
 pub mod Secrecy
 pub mod Written

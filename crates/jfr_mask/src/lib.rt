@@ -35,8 +35,11 @@
 mod chunk_laws;
 mod dictionary;
 mod fields;
+mod holders;
 mod known;
 pub mod laws;
+mod left;
+mod references;
 mod shown;
 
 pub use chunk_laws::{
