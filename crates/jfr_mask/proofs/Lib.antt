@@ -12,6 +12,7 @@ mod MarkedRest
 mod MaskLaws
 mod NumberLaws
 mod OneToOnes
+mod PlainLaws
 mod PuttingRest
 mod ReachBut
 mod Remains

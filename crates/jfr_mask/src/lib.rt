@@ -39,6 +39,7 @@ mod holders;
 mod known;
 pub mod laws;
 mod left;
+mod plain;
 mod references;
 mod shown;
 
