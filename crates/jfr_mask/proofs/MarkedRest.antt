@@ -1,8 +1,14 @@
 -- The marked members of a list, from a place on.
-use Rattle.std.specs.Prelude.{◌≡◌, ℕ, zero, suc, ◌+◌, ◌<◌, Bool, true, false, List, [], ◌∷◌, ◌++◌, drop, length, None, Some, option_to_list, slice_get, unwrap_or, if◌then◌else◌}
+use Rattle.std.specs.Prelude.{◌≡◌, ℕ, zero, suc, ◌+◌, ◌<◌, Bool, true, false, List, [], ◌∷◌, ◌++◌, drop, get_or, length, None, Some, option_to_list, slice_get, unwrap_or, if◌then◌else◌}
 use Rattle.std.proofs.Common.{ap, append_assoc, arith, refl, sym, ◌∙◌}
 use Rattle.jfr_chunk.specs.Reach.{marked}
 use Rattle.jfr_mask.specs.Reaching.{marked_get}
+
+-- A mark, which is false past the end.
+pub mark_at : (flags : List Bool) (i : ℕ) → get_or flags i false ≡ unwrap_or (slice_get flags i) false
+mark_at [] i = refl
+mark_at (b ∷ flags) zero = refl
+mark_at (b ∷ flags) (suc i) = mark_at flags i
 
 -- The member with a number, by its mark.
 pub get_unmarked : {X : Type 0} (flags : List Bool) (xs : List X) (i : ℕ) → unwrap_or (slice_get flags i) false ≡ false → marked_get flags xs i ≡ None

@@ -1,12 +1,12 @@
 -- The values of plain classes have no masked string, so masking changes nothing in them.
-use Rattle.std.specs.Prelude.{◌≡◌, ◌==◌, ◌≤◌, ⊤, ℕ, zero, suc, ◌+◌, ◌<◌, ◌&&◌, ◌⊎◌, Bool, true, false, List, [], ◌∷◌, length, map, replicate, slice_get, nat_lt, Option, Some, None, IfSome, if◌then◌else◌}
+use Rattle.std.specs.Prelude.{◌≡◌, ◌==◌, ◌≤◌, ⊤, ℕ, zero, suc, ◌+◌, ◌<◌, ◌&&◌, ◌⊎◌, Bool, true, false, List, [], ◌∷◌, ◌++◌, length, map, replicate, slice_get, Option, Some, None, IfSome, if◌then◌else◌}
 use Rattle.std.specs.List.{AllByRecursion, position_or_len}
 use Rattle.std.specs.Option.{option_map, option_map_or}
 use Rattle.std.proofs.Common.{ap, arith, cond, refl, sym, ◌∙◌, subst, inl, inr}
 use Rattle.std.proofs.lemmas.Bool.{cases_lt, lt-ltb}
 use Rattle.std.proofs.lemmas.List.Folds.{find_at}
 use Rattle.std.proofs.lemmas.Option.{slice_get_within}
-use Rattle.jfr_layout.specs.Classes.{AreFieldLayouts, Class, Classes, Field, IsFieldLayout, class_index, find_class, item_of, kind_of}
+use Rattle.jfr_layout.specs.Classes.{AreFieldLayouts, Class, Classes, Field, IsFieldLayout, Sound, class_index, find_class, item_of, kind_of}
 use Rattle.jfr_layout.specs.declared.field_layout.FieldLayout.{FieldLayout}
 use Rattle.jfr_layout.specs.declared.kind.Kind.{Kind}
 use Rattle.jfr_layout.specs.declared.kind.Kind.TheVariants as kinds
@@ -15,11 +15,14 @@ use Rattle.jfr_value.specs.declared.leaf.Holder.{Holder}
 use Rattle.jfr_value.specs.declared.leaf.LeafKind.{LeafKind}
 use Rattle.jfr_value.specs.Values.{Value, Values, Single, Group, Nil, Cons, Fits, AllFit, IsHead, IsSingle, shape_of, shapes_of, targets_of}
 use Rattle.jfr_value.specs.Leaves.{part_holder}
+use Rattle.jfr_value.specs.Nodes.{IsNode, NodeAt, targets, value_of}
+use Rattle.jfr_value.proofs.NodeLaws.{value_is}
+use Rattle.jfr_chunk.specs.Parts.{Parts}
 use Rattle.jfr_rewrite.specs.Changed.{Change, Plain, changed, changed_all, plain, single_of}
 use Rattle.jfr_mask.specs.Fields.{Masks, is_masked_field, is_text}
-use Rattle.jfr_mask.specs.Masked.{is_held_masked, is_masked_string, is_string_leaf}
+use Rattle.jfr_mask.specs.Masked.{is_held_masked, is_masked_string, is_string_leaf, masked_texts, masked_texts_all, masking, numbered_text, string_bytes, string_text}
 use Rattle.jfr_mask.specs.Plain.{ArePlain, ClassIsPlain, FieldIsPlain, HasNoMasked, HaveNoMasked, IsPlain, LayoutIsPlain}
-use Rattle.jfr_mask.specs.ReachBut.{targets_but, unkeyed}
+use Rattle.jfr_mask.specs.ReachBut.{node_targets_but, targets_but, unkeyed}
 
 -- What holds of all numbers before one, and of it, holds of all before the next.
 pub below_next : (P : ℕ → Type 0) (n : ℕ) → ((i : ℕ) → i < n → P i) → P n → (i : ℕ) → i < n + 1 → P i
@@ -51,7 +54,7 @@ module _ (masks : Masks) (k : Classes) (flags : List Bool) where
     (p (ap (λ (z : Shape). z.constant) e ∙ nc)).0,
     λ d m found composite at.
         (let kind : Some (kind_of d.name) ≡ Some s.kind =
-            sym (ap (option_map (λ (c : Class). kind_of c.name)) (ap (λ (z : Shape). find_class k z.class) e ∙ found)) ∙ l.kind in
+        sym (ap (option_map (λ (c : Class). kind_of c.name)) (ap (λ (z : Shape). find_class k z.class) e ∙ found)) ∙ l.kind in
         let same : kind_of d.name ≡ s.kind = cc in
         let place : Some s.class_index ≡ Some m = sym l.class_index ∙ (ap (λ (z : Shape). class_index k z.class) e ∙ at) in
         let there : s.class_index ≡ m = cc in
@@ -163,3 +166,34 @@ module _ (masked : Option Holder → Bool) (ch : Change) (stays : (h : Option Ho
 pub plain_targets : (masked : Option Holder → Bool) (h : Option Holder) (v : Value) → HasNoMasked masked h v → targets_but (is_masked_string masked) h v ≡ targets_of v
 plain_targets masked h v p =
     ap targets_of (plain_unchanged masked (unkeyed (is_masked_string masked)) (λ h s x e. ap (λ b. if b then plain x.kind x.bytes None else x) e) h v p)
+
+-- Masking changes nothing in it.
+pub plain_masked : (masked : Option Holder → Bool) (show : List ℕ → List ℕ) (p : Parts) (h : Option Holder) (v : Value) → HasNoMasked masked h v → changed (masking masked show p) h v ≡ v
+plain_masked masked show p h v q =
+    plain_unchanged masked (masking masked show p) (λ h s x e. ap (λ b. if b then plain x.kind (string_bytes (option_map show (string_text p s.class x.bytes x.key))) None else x) e) h v q
+
+-- It has no texts for the dictionary.
+mutual
+  pub plain_texts : (masked : Option Holder → Bool) (known : List ℕ → Bool) (p : Parts) (h : Option Holder) (v : Value) → HasNoMasked masked h v → masked_texts masked known p h v ≡ []
+  plain_texts masked known p h (Single s kind b key) q = ap (λ t. if t then numbered_text known (string_text p s.class b key) else []) q
+  plain_texts masked known p h (Group s head vs) q = no_texts masked known p (part_holder s h) vs q
+
+  no_texts : (masked : Option Holder → Bool) (known : List ℕ → Bool) (p : Parts) (f : ℕ → Option Holder) (vs : Values) → HaveNoMasked masked f vs → masked_texts_all masked known p f vs ≡ []
+  no_texts masked known p f Nil q = refl
+  no_texts masked known p f (Cons v vs) q =
+      ap (λ z. z ++ masked_texts_all masked known p (λ n. f (suc n)) vs) (plain_texts masked known p (f zero) v q.0) ∙ no_texts masked known p (λ n. f (suc n)) vs q.1
+
+-- What the node of a value of a plain class refers to, when masked strings don't count, is all that it refers to.
+pub node_plain : (p : Parts) (masks : Masks) (flags : List Bool) (n : NodeAt) (v : Value) (m : ℕ) → Sound p.classes → ArePlain masks p.classes flags → IsNode p.classes p.bytes n v
+    → class_index p.classes n.shape.class ≡ Some m → IsPlain flags m → node_targets_but (is_masked_string (is_held_masked masks p.classes)) p n ≡ targets p.classes p.bytes n
+node_plain p masks flags n v m sound right i at f =
+    let e : value_of p.classes p.bytes n ≡ Some v = value_is p.classes p.bytes n v sound i in
+    ap (λ o. option_map_or (targets_but (is_masked_string (is_held_masked masks p.classes)) None) o []) e
+    ∙ (plain_targets (is_held_masked masks p.classes) None v (class_plain masks p.classes flags right n.shape m v i.fits i.shape at f) ∙ sym (ap (λ o. option_map_or targets_of o []) e))
+
+-- The same, by what is known of the node of the code.
+pub known_plain : (p : Parts) (masks : Masks) (flags : List Bool) (k : Classes) (b : List ℕ) (n : NodeAt) → Sound p.classes → ArePlain masks p.classes flags → k ≡ p.classes → b ≡ p.bytes
+    → (v : Value) × IsNode p.classes b n v → (m : ℕ) × (class_index k n.shape.class ≡ Some m) × IsPlain flags m → targets k b n ≡ node_targets_but (is_masked_string (is_held_masked masks p.classes)) p n
+known_plain p masks flags k b n sound right e q v x =
+    ap (λ z. targets z b n) e ∙ (ap (λ z. targets p.classes z n) q
+    ∙ sym (node_plain p masks flags n v.0 x.0 sound right (subst (λ z. IsNode p.classes z n v.0) q v.1) (sym (ap (λ z. class_index z n.shape.class) e) ∙ x.1) x.2))

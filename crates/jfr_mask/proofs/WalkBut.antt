@@ -1,8 +1,10 @@
 -- The walk over the entries that the kept events reach by paths that go no further where Follow stops.
-use Rattle.std.specs.Prelude.{◌≡◌, ℕ, ◌+◌, ◌<◌, ◌≤◌, Bool, false, List, [], ◌++◌, drop, length, replicate, slice_get, slice_index, option_to_list}
-use Rattle.std.specs.List.{flat_map}
+use Rattle.std.specs.Prelude.{◌≡◌, ℕ, ◌+◌, ◌<◌, ◌≤◌, All, Bool, false, List, [], ◌∷◌, ◌++◌, drop, length, replicate, slice_get, slice_index, Option, Some, option_to_list}
+use Rattle.std.specs.List.{AllByRecursion, flat_map}
 use Rattle.std.specs.Option.{option_map_or}
-use Rattle.std.proofs.Common.{ap, arith, sym, ◌∙◌}
+use Rattle.std.proofs.Common.{ap, append-nil, arith, inl, inr, refl, sym, subst, ◌∙◌}
+use Rattle.std.proofs.lemmas.List.Elements.{All-from_recursion}
+use Rattle.jfr_worklist.specs.Members.{In}
 use Rattle.std.proofs.lemmas.Grind.{flat_map-append}
 use Rattle.std.proofs.lemmas.List.{length-replicate}
 use Rattle.jfr_worklist.specs.Marks.{marked_at, swept, those}
@@ -46,6 +48,18 @@ module _ (stops : Stops) (p : Parts) where
   -- Numbers in force are those of entries.
   below : (ts : List (ℕ × ℕ)) → AllBelow (length p.entries) (those (number_in_force p.entries) ts)
   below ts i j = let t = in_those (number_in_force p.entries) ts i j in force_within p.entries t.0 i t.2
+
+  -- So are those to which a node refers.
+  pub numbers_below : (ts : List (ℕ × ℕ)) (xs : List ℕ) (n : ℕ) → xs ≡ those (number_in_force p.entries) ts → n ≡ length p.entries → All (λ x. x < n) xs
+  numbers_below ts xs n e l = All-from_recursion (λ x. x < n) xs (each xs (λ i j. (let b = below ts i (subst (λ z. In z i) e j) in omega (arith, b, l))))
+    where
+      each : (xs : List ℕ) → AllBelow n xs → AllByRecursion (λ x. x < n) xs
+      each [] b = tt
+      each (x ∷ xs) b = (b x (inl refl), each xs (λ i j. b i (inr j)))
+
+  -- The entries to which an event refers are those to which a list with this event does.
+  pub event_roots : (o : Option EventAt) (e : EventAt) → Some e ≡ o → those (number_in_force p.entries) (node_targets_but stops p e.node) ≡ roots_but stops p (option_to_list o)
+  event_roots o e q = sym (ap (those (number_in_force p.entries)) (append-nil (event_targets e))) ∙ ap (λ o. roots_but stops p (option_to_list o)) q
 
   next_below : (j : ℕ) → AllBelow (length p.entries) (next_but stops p j)
   next_below j = below (option_map_or (λ e. node_targets_but stops p (entry_node e)) (slice_get p.entries j) [])

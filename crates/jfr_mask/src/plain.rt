@@ -1,9 +1,11 @@
 //! Classes whose values have no masked string. Most classes are plain, and their values needn't be searched.
 ghost use Rattle.std.specs.Prelude.{◌≡◌, ◌<◌, ℕ, false, get_or, length, slice_get, Some, IfOk, IfSome, IsTrue};
 ghost use Rattle.jfr_layout.specs.declared.field_layout.FieldLayout.{FieldLayout};
-ghost use Rattle.jfr_mask.specs.Plain.{ArePlain, ClassIsPlain, IsRightAt, LayoutIsPlain};
+ghost use Rattle.jfr_layout.specs.Classes.{class_index};
+ghost use Rattle.jfr_mask.specs.Plain.{ArePlain, ClassIsPlain, IsPlain, IsRightAt, LayoutIsPlain};
 
 use crate::MaskedFields;
+use crate::fields::flag_at;
 use jfr_base::NoMemory;
 use jfr_layout::{Classes, FieldLayout, Kind};
 use std::alloc::Global;
@@ -47,15 +49,15 @@ impl PlainClasses {
     {
         flag_at(self.flags.as_slice(), index)
     }
-}
 
-// The flag with this index; false past the end.
-fn flag_at(flags: &[bool], at: usize) -> bool
-    ensures { result ≡ get_or flags.now at false }
-{
-    match flags.get(at) {
-        Some(flag) => *flag,
-        None => false,
+    /// Whether this is the id of a class whose values have no masked string.
+    pub(crate) fn has_id(&self, classes: &Classes, id: u64) -> bool
+        ensures { IsTrue result → (index : ℕ) × (class_index classes.now id ≡ Some index) × IsPlain self.now.flags.items index }
+    {
+        match classes.index_of(id) {
+            Some(index) => self.is_plain(index),
+            None => false,
+        }
     }
 }
 
@@ -87,7 +89,7 @@ fn clear_round(flags: &mut Vec<bool>, masked: &MaskedFields, classes: &Classes)
     ensures { length flags.new.items ≡ length flags.old.items }
 {
     for index in 0..classes.len() {
-        if !is_plain_class(flags.as_slice(), masked, classes, index) {
+        if !is_right_at(flags.as_slice(), masked, classes, index) {
             clear(flags, index);
         }
     }
@@ -103,12 +105,7 @@ fn clear(flags: &mut Vec<bool>, index: usize)
 }
 
 // Whether the class with this index is plain, by the flags of the classes of its fields.
-fn is_plain_class(
-    flags: &[bool],
-    masked: &MaskedFields,
-    classes: &Classes,
-    index: usize,
-) -> bool
+fn is_plain_class(flags: &[bool], masked: &MaskedFields, classes: &Classes, index: usize) -> bool
     requires { index < length classes.now }
     ensures { IsTrue result → IfSome (slice_get classes.now index) (ClassIsPlain masked.now classes.now flags.now index) }
 {

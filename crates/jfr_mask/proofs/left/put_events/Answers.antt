@@ -7,8 +7,8 @@ use Rattle.jfr_mask.proofs.PuttingRest.{rests_size}
 use Rattle.jfr_mask.proofs.WalkBut.{events_next}
 use Rattle.jfr_mask.proofs.left.put_events.Goals as goal
 
-pub put_event-requires-clause-size : goal.put_event-requires-clause-size
-put_event-requires-clause-size c =
+pub put_if_kept-requires-clause-size : goal.put_if_kept-requires-clause-size
+put_if_kept-requires-clause-size c =
     let p = c.args.chunk.now in
     let keep = c.args.kept.now in
     let stops = is_masked_string (is_held_masked c.args.masked.now p.classes) in
@@ -16,5 +16,5 @@ put_event-requires-clause-size c =
 
 pub loop-number-preserved : goal.loop-number-preserved
 loop-number-preserved c =
-    events_next (is_masked_string (is_held_masked c.args.masked.now c.args.chunk.now.classes)) c.args.chunk.now c.args.kept.now c.loop-number.number c.args.list.now c.loop-number.list c.put_event.new.list
-    (omega (arith, c.loop-number-test.true, c.len-number-end.ensures)) c.loop-number.invariant c.put_event.ensures
+    events_next (is_masked_string (is_held_masked c.args.masked.now c.args.chunk.now.classes)) c.args.chunk.now c.args.kept.now c.loop-number.number c.args.list.now c.loop-number.list c.put_if_kept.new.list
+    (omega (arith, c.loop-number-test.true, c.len-number-end.ensures)) c.loop-number.invariant c.put_if_kept.ensures

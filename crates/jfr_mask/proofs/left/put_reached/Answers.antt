@@ -11,10 +11,10 @@ use Rattle.jfr_mask.proofs.left.put_reached.Goals as goal
 pub loop-next-init : goal.loop-next-init
 loop-next-init c =
     let p = c.args.chunk.now in
-    let n : marked_count c.args.list.now.flags.items ≡ 0 = ap marked_count c.requires ∙ count_none (length p.entries) in
+    let n : marked_count c.args.list.now.flags.items ≡ 0 = ap marked_count c.requires.fresh ∙ count_none (length p.entries) in
     let a : vec_len c.args.list.now.order ≡ marked_count c.args.list.now.flags.items = c.args.list.now.each in
     let o : c.args.list.now.order.items ≡ [] = nil_from_length c.args.list.now.order.items (omega arith) in
-    going_starts (is_masked_string (is_held_masked c.args.masked.now p.classes)) p (kept_by p c.args.kept.now) c.args.list.now c.put_events.new.list c.requires o c.put_events.ensures
+    going_starts (is_masked_string (is_held_masked c.args.masked.now p.classes)) p (kept_by p c.args.kept.now) c.args.list.now c.put_events.new.list c.requires.fresh o c.put_events.ensures
 
 pub loop-next-smaller : goal.loop-next-smaller
 loop-next-smaller c =

@@ -1,33 +1,20 @@
-use Rattle.std.proofs.Common.{◌≡◌, ap, subst, sym, ◌∙◌}
-use Rattle.std.specs.List.{AllByRecursion, filter_map}
+use Rattle.std.proofs.Common.{◌∙◌, ap, subst, sym}
+use Rattle.jfr_value.specs.Nodes.{node_of, targets}
 use Rattle.jfr_pool.specs.Entries.{number_in_force}
-use Rattle.jfr_value.specs.Leaves.{leaves}
-use Rattle.jfr_value.specs.Nodes.{IsNode, node_of}
 use Rattle.jfr_worklist.specs.Marks.{those}
-use Rattle.jfr_mask.specs.Masked.{is_held_masked, is_masked_string}
-use Rattle.jfr_mask.specs.ReachBut.{node_targets_but}
-use Rattle.jfr_mask.specs.Reaching.{KeyIsSpelled, target_left}
-use Rattle.jfr_mask.proofs.LeafReferences.{node_left, node_spelled}
-use Rattle.jfr_mask.proofs.PuttingRest.{rests_all, rests_size}
+use Rattle.jfr_worklist.specs.Putting.{Puts}
+use Rattle.jfr_worklist.proofs.PuttingLaws.{puts_none, puts_then}
+use Rattle.jfr_chunk.proofs.RootLaws.{takes_those}
+use Rattle.jfr_mask.proofs.PlainLaws.{known_plain}
 use Rattle.jfr_mask.proofs.references.put_value.Goals as goal
 
-pub loop-leaf-init : goal.loop-leaf-init
-loop-leaf-init c =
+pub returns-then-has_id : goal.returns-then-has_id
+returns-then-has_id c =
     let p = c.args.chunk.now in
     let n = node_of c.args.node in
-    let v = c.requires.value in
-    let i : IsNode p.classes p.bytes n v.0 = subst (λ b. IsNode p.classes b n v.0) c.requires.bytes v.1 in
-    let masked = is_held_masked c.args.masked.now p.classes in
-    let e : c.new-leaves.result ≡ leaves p.classes p.bytes n = c.new-leaves.ensures ∙ (ap (λ k. leaves k c.args.node.bytes.now n) c.classes.ensures ∙ ap (λ b. leaves p.classes b n) c.requires.bytes) in
-    record {
-      spelled = subst (AllByRecursion KeyIsSpelled) (sym e) (node_spelled p c.requires.sound n v.0 i);
-      rests = rests_all (those (number_in_force p.entries) (node_targets_but (is_masked_string masked) p n)) (those (number_in_force p.entries) (filter_map (target_left masked) c.new-leaves.result)) c.args.list.now
-          (ap (those (number_in_force p.entries)) (ap (filter_map (target_left masked)) e ∙ node_left p c.requires.sound n v.0 i masked));
-    }
-
-pub put_leaf-requires-clause-size : goal.put_leaf-requires-clause-size
-put_leaf-requires-clause-size c =
-    let p = c.args.chunk.now in
-    let masked = is_held_masked c.args.masked.now p.classes in
-    rests_size (those (number_in_force p.entries) (node_targets_but (is_masked_string masked) p (node_of c.args.node))) (those (number_in_force p.entries) (filter_map (target_left masked) c.loop-leaf.leaves)) c.args.list.now c.loop-leaf.list c.loop-leaf.invariant.rests
-    ∙ c.requires.size
+    let b = c.args.node.bytes.now in
+    let k = c.classes-then-has_id.result.now in
+    let puts = takes_those Puts puts_none puts_then (number_in_force c.pools.result.now) (targets k b n) c.args.list.now c.visit_targets.new.visitor c.visit_targets.ensures.exact in
+    let all = ap (λ z. targets z b n) (c.classes-then-has_id.ensures ∙ sym c.classes.ensures)
+    ∙ known_plain p c.args.masked.now c.args.plain.now.flags.items c.classes.result.now b n c.requires.sound c.requires.plain c.classes.ensures c.requires.bytes c.requires.value (c.has_id.ensures c.if-has_id.true) in
+    subst (λ z. Puts z c.args.list.now c.visit_targets.new.visitor) (ap (λ es. those (number_in_force es) (targets k b n)) c.pools.ensures ∙ ap (those (number_in_force p.entries)) all) puts

@@ -7,7 +7,7 @@ use Rattle.jfr_mask.specs.Masked.{is_held_masked, is_masked_string}
 use Rattle.jfr_mask.specs.ReachBut.{node_targets_but}
 use Rattle.jfr_mask.specs.Reaching.{KeyIsSpelled, target_left}
 use Rattle.jfr_mask.proofs.PuttingRest.{Rests}
-use Rattle.jfr_mask.proofs.references.put_value.Given as goal
+use Rattle.jfr_mask.proofs.references.put_leaves.Given as goal
 
 -- What the leaves that are left refer to is left to put.
 abbrev pub invariant-loop-leaf : goal.invariant-loop-leaf
