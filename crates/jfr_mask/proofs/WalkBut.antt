@@ -3,11 +3,11 @@ use Rattle.std.specs.Prelude.{◌≡◌, ℕ, ◌+◌, ◌<◌, ◌≤◌, All, 
 use Rattle.std.specs.List.{AllByRecursion, flat_map}
 use Rattle.std.specs.Option.{option_map_or}
 use Rattle.std.proofs.Common.{ap, append-nil, arith, inl, inr, refl, sym, subst, ◌∙◌}
-use Rattle.std.proofs.lemmas.List.Elements.{All-from_recursion}
-use Rattle.jfr_worklist.specs.Members.{In}
 use Rattle.std.proofs.lemmas.Grind.{flat_map-append}
 use Rattle.std.proofs.lemmas.List.{length-replicate}
+use Rattle.std.proofs.lemmas.List.Elements.{All-from_recursion}
 use Rattle.jfr_worklist.specs.Marks.{marked_at, swept, those}
+use Rattle.jfr_worklist.specs.Members.{In}
 use Rattle.jfr_worklist.specs.Putting.{Puts}
 use Rattle.jfr_worklist.specs.Worklists.{ordered_all}
 use Rattle.jfr_worklist.specs.declared.worklist.Worklist.{Worklist}

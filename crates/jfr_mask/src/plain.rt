@@ -10,7 +10,8 @@ use jfr_base::NoMemory;
 use jfr_layout::{Classes, FieldLayout, Kind};
 use std::alloc::Global;
 
-// Classes nest inline at most 32 deep, so the flags are right after this many rounds.
+// The flags are right after at most 33 rounds, since a class begins no chain of more than 32 inline steps, and they are
+// looked at before each round.
 const ROUNDS: usize = 34;
 
 /// For each class, whether its values have no masked string: a flag for each index.
@@ -31,13 +32,13 @@ impl PlainClasses {
     {
         let mut flags = Vec::new(alloc);
         flags.resize(classes.len(), true)?;
-        'rounds: for _ in 0..ROUNDS {
+        for _ in 0..ROUNDS {
             if are_right(flags.as_slice(), masked, classes) {
                 return Ok(PlainClasses { flags });
             }
             clear_round(&mut flags, masked, classes);
         }
-        // No class is plain: this is right in any case.
+        // Not reached in practice. That no class is plain is right in any case.
         Ok(PlainClasses {
             flags: Vec::new(alloc),
         })
