@@ -4,7 +4,9 @@ pub mod Held
 pub mod Laws
 pub mod MaskOf
 pub mod Masked
+pub mod Plain
 pub mod Pseudonyms
 pub mod ReachBut
+pub mod Reaching
 pub mod Secrecy
 pub mod Written

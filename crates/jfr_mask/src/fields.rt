@@ -72,8 +72,8 @@ impl MaskedFields {
     }
 }
 
-// The flag with this index; false past the end.
-fn flag_at(flags: &[bool], at: usize) -> bool
+/// The flag with this index; false past the end.
+pub(crate) fn flag_at(flags: &[bool], at: usize) -> bool
     ensures { result ≡ get_or flags.now at false }
 {
     match flags.get(at) {

@@ -35,8 +35,12 @@
 mod chunk_laws;
 mod dictionary;
 mod fields;
+mod holders;
 mod known;
 pub mod laws;
+mod left;
+mod plain;
+mod references;
 mod shown;
 
 pub use chunk_laws::{

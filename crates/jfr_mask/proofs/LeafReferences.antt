@@ -1,0 +1,152 @@
+-- What a value refers to, except by its masked strings, by its leaves.
+use Rattle.std.specs.Prelude.{◌≡◌, ◌&&◌, ℕ, zero, suc, ◌+◌, Bool, true, false, List, [], ◌∷◌, ◌++◌, ◌<◌, length, slice_index, slice_range, take, Option, None, Some, option_map, option_to_list, if◌then◌else◌}
+use Rattle.std.specs.List.{AllByRecursion, cons_option, filter_map}
+use Rattle.std.specs.Option.{option_map_or}
+use Rattle.std.proofs.Common.{ap, arith, refl, sym, ◌∙◌, subst, inl, inr}
+use Rattle.std.proofs.lemmas.List.{take_all}
+use Rattle.std.proofs.lemmas.List.Elements.{filter_map-append}
+use Rattle.jfr_base.specs.Integer.{IntAt, IsSpellingWithin, Spells, worth_within}
+use Rattle.jfr_base.proofs.OneInt.{int_one}
+use Rattle.jfr_worklist.specs.Marks.{those}
+use Rattle.jfr_worklist.proofs.Members.{those_append}
+use Rattle.jfr_text.specs.Strings.{IsString}
+use Rattle.jfr_text.specs.Strings as strings
+use Rattle.jfr_layout.specs.Classes.{Classes, Sound, kind_of}
+use Rattle.jfr_layout.specs.declared.kind.Kind.TheVariants as kinds
+use Rattle.jfr_layout.specs.declared.shape.Shape.{Shape}
+use Rattle.jfr_value.specs.declared.leaf.Holder.{Holder}
+use Rattle.jfr_value.specs.declared.leaf.LeafKind.{LeafKind}
+use Rattle.jfr_value.specs.declared.leaf.LeafKind.TheVariants as leaf_kinds
+use Rattle.jfr_value.specs.Values.{Value, Values, Single, Group, Nil, Cons, bytes_of, targets_of, targets_of_all, IsBase, IsSingle, Fits, AllFit}
+use Rattle.jfr_value.specs.Nodes.{NodeAt, IsNode}
+use Rattle.jfr_value.specs.Leaves.{LeafAt, leaf_key, leaf_target, spelled_key, leaves, leaves_at, leaves_from, part_holder}
+use Rattle.jfr_value.proofs.LeafLaws.{leaf_targets}
+use Rattle.jfr_value.proofs.NodeLaws.{value_is}
+use Rattle.jfr_value.proofs.TargetLaws.{leaves_are}
+use Rattle.jfr_chunk.specs.Parts.{Parts}
+use Rattle.jfr_chunk.proofs.AllLaws.{all_append}
+use Rattle.jfr_rewrite.specs.Changed.{changed_all, plain, single_of}
+use Rattle.jfr_mask.specs.Masked.{is_masked_string, is_string_leaf}
+use Rattle.jfr_mask.specs.ReachBut.{node_targets_but, targets_but, unkeyed}
+use Rattle.jfr_mask.specs.Reaching.{KeyIsSpelled, target_left}
+
+abbrev head_leaves : Option Holder → ℕ → Shape → List ℕ → List LeafAt
+head_leaves h at s head = if s.array then record { kind = leaf_kinds.Count (worth_within 8 head); class = s.class; holder = h; at = at; spelled = head } ∷ [] else []
+
+module _ (k : Classes) (masked : Option Holder → Bool) where
+  -- A count refers to nothing.
+  head_none : (h : Option Holder) (at : ℕ) (s : Shape) (head : List ℕ) → filter_map (target_left masked) (head_leaves h at s head) ≡ []
+  head_none h at s head = by_mark s.array
+    where
+      nothing : Option (ℕ × ℕ)
+      nothing = None
+
+      uncounted : (m : Bool) → (if m && false then nothing else nothing) ≡ nothing
+      uncounted true = refl
+      uncounted false = refl
+
+      by_mark : (b : Bool) → filter_map (target_left masked) (if b then record { kind = leaf_kinds.Count (worth_within 8 head); class = s.class; holder = h; at = at; spelled = head } ∷ [] else []) ≡ []
+      by_mark true = ap (λ o. cons_option o []) (uncounted (masked h))
+      by_mark false = refl
+
+  single_left : (h : Option Holder) (at : ℕ) (s : Shape) (kind : LeafKind) (b : List ℕ) (key : Option ℕ) → Fits k (Single s kind b key)
+      → filter_map (target_left masked) (leaves_at h at (Single s kind b key)) ≡ targets_but (is_masked_string masked) h (Single s kind b key)
+  single_left h at s kind b key f = by_mark (masked h && is_string_leaf kind)
+    where
+      by_mark : (t : Bool) → cons_option (if t then None else leaf_target (record { kind = kind; class = s.class; holder = h; at = at; spelled = b })) []
+          ≡ targets_of (single_of s (if t then plain kind b None else plain kind b key))
+      by_mark true = refl
+      by_mark false = leaf_targets k h at (Single s kind b key) f
+
+  mutual
+    pub value_left : (h : Option Holder) (at : ℕ) (v : Value) → Fits k v → filter_map (target_left masked) (leaves_at h at v) ≡ targets_but (is_masked_string masked) h v
+    value_left h at (Single s kind b key) f = single_left h at s kind b key f
+    value_left h at (Group s head vs) f =
+        filter_map-append (target_left masked) (head_leaves h at s head) (leaves_from (part_holder s h) (at + length head) vs)
+        ∙ (ap (λ z. z ++ filter_map (target_left masked) (leaves_from (part_holder s h) (at + length head) vs)) (head_none h at s head)
+        ∙ values_left (part_holder s h) (at + length head) vs f.1)
+
+    values_left : (g : ℕ → Option Holder) (at : ℕ) (vs : Values) → AllFit k vs
+        → filter_map (target_left masked) (leaves_from g at vs) ≡ targets_of_all (changed_all (unkeyed (is_masked_string masked)) g vs)
+    values_left g at Nil f = refl
+    values_left g at (Cons v vs) f =
+        filter_map-append (target_left masked) (leaves_at (g zero) at v) (leaves_from (λ n. g (suc n)) (at + length (bytes_of v)) vs)
+        ∙ (ap (λ z. z ++ filter_map (target_left masked) (leaves_from (λ n. g (suc n)) (at + length (bytes_of v)) vs)) (value_left (g zero) at v f.0)
+        ∙ ap (λ z. targets_but (is_masked_string masked) (g zero) v ++ z) (values_left (λ n. g (suc n)) (at + length (bytes_of v)) vs f.1))
+
+-- What the first leaf refers to comes before what the others do.
+pub first_left : (masked : Option Holder → Bool) (f : ℕ × ℕ → Option ℕ) (l : LeafAt) (ls : List LeafAt)
+    → those f (filter_map (target_left masked) (l ∷ ls)) ≡ those f (option_to_list (target_left masked l)) ++ those f (filter_map (target_left masked) ls)
+first_left masked f l ls = ap (those f) (by_target (target_left masked l)) ∙ those_append f (option_to_list (target_left masked l)) (filter_map (target_left masked) ls)
+  where
+    by_target : (o : Option (ℕ × ℕ)) → cons_option o (filter_map (target_left masked) ls) ≡ option_to_list o ++ filter_map (target_left masked) ls
+    by_target None = refl
+    by_target (Some t) = refl
+
+-- The integer after the kind byte is the key.
+behind : (rest : List ℕ) (q v : ℕ) → IsSpellingWithin 8 rest → IntAt (2 ∷ rest) 1 q v → v ≡ worth_within 8 rest
+behind rest q v s i =
+    let e : slice_range (2 ∷ rest) 1 (length (2 ∷ rest)) ≡ rest = ap (λ z. take z rest) (omega arith) ∙ take_all (length rest) rest (omega arith) in
+    let j : IntAt (2 ∷ rest) 1 (length (2 ∷ rest)) (worth_within 8 rest) =
+    record { order = omega arith; within = omega arith; spelled = subst (λ z. Spells z (worth_within 8 rest)) (sym e) (record { form = s; worth = refl }) } in
+    (int_one (2 ∷ rest) 1 q (length (2 ∷ rest)) v (worth_within 8 rest) i j).1
+
+begins_with : (b : List ℕ) → 0 < length b → slice_index b 0 ≡ 2 → (rest : List ℕ) × (b ≡ 2 ∷ rest)
+begins_with [] h e = absurd (omega (h, arith))
+begins_with (kind ∷ rest) h e = (rest, ap (λ z. z ∷ rest) e)
+
+-- A string that is a key and isn't masked.
+pub string_left : (masked : Option Holder → Bool) (l : LeafAt) (q v : ℕ) → KeyIsSpelled l → l.kind ≡ leaf_kinds.Base kinds.Text → 0 < length l.spelled → slice_index l.spelled 0 ≡ 2 → IntAt l.spelled 1 q v → masked l.holder ≡ false → target_left masked l ≡ Some (l.class, v)
+string_left masked l q v spelled t h e i m =
+    let b = begins_with l.spelled h e in
+    let w : v ≡ worth_within 8 b.0 = behind b.0 q v (spelled t b.0 b.1) (subst (λ z. IntAt z 1 q v) b.1 i) in
+    ap (λ z. if z && is_string_leaf l.kind then None else leaf_target l) m
+    ∙ (ap (λ z. option_map (λ key. (l.class, key)) (leaf_key z l.spelled)) t
+    ∙ (ap (λ z. option_map (λ key. (l.class, key)) (spelled_key z)) b.1 ∙ ap (λ z. Some (l.class, z)) (sym w)))
+
+-- In a string that is a key, one integer follows the kind byte.
+string_spelled : (b : List ℕ) (s : strings.Content) → IsString b s → (rest : List ℕ) → b ≡ 2 ∷ rest → IsSpellingWithin 8 rest
+string_spelled [] s i rest e = absurd i
+string_spelled (kind ∷ b) strings.Null i rest e = let q : kind ≡ 2 = cc in let p : kind ≡ 0 = i.0 in cc
+string_spelled (kind ∷ b) strings.Empty i rest e = let q : kind ≡ 2 = cc in let p : kind ≡ 1 = i.0 in cc
+string_spelled (kind ∷ b) (strings.Key key) i rest e = let q : b ≡ rest = cc in subst (IsSpellingWithin 8) q i.1.form
+string_spelled (kind ∷ b) (strings.Utf8 bytes) i rest e = let q : kind ≡ 2 = cc in let p : kind ≡ 3 = i.0 in cc
+string_spelled (kind ∷ b) (strings.Units units) i rest e = let q : kind ≡ 2 = cc in let p : kind ≡ 4 = i.0 in cc
+string_spelled (kind ∷ b) (strings.Latin bytes) i rest e = let q : kind ≡ 2 = cc in let p : kind ≡ 5 = i.0 in cc
+
+single_spelled : (k : Classes) (s : Shape) (kind : LeafKind) (b : List ℕ) (key : Option ℕ) → IsSingle k s kind b key → kind ≡ leaf_kinds.Base kinds.Text → (rest : List ℕ) → b ≡ 2 ∷ rest → IsSpellingWithin 8 rest
+single_spelled k s kind b key (inl i) t rest e = let q = i.4 in cc
+single_spelled k s kind b key (inr i) t rest e =
+    let p : leaf_kinds.Base (kind_of i.2.name) ≡ leaf_kinds.Base kinds.Text = sym i.4 ∙ t in
+    let q : kind_of i.2.name ≡ kinds.Text = cc in
+    let j : IsBase kinds.Text b key = subst (λ z. IsBase z b key) q i.5 in
+    string_spelled b j.0 j.1 rest e
+
+head_spelled : (h : Option Holder) (at : ℕ) (s : Shape) (head : List ℕ) → AllByRecursion KeyIsSpelled (head_leaves h at s head)
+head_spelled h at s head = by_mark s.array
+  where
+    by_mark : (t : Bool) → AllByRecursion KeyIsSpelled (if t then record { kind = leaf_kinds.Count (worth_within 8 head); class = s.class; holder = h; at = at; spelled = head } ∷ [] else [])
+    by_mark true = (λ e. cc, tt)
+    by_mark false = tt
+
+mutual
+  value_spelled : (k : Classes) (h : Option Holder) (at : ℕ) (v : Value) → Fits k v → AllByRecursion KeyIsSpelled (leaves_at h at v)
+  value_spelled k h at (Single s kind b key) f = (single_spelled k s kind b key f, tt)
+  value_spelled k h at (Group s head vs) f =
+      all_append KeyIsSpelled (head_leaves h at s head) (leaves_from (part_holder s h) (at + length head) vs) (head_spelled h at s head) (values_spelled k (part_holder s h) (at + length head) vs f.1)
+
+  values_spelled : (k : Classes) (g : ℕ → Option Holder) (at : ℕ) (vs : Values) → AllFit k vs → AllByRecursion KeyIsSpelled (leaves_from g at vs)
+  values_spelled k g at Nil f = tt
+  values_spelled k g at (Cons v vs) f =
+      all_append KeyIsSpelled (leaves_at (g zero) at v) (leaves_from (λ n. g (suc n)) (at + length (bytes_of v)) vs)
+      (value_spelled k (g zero) at v f.0) (values_spelled k (λ n. g (suc n)) (at + length (bytes_of v)) vs f.1)
+
+-- For the node of a value.
+module _ (p : Parts) (sound : Sound p.classes) (n : NodeAt) (v : Value) (i : IsNode p.classes p.bytes n v) where
+  pub node_spelled : AllByRecursion KeyIsSpelled (leaves p.classes p.bytes n)
+  node_spelled = subst (AllByRecursion KeyIsSpelled) (sym (leaves_are p.classes sound p.bytes n v i)) (value_spelled p.classes None n.at v i.fits)
+
+  pub node_left : (masked : Option Holder → Bool) → filter_map (target_left masked) (leaves p.classes p.bytes n) ≡ node_targets_but (is_masked_string masked) p n
+  node_left masked =
+      ap (filter_map (target_left masked)) (leaves_are p.classes sound p.bytes n v i)
+      ∙ (value_left p.classes masked None n.at v i.fits ∙ sym (ap (λ o. option_map_or (targets_but (is_masked_string masked) None) o []) (value_is p.classes p.bytes n v sound i)))
