@@ -1,7 +1,7 @@
 -- Pieces that are added to a text one after another.
-use Rattle.std.specs.Prelude.{◌≡◌, ℕ, zero, suc, ◌+◌, ◌<◌, ◌≤◌, List, [], ◌∷◌, ◌++◌, take, drop, length, Some, slice_get, codes, decimal}
+use Rattle.std.specs.Prelude.{◌≡◌, ℕ, ◌+◌, ◌<◌, ◌≤◌, List, [], ◌∷◌, ◌++◌, take, length, Some, slice_get, codes, decimal}
 use Rattle.std.specs.List.{flat_map}
-use Rattle.std.proofs.Common.{ap, arith, refl, sym, ◌∙◌, append_assoc, get_or}
+use Rattle.std.proofs.Common.{ap, refl, sym, ◌∙◌, append_assoc, get_or}
 use Rattle.std.proofs.lemmas.List.{append-nil, flat_map_more, take_all, take_more}
 use Rattle.jfr_layout.specs.Classes.{Classes}
 use Rattle.jfr_layout.proofs.Lists.{item_at}
