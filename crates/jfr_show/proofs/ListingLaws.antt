@@ -1,14 +1,19 @@
 -- Pieces that are added to a text one after another.
-use Rattle.std.specs.Prelude.{◌≡◌, ℕ, zero, suc, ◌+◌, ◌≤◌, List, [], ◌∷◌, ◌++◌, take, drop, length, Some, slice_get, codes, decimal}
+use Rattle.std.specs.Prelude.{◌≡◌, ℕ, ◌+◌, ◌<◌, ◌≤◌, List, [], ◌∷◌, ◌++◌, take, length, Some, slice_get, codes, decimal}
 use Rattle.std.specs.List.{flat_map}
-use Rattle.std.proofs.Common.{ap, arith, refl, sym, ◌∙◌, append_assoc}
+use Rattle.std.proofs.Common.{ap, refl, sym, ◌∙◌, append_assoc, get_or}
 use Rattle.std.proofs.lemmas.List.{append-nil, flat_map_more, take_all, take_more}
 use Rattle.jfr_layout.specs.Classes.{Classes}
+use Rattle.jfr_layout.proofs.Lists.{item_at}
 use Rattle.jfr_chunk.specs.Parts.{Parts}
 use Rattle.jfr_show.specs.Metadata.{categories_line, class_lines, metadata_shown}
 use Rattle.jfr_show.specs.Texts.{newline, quoted}
 use Rattle.jfr_show.specs.Totals.{number_line}
 use Rattle.std.proofs.lemmas.Option.{get_or_from_slice_get, slice_get_within}
+
+-- The member that a loop over a list's slice has.
+pub item_of : {X : Type 0} (xs items : List X) (i : ℕ) (x : X) → items ≡ xs → i < length items → x ≡ get_or items i x → slice_get xs i ≡ Some x
+item_of xs items i x same within is = ap (λ z. slice_get z i) (sym same) ∙ item_at items i x within is
 
 -- One member more.
 pub take_next : {X : Type 0} (xs : List X) (i : ℕ) (x : X) → slice_get xs i ≡ Some x → take (i + 1) xs ≡ take i xs ++ x ∷ []
@@ -18,27 +23,17 @@ take_next xs i x is = take_more xs i x (slice_get_within xs i x is) ∙ ap (λ y
 pub pieces_more : {X : Type 0} (f : X → List ℕ) (xs : List X) (i : ℕ) (x : X) (start now new : List ℕ) → slice_get xs i ≡ Some x → now ≡ start ++ flat_map f (take i xs) → new ≡ now ++ f x → new ≡ start ++ flat_map f (take (i + 1) xs)
 pieces_more f xs i x start now new is so next = next ∙ (ap (λ z. z ++ f x) so ∙ (flat_map_more f start (take i xs) x ∙ ap (λ z. start ++ flat_map f z) (sym (take_next xs i x is))))
 
--- The piece of one member more, if the first member is left out.
-pub others_more : {X : Type 0} (f : X → List ℕ) (xs : List X) (i : ℕ) (x : X) (start now new : List ℕ) → 1 ≤ i → slice_get xs i ≡ Some x → now ≡ start ++ flat_map f (drop 1 (take i xs)) → new ≡ now ++ f x → new ≡ start ++ flat_map f (drop 1 (take (i + 1) xs))
-others_more f xs zero x start now new h is so next = absurd (omega arith)
-others_more f [] (suc i) x start now new h is so next = cc
-others_more f (y ∷ ys) (suc i) x start now new h is so next =
-    let e : suc (i + 1) ≡ suc i + 1 = omega arith in
-    pieces_more f ys i x start now new is so next ∙ ap (λ n. start ++ flat_map f (drop 1 (take n (y ∷ ys)))) e
-
 joined : (a b c d e : List ℕ) → (((a ++ b) ++ c) ++ d) ++ e ≡ a ++ ((b ++ (c ++ d)) ++ e)
 joined a b c d e = simp append_assoc refl
 
 -- The line of categories, from its parts.
-pub categories_shown : (cs : List (List ℕ)) (first : List ℕ) (n : ℕ) (was a b now : List ℕ) → slice_get cs 0 ≡ Some first → length cs ≤ n → a ≡ was ++ codes "  category " → b ≡ a ++ quoted first → now ≡ b ++ flat_map (λ c. codes ", " ++ quoted c) (drop 1 (take n cs)) → now ++ newline ≡ was ++ categories_line cs
-categories_shown [] first n was a b now is all p q r = cc
-categories_shown (c ∷ cs) first n was a b now is all p q r =
+pub categories_shown : (cs others : List (List ℕ)) (first : List ℕ) (n : ℕ) (was a b now : List ℕ) → cs ≡ first ∷ others → length others ≤ n → a ≡ was ++ codes "  category " → b ≡ a ++ quoted first → now ≡ b ++ flat_map (λ c. codes ", " ++ quoted c) (take n others) → now ++ newline ≡ was ++ categories_line cs
+categories_shown cs others first n was a b now is all p q r =
     let word : List ℕ = codes "  category " in
-    let rest : List ℕ = flat_map (λ c. codes ", " ++ quoted c) cs in
-    let same : first ≡ c = cc in
-    let d : now ≡ b ++ rest = r ∙ ap (λ z. b ++ flat_map (λ c. codes ", " ++ quoted c) (drop 1 z)) (take_all n (c ∷ cs) all) in
-    let e : now ++ newline ≡ (((was ++ word) ++ quoted c) ++ rest) ++ newline = ap (λ z. z ++ newline) (d ∙ ap (λ z. z ++ rest) (q ∙ (ap (λ z. a ++ quoted z) same ∙ ap (λ z. z ++ quoted c) p))) in
-    e ∙ joined was word (quoted c) rest newline
+    let rest : List ℕ = flat_map (λ c. codes ", " ++ quoted c) others in
+    let d : now ≡ b ++ rest = r ∙ ap (λ z. b ++ flat_map (λ c. codes ", " ++ quoted c) z) (take_all n others all) in
+    let e : now ++ newline ≡ (((was ++ word) ++ quoted first) ++ rest) ++ newline = ap (λ z. z ++ newline) (d ∙ ap (λ z. z ++ rest) (q ∙ ap (λ z. z ++ quoted first) p)) in
+    e ∙ (joined was word (quoted first) rest newline ∙ ap (λ z. was ++ categories_line z) (sym is))
 
 -- The lines of a chunk's classes, from their parts.
 pub metadata_is : (p : Parts) (k : Classes) (number n : ℕ) (was a b d now : List ℕ) → k ≡ p.classes → length k ≤ n → a ≡ was ++ codes "chunk " → b ≡ a ++ decimal number → d ≡ b ++ newline → now ≡ d ++ flat_map (class_lines k) (take n k) → now ≡ was ++ metadata_shown p number

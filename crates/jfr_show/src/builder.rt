@@ -164,8 +164,9 @@ fn digit_of(number: u8) -> char
     requires { number < 16 }
     ensures { result ≡ digit_char number }
 {
-    match char::from_digit(u32::from(number), 16) {
-        Some(digit) => digit,
-        None => unreachable!(),
+    if number < 10 {
+        char::from(b'0' + number)
+    } else {
+        char::from(b'a' + (number - 10))
     }
 }

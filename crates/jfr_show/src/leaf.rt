@@ -24,8 +24,8 @@ pub(crate) fn show_integer(kind: Kind, value: u64, out: &mut TextBuilder) -> Res
         Kind::Char => out.push_number(value % 65536),
         Kind::Short => out.push_signed(i64::from(((value % 65536) as u16).cast_signed())),
         Kind::Int => out.push_signed(i64::from(((value % 4294967296) as u32).cast_signed())),
-        Kind::Long => out.push_signed(signed(value)),
-        _ => unreachable!(),
+        // `Kind::Long`, the only other integer.
+        _ => out.push_signed(signed(value)),
     }
 }
 
@@ -37,8 +37,8 @@ pub(crate) fn show_raw(kind: Kind, bytes: &[u8], out: &mut TextBuilder) -> Resul
     match kind {
         Kind::Boolean => show_boolean(bytes, out),
         Kind::Byte => show_byte(bytes, out),
-        Kind::Float | Kind::Double => show_hex(bytes, out),
-        _ => unreachable!(),
+        // `Kind::Float` and `Kind::Double`, the only others of a fixed length.
+        _ => show_hex(bytes, out),
     }
 }
 

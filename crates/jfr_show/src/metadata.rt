@@ -44,8 +44,8 @@ fn show_class(classes: &Classes, class: &ClassInfo, out: &mut TextBuilder) -> Re
 {
     show_class_line(class, out)?;
     show_categories(&class.categories, out)?;
-    for number in 0..class.fields.len() {
-        show_field(classes, class.fields.at(number), out)?;
+    for field in class.fields.as_slice() {
+        show_field(classes, field, out)?;
     }
     Ok(())
 }
@@ -78,17 +78,14 @@ fn show_super(name: &Option<Text>, out: &mut TextBuilder) -> Result<(), NoMemory
 fn show_categories(categories: &Words, out: &mut TextBuilder) -> Result<(), NoMemory>
     ensures ok { OnOk result (out.new ≡ out.old ++ categories_line categories.now) }
 {
-    let Some(first) = categories.get(0) else {
+    let Some((first, others)) = categories.as_slice().split_first() else {
         return Ok(());
     };
     out.push_ascii("  category ")?;
-    push_quoted(first, out)?;
-    for number in 1..categories.len() {
-        let Some(category) = categories.get(number) else {
-            unreachable!()
-        };
+    push_quoted(first.as_str(), out)?;
+    for category in others {
         out.push_ascii(", ")?;
-        push_quoted(category, out)?;
+        push_quoted(category.as_str(), out)?;
     }
     out.push_ascii("\n")
 }

@@ -31,8 +31,8 @@ pub(crate) fn add_entries(
     ensures ok { OnOk result ((old : Counts) (ts : List (List ℕ)) → HasPending (entry_text chunk.now) old ts (counts_in counts.old) 0 by_entry.now → AddsTexts old ts (counts_in counts.new)) }
     ensures below { (old : Counts) (ts : List (List ℕ)) (most : ℕ) → HasPending (entry_text chunk.now) old ts (counts_in counts.old) 0 by_entry.now → AreBelow most old → AreBelow (most + length ts) (counts_in counts.new) }
 {
-    for number in 0..by_entry.len() {
-        add_entry(writer, chunk, number, by_entry[number], counts)?;
+    for (number, count) in by_entry.iter().enumerate() {
+        add_entry(writer, chunk, number, *count, counts)?;
     }
     Ok(())
 }

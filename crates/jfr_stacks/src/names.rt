@@ -69,8 +69,9 @@ fn hex_digit(number: u8) -> char
     ensures digit { result ≡ digit_char number }
     ensures ascii { result < 128 }
 {
-    match char::from_digit(u32::from(number), 16) {
-        Some(digit) => digit,
-        None => unreachable!(),
+    if number < 10 {
+        char::from(b'0' + number)
+    } else {
+        char::from(b'a' + (number - 10))
     }
 }

@@ -30,8 +30,8 @@ pub(crate) fn push_integer(kind: Kind, value: u64, out: &mut String) -> Result<(
         Kind::Char => push_number(value % 65536, out),
         Kind::Short => push_signed(i64::from(((value % 65536) as u16).cast_signed()), out),
         Kind::Int => push_signed(i64::from(((value % 4294967296) as u32).cast_signed()), out),
-        Kind::Long => push_signed(signed(value), out),
-        _ => unreachable!(),
+        // `Kind::Long`, the only other integer.
+        _ => push_signed(signed(value), out),
     }
 }
 
@@ -66,8 +66,8 @@ pub(crate) fn push_raw(
     match kind {
         Kind::Boolean => push_boolean(bytes, out),
         Kind::Byte => push_byte(bytes, out),
-        Kind::Float | Kind::Double => push_hex(alloc, bytes, out),
-        _ => unreachable!(),
+        // `Kind::Float` and `Kind::Double`, the only others of a fixed length.
+        _ => push_hex(alloc, bytes, out),
     }
 }
 

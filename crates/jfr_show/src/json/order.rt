@@ -48,10 +48,12 @@ pub(crate) fn orders_of(
 fn short_order(alloc: Global, fields: &Fields) -> Result<Option<MemberOrder>, NoMemory>
     ensures ok { IfOk result (λ order. IfSome order (λ o. IsOrder fields.now (leads_of o))) }
 {
-    for number in 0..fields.len() {
-        if fields.at(number).name.as_str().len() > SHORT {
-            return Ok(None);
-        }
+    let is_long = fields
+        .as_slice()
+        .iter()
+        .any(|field| field.name.as_str().len() > SHORT);
+    if is_long {
+        return Ok(None);
     }
     Ok(Some(order_of(alloc, fields)?))
 }
@@ -79,11 +81,11 @@ fn numbered(alloc: Global, fields: &Fields) -> Result<Map<String, Value>, NoMemo
     ensures ok { IfOk result (λ members. members_view members.entries ≡ members_with no_members fields.now (numbers 0 fields.now)) }
 {
     let mut members = Map::new(alloc);
-    for number in 0..fields.len() {
+    for (number, field) in fields.as_slice().iter().enumerate() {
         put(
             &mut members,
             alloc,
-            fields.at(number).name.as_str(),
+            field.name.as_str(),
             Value::from(number),
         )?;
     }

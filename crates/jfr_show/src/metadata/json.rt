@@ -97,10 +97,7 @@ fn push_categories(alloc: Global, categories: &Words, out: &mut String) -> Resul
 {
     out.push_str("[")?;
     let mut later = false;
-    for number in 0..categories.len() {
-        let Some(category) = categories.text(number) else {
-            unreachable!()
-        };
+    for category in categories.as_slice() {
         push_comma(later, out)?;
         push_string(alloc, category.as_str(), out)?;
         later = true;
@@ -120,9 +117,9 @@ fn push_fields(
 {
     out.push_str("[")?;
     let mut later = false;
-    for number in 0..fields.len() {
+    for field in fields.as_slice() {
         push_comma(later, out)?;
-        push_field(alloc, chunk, fields.at(number), out)?;
+        push_field(alloc, chunk, field, out)?;
         later = true;
     }
     out.push_str("]")?;

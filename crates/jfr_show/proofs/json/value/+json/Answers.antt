@@ -13,9 +13,7 @@ use Rattle.jfr_value.specs.Nodes.{EndsAt, IsNode, AreValues, node_at, node_of}
 use Rattle.jfr_value.specs.Values.{Values}
 use Rattle.jfr_value.specs.Visits.{field_shapes}
 use Rattle.jfr_value.specs.Walks.{IsLayoutIfKnown, DepthBound}
-use Rattle.jfr_value.proofs.FormLaws.{fields_kind, inline_there}
-use Rattle.jfr_value.proofs.StackLaws.{inner_depth}
-use Rattle.jfr_value.proofs.VisitLaws.{depth_within, field_next, item_next, items_past, bound_of_first}
+use Rattle.jfr_value.proofs.VisitLaws.{field_next, item_next, items_past, bound_of_first}
 use Rattle.jfr_value.proofs.LayoutLaws.{field_of, no_layout}
 use Rattle.jfr_value.proofs.DepthLaws.{sound_inline}
 use Rattle.jfr_pool.specs.Entries.{in_force}

@@ -3,5 +3,5 @@ use Rattle.jfr_show.specs.Metadata.{field_json}
 use Rattle.jfr_show.proofs.ArrayLaws.{AreWritten}
 use Rattle.jfr_show.proofs.metadata.json.push_fields.Given as goal
 
-abbrev pub invariant-loop-number : goal.invariant-loop-number
-invariant-loop-number l = AreWritten (field_json l.chunk.classes) (take l.number l.fields) l.later (string_bytes l.initial.out) (string_bytes l.out)
+abbrev pub invariant-loop-field : goal.invariant-loop-field
+invariant-loop-field l = AreWritten (field_json l.chunk.classes) (take l.field-index l.fields) l.later (string_bytes l.initial.out) (string_bytes l.out)
