@@ -40,8 +40,8 @@ fn class_list(alloc: Global, lines: &[NumberedLine<'_>]) -> Result<ClassList, No
     ensures ok { IfOk result (λ list. list ≡ classes_in lines.now) }
 {
     let mut list = ClassList::new(alloc);
-    for at in 0..lines.len() {
-        if let Line::Class { id, name, event } = &lines[at].line {
+    for (at, line) in lines.iter().enumerate() {
+        if let Line::Class { id, name, event } = &line.line {
             list.push(ClassInfo {
                 id: *id,
                 name: name.to_text(alloc)?,
@@ -88,8 +88,8 @@ fn line_at(lines: &[NumberedLine<'_>], class: usize, field: Option<usize>) -> u6
     ensures { result ≡ line_at lines.now class field }
 {
     let mut before = class;
-    for at in 0..lines.len() {
-        if is_class(&lines[at].line) {
+    for (at, line) in lines.iter().enumerate() {
+        if is_class(&line.line) {
             if before == 0 {
                 return number_after(lines, at, field);
             }

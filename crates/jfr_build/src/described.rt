@@ -161,8 +161,8 @@ fn class_element(alloc: Global, strings: &mut Words, class: &ClassInfo) -> Resul
     strings.push_text(decimal(alloc, class.id)?)?;
     push_super(&mut attributes, &class.super_name)?;
     let mut children = Elements::new(alloc);
-    for number in 0..class.fields.len() {
-        let element = field_element(alloc, strings, class.fields.at(number))?;
+    for field in class.fields.as_slice() {
+        let element = field_element(alloc, strings, field)?;
         children.push(element)?;
     }
     Ok(Element::new(0, CLASS, attributes, children))

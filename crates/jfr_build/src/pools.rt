@@ -92,9 +92,7 @@ impl Pools {
         requires { IsSome (pool_in self.now class) }
         ensures ok { OnOk result (bytes.new.items ≡ bytes.old.items ++ pool_bytes self.now class) }
     {
-        let Some(pool) = self.by_class.get(&class) else {
-            unreachable!();
-        };
+        let pool = &self.by_class[&class];
         push_var(bytes, class)?;
         push_var(bytes, pool.count)?;
         bytes.extend_from_slice(&pool.entries)?;

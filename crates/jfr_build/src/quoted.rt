@@ -130,14 +130,16 @@ fn push_if_some(text: &mut Vec<u8>, byte: Option<u8>) -> Result<(), AllocError>
 pub fn unquote(word: &str, text: &mut Vec<u8>) -> Result<bool, AllocError>
     ensures ok { IfOk result (λ found. unquoted word.now ≡ (if found then Some text.new.items else None)) }
 {
-    let bytes = word.as_bytes();
     text.clear();
-    if bytes.is_empty() || bytes[0] != b'"' {
+    let Some((first, rest)) = word.as_bytes().split_first() else {
+        return Ok(false);
+    };
+    if *first != b'"' {
         return Ok(false);
     }
     let mut state = Quoted::Open;
-    for at in 1..bytes.len() {
-        let Some((next, byte)) = state.step(bytes[at]) else {
+    for byte in rest {
+        let Some((next, byte)) = state.step(*byte) else {
             return Ok(false);
         };
         state = next;
