@@ -27,7 +27,7 @@ use Rattle.jfr_renumber.specs.Rekeyed.{rekeyed_bytes}
 use Rattle.jfr_renumber.specs.Renumber.{entry_bytes, group_bytes, checkpoint_tail, pair_of}
 use Rattle.jfr_rewrite.proofs.Pools.{all_parts}
 use Rattle.jfr_rewrite.proofs.Sizes.{in_length}
-use Rattle.jfr_renumber.proofs.CheckpointWriting.{entry_is}
+use Rattle.jfr_rewrite.proofs.CheckpointWriting.{entry_is}
 use Rattle.jfr_renumber.proofs.RekeyedLaws.{node_short}
 
 -- Each that is marked is marked there too.
