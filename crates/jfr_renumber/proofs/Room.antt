@@ -27,11 +27,12 @@ use Rattle.jfr_laws.proofs.Same.{chosen_events, event_of_chunk}
 use Rattle.jfr_rewrite.specs.Rewrite as rewrite
 use Rattle.jfr_rewrite.specs.Rewrite.{event_tail, written_by}
 use Rattle.jfr_rewrite.specs.Rewritten.{CarriesAll, CarriesRecord}
+use Rattle.jfr_rewrite.proofs.CheckpointWriting.{entries_stand}
 use Rattle.jfr_rewrite.proofs.Sizes.{old_width_carries}
 use Rattle.jfr_rewrite.proofs.WritingLaws.{event_record, found_event}
 use Rattle.jfr_renumber.specs.Renumber.{checkpoint_tail, group_bytes, whole_bytes, with_keys}
 use Rattle.jfr_renumber.proofs.EventWriting.{tail_short}
-use Rattle.jfr_renumber.proofs.Fewer.{Under, Shorter, entries_stand, numbers_short, sized_length, tail_length, under_same}
+use Rattle.jfr_renumber.proofs.Fewer.{Under, Shorter, numbers_short, sized_length, tail_length, under_same}
 
 module _ (p : Parts) (a : AreParts p) (flags : List Bool) (new : ℕ × ℕ → ℕ) (most : (t : ℕ × ℕ) → new t ≤ t.1) where
   abbrev these : List EventAt
@@ -58,7 +59,7 @@ module _ (p : Parts) (a : AreParts p) (flags : List Bool) (new : ℕ × ℕ → 
       → Shorter p sound new most (groups_of (marked fm p.entries) i) (groups_of (marked ms p.entries) i)
   groups_shorter fm ms u i g =
       numbers_short p sound new most 0 (reverse p.chain) p.entries fm ms u a.entries i
-      (subst (AllByRecursion (IsEntryIn p.bytes p.classes)) (groups_hold (filter (λ e. e.checkpoint == i) (marked fm p.entries))) (entries_stand p sound new most (groups_of (marked fm p.entries) i) g))
+      (subst (AllByRecursion (IsEntryIn p.bytes p.classes)) (groups_hold (filter (λ e. e.checkpoint == i) (marked fm p.entries))) (entries_stand p.bytes p.classes (groups_of (marked fm p.entries) i) g))
 
   module _ (fm : List Bool) where
     abbrev remaining : List EntryAt
