@@ -5,6 +5,7 @@ mod ExchangeLaws
 mod FieldLaws
 mod HeadlineLaws
 mod ItselfLaws
+mod LaidLeaves
 mod KnownLaws
 mod MapLaws
 mod MaskLaws

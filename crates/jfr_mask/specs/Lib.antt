@@ -4,6 +4,7 @@ pub mod Held
 pub mod Laws
 pub mod MaskOf
 pub mod Masked
+pub mod MaskedLeaves
 pub mod Pseudonyms
 pub mod ReachBut
 pub mod Secrecy

@@ -35,6 +35,7 @@
 mod chunk_laws;
 mod dictionary;
 mod fields;
+mod holders;
 mod known;
 pub mod laws;
 mod shown;

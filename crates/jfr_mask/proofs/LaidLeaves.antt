@@ -1,0 +1,108 @@
+-- The leaves of a value lie one after another, and each that is a string is a value by itself.
+use Rattle.std.specs.Prelude.{◌≡◌, ℕ, zero, suc, ◌+◌, ◌≤◌, Bool, true, false, List, [], ◌∷◌, ◌++◌, length, Option, None, slice_range, if◌then◌else◌}
+use Rattle.std.proofs.Common.{ap, append-nil, arith, refl, sym, ◌∙◌, subst, inl, inr}
+use Rattle.jfr_base.specs.Integer.{worth_within}
+use Rattle.jfr_base.proofs.RunLaws.{Halves, Stands, stands_split}
+use Rattle.jfr_layout.specs.Classes.{Classes, Sound, kind_of}
+use Rattle.jfr_layout.specs.declared.shape.Shape.{Shape}
+use Rattle.jfr_value.specs.declared.leaf.Holder.{Holder}
+use Rattle.jfr_value.specs.declared.leaf.LeafKind.{LeafKind}
+use Rattle.jfr_value.specs.declared.leaf.LeafKind.TheVariants as leaf_kinds
+use Rattle.jfr_value.specs.Leaves.{LeafAt, leaf_key, leaves, leaves_at, leaves_from, part_holder}
+use Rattle.jfr_value.specs.Nodes.{IsNode, NodeAt, node_at}
+use Rattle.jfr_value.specs.Values.{AllFit, Fits, IsBase, IsHead, IsSingle, Group, Single, Value, Values, Nil, Cons, bytes_of, bytes_of_all, shapes_of}
+use Rattle.jfr_value.proofs.LeafLaws.{base_key}
+use Rattle.jfr_value.proofs.NodeLaws.{node_stands}
+use Rattle.jfr_value.proofs.TargetLaws.{leaves_are}
+use Rattle.jfr_rewrite.specs.Changed.{is_key, leaf_shape}
+use Rattle.jfr_mask.specs.Masked.{is_string_leaf}
+
+-- A leaf as a value.
+abbrev pub leaf_value : LeafAt → Value
+leaf_value l = Single (leaf_shape l) l.kind l.spelled (leaf_key l.kind l.spelled)
+
+abbrev pub StringFits : Classes → LeafAt → Type 0
+StringFits k l = is_string_leaf l.kind ≡ true → Fits k (leaf_value l)
+
+-- These leaves lie one after another, from one offset up to another.
+abbrev pub AreLaid : Classes → List ℕ → ℕ → ℕ → List LeafAt → Type 0
+AreLaid k c at end [] = at ≡ end
+AreLaid k c at end (l ∷ ls) = (l.at ≡ at) × (slice_range c at (at + length l.spelled) ≡ l.spelled) × StringFits k l × AreLaid k c (at + length l.spelled) end ls
+
+pub laid_order : (k : Classes) (c : List ℕ) (at end : ℕ) (ls : List LeafAt) → AreLaid k c at end ls → at ≤ end
+laid_order k c at end [] h = omega (arith, h)
+laid_order k c at end (l ∷ ls) h = let o = laid_order k c (at + length l.spelled) end ls h.3 in omega arith
+
+laid_append : (k : Classes) (c : List ℕ) (at middle end : ℕ) (ls ms : List LeafAt) → AreLaid k c at middle ls → AreLaid k c middle end ms → AreLaid k c at end (ls ++ ms)
+laid_append k c at middle end [] ms h i = subst (λ z. AreLaid k c z end ms) (sym h) i
+laid_append k c at middle end (l ∷ ls) ms h i = (h.0, h.1, h.2, laid_append k c (at + length l.spelled) middle end ls ms h.3 i)
+
+-- The key of a value without parts is that of its leaf.
+pub single_key : (k : Classes) (s : Shape) (kind : LeafKind) (b : List ℕ) (key : Option ℕ) → IsSingle k s kind b key → leaf_key kind b ≡ key
+single_key k s kind b key (inl i) = ap (λ z. leaf_key z b) i.4 ∙ sym i.5
+single_key k s kind b key (inr i) = ap (λ z. leaf_key z b) i.4 ∙ base_key (kind_of i.2.name) b key i.5
+
+single_fits : (k : Classes) (holder : Option Holder) (at : ℕ) (s : Shape) (kind : LeafKind) (b : List ℕ) (key : Option ℕ) → IsSingle k s kind b key
+    → StringFits k (record { kind = kind; class = s.class; holder = holder; at = at; spelled = b })
+single_fits k holder at s kind b key (inl i) h = let e : is_string_leaf kind ≡ false = ap is_string_leaf i.4 in cc
+single_fits k holder at s kind b key (inr i) h =
+    inr (refl, ap is_key i.4, i.2, i.3, i.4, subst (IsBase (kind_of i.2.name) b) (sym (single_key k s kind b key (inr i))) i.5)
+
+abbrev head_leaves : Option Holder → ℕ → Shape → List ℕ → List LeafAt
+head_leaves holder at s h = if s.array then record { kind = leaf_kinds.Count (worth_within 8 h); class = s.class; holder = holder; at = at; spelled = h } ∷ [] else []
+
+abbrev marked_leaves : Bool → Option Holder → ℕ → Shape → List ℕ → List LeafAt
+marked_leaves mark holder at s h = if mark then record { kind = leaf_kinds.Count (worth_within 8 h); class = s.class; holder = holder; at = at; spelled = h } ∷ [] else []
+
+head_laid : (k : Classes) (c : List ℕ) (holder : Option Holder) (at : ℕ) (s : Shape) (h : List ℕ) (ss : List Shape) → IsHead k s h ss → slice_range c at (at + length h) ≡ h
+    → AreLaid k c at (at + length h) (head_leaves holder at s h)
+head_laid k c holder at s h ss (inl i) e = by_mark s.array i.0
+  where
+    by_mark : (mark : Bool) → mark ≡ true → AreLaid k c at (at + length h) (marked_leaves mark holder at s h)
+    by_mark true t = (refl, e, λ f. cc, refl)
+    by_mark false t = cc
+head_laid k c holder at s h ss (inr i) e = by_mark s.array i.0
+  where
+    by_mark : (mark : Bool) → mark ≡ false → AreLaid k c at (at + length h) (marked_leaves mark holder at s h)
+    by_mark true t = cc
+    by_mark false t = let n : length h ≡ 0 = ap length i.5 in omega arith
+
+mutual
+  pub value_laid : (k : Classes) (c : List ℕ) (holder : Option Holder) (at end : ℕ) (v : Value) → Stands c at end (bytes_of v) → Fits k v → AreLaid k c at end (leaves_at holder at v)
+  value_laid k c holder at end (Single s kind b key) st f =
+      let halves : Halves c at end b [] = stands_split c at end b b [] st (sym (append-nil b)) in
+      (refl, halves.first.bytes, single_fits k holder at s kind b key f, (let e = halves.place in omega (arith, e)))
+  value_laid k c holder at end (Group s h vs) st f =
+      let halves : Halves c at end h (bytes_of_all vs) = stands_split c at end (h ++ bytes_of_all vs) h (bytes_of_all vs) st refl in
+      laid_append k c at (at + length h) end (head_leaves holder at s h) (leaves_from (part_holder s holder) (at + length h) vs)
+          (head_laid k c holder at s h (shapes_of vs) f.0 halves.first.bytes)
+          (values_laid k c (part_holder s holder) (at + length h) end vs halves.second f.1)
+
+  pub values_laid : (k : Classes) (c : List ℕ) (holders : ℕ → Option Holder) (at end : ℕ) (vs : Values) → Stands c at end (bytes_of_all vs) → AllFit k vs → AreLaid k c at end (leaves_from holders at vs)
+  values_laid k c holders at end Nil st f =
+      let halves : Halves c at end [] [] = stands_split c at end [] [] [] st refl in
+      let e = halves.place in
+      omega (arith, e)
+  values_laid k c holders at end (Cons v vs) st f =
+      let halves : Halves c at end (bytes_of v) (bytes_of_all vs) = stands_split c at end (bytes_of v ++ bytes_of_all vs) (bytes_of v) (bytes_of_all vs) st refl in
+      let others : ℕ → Option Holder = λ n. holders (suc n) in
+      laid_append k c at (at + length (bytes_of v)) end (leaves_at (holders zero) at v) (leaves_from others (at + length (bytes_of v)) vs)
+          (value_laid k c (holders zero) at (at + length (bytes_of v)) v halves.first f.0)
+          (values_laid k c others (at + length (bytes_of v)) end vs halves.second f.1)
+
+pub node_laid : (k : Classes) → Sound k → (c : List ℕ) (n : NodeAt) (v : Value) → IsNode k c n v → AreLaid k c n.at n.end (leaves k c n)
+node_laid k sound c n v i = subst (AreLaid k c n.at n.end) (sym (leaves_are k sound c n v i)) (value_laid k c None n.at n.end v (node_stands k c n v i) i.fits)
+
+-- The first leaf, if it is a string, is a value in the chunk.
+pub string_node : (k : Classes) (c : List ℕ) (at end : ℕ) (l : LeafAt) (ls : List LeafAt) → AreLaid k c at end (l ∷ ls) → end ≤ length c → is_string_leaf l.kind ≡ true
+    → IsNode k c (node_at (leaf_shape l) l.at (l.at + length l.spelled)) (leaf_value l)
+string_node k c at end l ls h w t =
+    let o : at + length l.spelled ≤ end = laid_order k c (at + length l.spelled) end ls h.3 in
+    let e : l.at ≡ at = h.0 in
+    record {
+      shape = refl;
+      order = omega arith;
+      within = omega (arith, e, o, w);
+      bytes = ap (λ z. slice_range c z (z + length l.spelled)) h.0 ∙ h.1;
+      fits = h.2 t;
+    }
