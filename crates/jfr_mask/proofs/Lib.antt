@@ -6,6 +6,7 @@ mod FieldLaws
 mod HeadlineLaws
 mod ItselfLaws
 mod LaidLeaves
+mod LeafMasks
 mod KnownLaws
 mod MapLaws
 mod MaskLaws

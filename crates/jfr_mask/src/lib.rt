@@ -38,7 +38,9 @@ mod fields;
 mod holders;
 mod known;
 pub mod laws;
+mod masker;
 mod shown;
+mod texts;
 
 pub use chunk_laws::{
     equal_outputs, masked_chunks_are_accepted, masked_chunks_mean_the_same, masked_values_are_read,
