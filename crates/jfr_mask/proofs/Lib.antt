@@ -1,5 +1,6 @@
 mod ChunkRows
 mod DictionaryLaws
+mod EntriesLeft
 mod EqualOutputs
 mod ExchangeLaws
 mod FieldLaws

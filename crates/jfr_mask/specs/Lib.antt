@@ -5,6 +5,7 @@ pub mod Laws
 pub mod MaskOf
 pub mod Masked
 pub mod MaskedLeaves
+pub mod Maskers
 pub mod Pseudonyms
 pub mod ReachBut
 pub mod Secrecy

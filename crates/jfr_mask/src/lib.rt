@@ -39,6 +39,7 @@ mod holders;
 mod known;
 pub mod laws;
 mod masker;
+mod numbering;
 mod shown;
 mod texts;
 

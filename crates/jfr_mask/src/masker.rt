@@ -6,8 +6,9 @@ ghost use Rattle.jfr_meta.specs.Written.{text_bytes};
 ghost use Rattle.jfr_value.specs.Leaves.{LeafAt, leaf_of};
 ghost use Rattle.jfr_value.specs.Nodes.{IsValue, node_of};
 ghost use Rattle.jfr_rewrite.specs.Rewrite.{changed_bytes};
-ghost use Rattle.jfr_mask.specs.Masked.{is_held_masked, is_string_leaf, masking, string_bytes};
+ghost use Rattle.jfr_mask.specs.Masked.{is_string_leaf, string_bytes};
 ghost use Rattle.jfr_mask.specs.MaskedLeaves.{IsInChunk, leaf_text, masked_from};
+ghost use Rattle.jfr_mask.specs.Maskers.{change_by, held_by};
 ghost use Rattle.jfr_mask.specs.Pseudonyms.{has_text, shown};
 
 use crate::texts::{MaskedStrings, leaf_text};
@@ -43,7 +44,7 @@ impl Masker<'_> {
         requires start { from ≤ node.at }
         requires end { node.end ≤ to }
         requires within { to ≤ length self.now.strings.chunk.now.bytes }
-        ensures ok { OnOk result (out.new.items ≡ out.old.items ++ (slice_range self.now.strings.chunk.now.bytes from node.entry.at ++ (changed_bytes (masking (is_held_masked self.now.strings.masked.now self.now.strings.chunk.now.classes) (shown (has_text self.now.known.now) self.now.dictionary.now) self.now.strings.chunk.now) self.now.strings.chunk.now.classes self.now.strings.chunk.now.bytes (node_of node.entry) ++ slice_range self.now.strings.chunk.now.bytes node.entry.end to))) }
+        ensures ok { OnOk result (out.new.items ≡ out.old.items ++ (slice_range self.now.strings.chunk.now.bytes from node.entry.at ++ (changed_bytes (change_by self.now) self.now.strings.chunk.now.classes self.now.strings.chunk.now.bytes (node_of node.entry) ++ slice_range self.now.strings.chunk.now.bytes node.entry.end to))) }
     {
         self.strings.chunk.parts_are_valid();
         let mut copied = from;
@@ -62,7 +63,7 @@ impl Masker<'_> {
         requires start { copied ≤ leaf.now.at }
         requires within { leaf.now.at + length leaf.now.spelled.now ≤ length self.now.strings.chunk.now.bytes }
         ensures range { IfOk result (λ next. next ≤ leaf.now.at + length leaf.now.spelled.now) }
-        ensures ok { IfOk result (λ next. (to : ℕ) (ls : List LeafAt) → out.new.items ++ masked_from (is_held_masked self.now.strings.masked.now self.now.strings.chunk.now.classes) (shown (has_text self.now.known.now) self.now.dictionary.now) self.now.strings.chunk.now next to ls ≡ out.old.items ++ masked_from (is_held_masked self.now.strings.masked.now self.now.strings.chunk.now.classes) (shown (has_text self.now.known.now) self.now.dictionary.now) self.now.strings.chunk.now copied to (leaf_of leaf.now ∷ ls)) }
+        ensures ok { IfOk result (λ next. (to : ℕ) (ls : List LeafAt) → out.new.items ++ masked_from (held_by self.now.strings) (shown (has_text self.now.known.now) self.now.dictionary.now) self.now.strings.chunk.now next to ls ≡ out.old.items ++ masked_from (held_by self.now.strings) (shown (has_text self.now.known.now) self.now.dictionary.now) self.now.strings.chunk.now copied to (leaf_of leaf.now ∷ ls)) }
     {
         if !self.strings.has(leaf) {
             return Ok(copied);
