@@ -12,6 +12,7 @@ mod KnownLaws
 mod MapLaws
 mod MaskLaws
 mod NumberLaws
+mod NumberedRecords
 mod OneToOnes
 mod ReachBut
 mod Remains
