@@ -77,8 +77,8 @@ mutual
   value_laid k c holder at end (Group s h vs) st f =
       let halves : Halves c at end h (bytes_of_all vs) = stands_split c at end (h ++ bytes_of_all vs) h (bytes_of_all vs) st refl in
       laid_append k c at (at + length h) end (marked_leaves s.array holder at s h) (leaves_from (part_holder s holder) (at + length h) vs)
-          (head_laid k c holder at s h (shapes_of vs) f.0 halves.first.bytes)
-          (values_laid k c (part_holder s holder) (at + length h) end vs halves.second f.1)
+      (head_laid k c holder at s h (shapes_of vs) f.0 halves.first.bytes)
+      (values_laid k c (part_holder s holder) (at + length h) end vs halves.second f.1)
 
   pub values_laid : (k : Classes) (c : List ℕ) (holders : ℕ → Option Holder) (at end : ℕ) (vs : Values) → Stands c at end (bytes_of_all vs) → AllFit k vs → AreLaid k c at end (leaves_from holders at vs)
   values_laid k c holders at end Nil st f =
@@ -89,8 +89,8 @@ mutual
       let halves : Halves c at end (bytes_of v) (bytes_of_all vs) = stands_split c at end (bytes_of v ++ bytes_of_all vs) (bytes_of v) (bytes_of_all vs) st refl in
       let others : ℕ → Option Holder = λ n. holders (suc n) in
       laid_append k c at (at + length (bytes_of v)) end (leaves_at (holders zero) at v) (leaves_from others (at + length (bytes_of v)) vs)
-          (value_laid k c (holders zero) at (at + length (bytes_of v)) v halves.first f.0)
-          (values_laid k c others (at + length (bytes_of v)) end vs halves.second f.1)
+      (value_laid k c (holders zero) at (at + length (bytes_of v)) v halves.first f.0)
+      (values_laid k c others (at + length (bytes_of v)) end vs halves.second f.1)
 
 pub node_laid : (k : Classes) → Sound k → (c : List ℕ) (n : NodeAt) (v : Value) → IsNode k c n v → AreLaid k c n.at n.end (leaves k c n)
 node_laid k sound c n v i = subst (AreLaid k c n.at n.end) (sym (leaves_are k sound c n v i)) (value_laid k c None n.at n.end v (node_stands k c n v i) i.fits)

@@ -2,7 +2,7 @@
 use Rattle.std.specs.Prelude.{◌≡◌, ℕ, zero, suc, ◌+◌, ◌-◌, ◌≤◌, Bool, true, false, ◌&&◌, List, [], ◌∷◌, ◌++◌, length, take, drop, Option, None, slice_range, if◌then◌else◌}
 use Rattle.std.specs.List.{flat_map}
 use Rattle.std.specs.Option.{option_map, option_map_or}
-use Rattle.std.proofs.Common.{ap, append-nil, append_assoc, arith, refl, sym, ◌∙◌, subst, inl, inr}
+use Rattle.std.proofs.Common.{ap, append-nil, append_assoc, arith, refl, sym, ◌∙◌, inl, inr}
 use Rattle.std.proofs.lemmas.Grind.{flat_map-append}
 use Rattle.jfr_base.specs.Integer.{worth_within}
 use Rattle.jfr_base.proofs.Ranges.{range_split}
@@ -10,7 +10,7 @@ use Rattle.jfr_layout.specs.Classes.{Classes, Sound}
 use Rattle.jfr_layout.specs.declared.shape.Shape.{Shape}
 use Rattle.jfr_value.specs.declared.leaf.Holder.{Holder}
 use Rattle.jfr_value.specs.declared.leaf.LeafKind.TheVariants as leaf_kinds
-use Rattle.jfr_value.specs.Leaves.{LeafAt, leaf_key, leaves, leaves_at, leaves_from, part_holder}
+use Rattle.jfr_value.specs.Leaves.{LeafAt, leaves, leaves_at, leaves_from, part_holder}
 use Rattle.jfr_value.specs.Nodes.{IsNode, NodeAt}
 use Rattle.jfr_value.specs.Values.{AllFit, Fits, IsHead, Group, Single, Value, Values, Nil, Cons, bytes_of, bytes_of_all, shapes_of}
 use Rattle.jfr_value.proofs.NodeLaws.{value_is}
@@ -129,8 +129,8 @@ module _ (masked : Option Holder → Bool) (p : Parts) where
         by_mask true others =
             ap (λ z. slice_range p.bytes from z ++ (changed_to ++ masked_from masked show p (z + length l.spelled) to ls)) h.0
             ∙ ap (λ z. slice_range p.bytes from at ++ z)
-              (ap (λ z. changed_to ++ z) (others next (omega arith) ∙ ap (λ z. z ++ rest) (range_empty p.bytes next))
-              ∙ sym (append_assoc changed_to (flat_map (leaf_bytes masked show p) ls) (slice_range p.bytes end to)))
+            (ap (λ z. changed_to ++ z) (others next (omega arith) ∙ ap (λ z. z ++ rest) (range_empty p.bytes next))
+            ∙ sym (append_assoc changed_to (flat_map (leaf_bytes masked show p) ls) (slice_range p.bytes end to)))
         by_mask false others =
             others from (omega (arith, u))
             ∙ (ap (λ z. z ++ rest) (range_split p.bytes from at next u (omega arith) ∙ ap (λ z. slice_range p.bytes from at ++ z) h.1)
@@ -139,7 +139,7 @@ module _ (masked : Option Holder → Bool) (p : Parts) where
 
     pub node_masked_is : Sound p.classes → (n : NodeAt) (v : Value) → IsNode p.classes p.bytes n v → (from to : ℕ) → from ≤ n.at → n.end ≤ to
         → masked_from masked show p from to (leaves p.classes p.bytes n)
-            ≡ slice_range p.bytes from n.at ++ (changed_bytes (masking masked show p) p.classes p.bytes n ++ slice_range p.bytes n.end to)
+        ≡ slice_range p.bytes from n.at ++ (changed_bytes (masking masked show p) p.classes p.bytes n ++ slice_range p.bytes n.end to)
     node_masked_is sound n v i from to u w =
         masked_from_is p.classes n.at n.end (leaves p.classes p.bytes n) (node_laid p.classes sound p.bytes n v i) from to u w
         ∙ ap (λ z. slice_range p.bytes from n.at ++ (z ++ slice_range p.bytes n.end to)) (sym (node_bytes_are sound n v i))

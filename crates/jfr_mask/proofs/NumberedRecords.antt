@@ -31,8 +31,7 @@ use Rattle.jfr_mask.specs.declared.numbering.Numbering.{Numbering}
 use Rattle.jfr_mask.specs.Masked as masked
 use Rattle.jfr_mask.specs.Masked.{is_held_masked, is_masked_string}
 use Rattle.jfr_mask.specs.Maskers.{IsMaskingBy, entries_by, held_by, node_texts_by}
-use Rattle.jfr_mask.specs.MaskOf.{Masking, Pools, entries_left, group_texts, is_masked_in, node_texts, origin_of, origin_texts, whole_origin}
-use Rattle.jfr_mask.specs.Pseudonyms.{has_text}
+use Rattle.jfr_mask.specs.MaskOf.{Masking, Pools, entries_left, is_masked_in, node_texts, origin_of, origin_texts, whole_origin}
 use Rattle.jfr_mask.specs.ReachBut.{remain_but}
 
 -- No kept event is the metadata record.
@@ -46,7 +45,7 @@ metadata_no_event p a flags r t = by_find (find (λ e. e.record_of.at == r.at) (
         let i : In (events_of p) e = contains_in (events_of p) e (All-contains (Contains (events_of p)) (kept_by p flags) e (chosen_events p flags) (in_contains (kept_by p flags) e f.0)) in
         let s : IsRecord p.bytes e.record_of = all_in (IsRecord p.bytes) p.records e.record_of (recorded p a) (event_of_chunk p a (kept_by p flags) (chosen_events p flags) e f.0).listed in
         let same : e.record_of ≡ a.metadata_record =
-          record_one p.bytes e.record_of a.metadata_record s (metadata_stands p a) (eqb-true e.record_of.at r.at f.1 ∙ (eqb-true r.at (metadata_at p.bytes) t ∙ sym a.metadata_there.place)) in
+        record_one p.bytes e.record_of a.metadata_record s (metadata_stands p a) (eqb-true e.record_of.at r.at f.1 ∙ (eqb-true r.at (metadata_at p.bytes) t ∙ sym a.metadata_there.place)) in
         let none : is_event_class p.classes e.record_of.type_id ≡ false = ap (λ (z : Framed). is_event_class p.classes z.type_id) same ∙ (ap (is_event_class p.classes) a.metadata_there.type_is ∙ no_metadata_event p.classes) in
         absurd (clash (is_event_class p.classes e.record_of.type_id) (computed p e i).class none)
 

@@ -1,7 +1,6 @@
 -- What becomes of a chunk and of a recording when they are masked, and the dictionary that goes on from chunk to chunk.
 use Rattle.std.specs.Prelude.{ℕ, Bool, List, [], ◌∷◌, Option, Some, None}
 use Rattle.std.specs.List.{flat_map}
-use Rattle.std.specs.Option.{option_map_or}
 use Rattle.jfr_frame.specs.declared.framed.Framed.{Framed}
 use Rattle.jfr_frame.specs.Records.{record_bytes}
 use Rattle.jfr_layout.specs.Classes.{Classes}

@@ -78,7 +78,9 @@ impl Numbering<'_> {
         match output_record {
             OutputRecord::Event(number, _) => self.add_event(dictionary, number),
             OutputRecord::Metadata(_) => Ok(()),
-            OutputRecord::Chained(number, _) => { self.add_entries(dictionary, entries_of(entries, number)) }
+            OutputRecord::Chained(number, _) => {
+                self.add_entries(dictionary, entries_of(entries, number))
+            }
         }
     }
 
@@ -93,11 +95,7 @@ impl Numbering<'_> {
     }
 
     // Adds the texts of entries.
-    fn add_entries(
-        &self,
-        dictionary: &mut Dictionary,
-        entries: &[EntryAt],
-    ) -> Result<(), NoMemory>
+    fn add_entries(&self, dictionary: &mut Dictionary, entries: &[EntryAt]) -> Result<(), NoMemory>
         requires values { AllByRecursion (IsEntryValue self.now.strings.chunk.now) entries.now }
         ensures ok { OnOk result (dictionary.new ≡ with_texts dictionary.old (flat_map (λ e. node_texts_by self.now (entry_node e)) entries.now)) }
     {
@@ -151,11 +149,7 @@ impl Numbering<'_> {
 }
 
 // Adds a text, unless it is shown as it is.
-fn add_unless_shown(
-    known: &Known,
-    dictionary: &mut Dictionary,
-    text: &str,
-) -> Result<(), NoMemory>
+fn add_unless_shown(known: &Known, dictionary: &mut Dictionary, text: &str) -> Result<(), NoMemory>
     ensures ok { OnOk result (dictionary.new ≡ with_texts dictionary.old (numbered_text (has_text known.now) (Some (chars text.now)))) }
 {
     if stays(known, text) {

@@ -1,4 +1,4 @@
-use Rattle.std.proofs.Common.{◌≡◌, ◌+◌, Option, ap, length, sym, ◌∙◌}
+use Rattle.std.proofs.Common.{◌≡◌, ◌+◌, ap, length, sym, ◌∙◌}
 use Rattle.std.proofs.lemmas.Result.{IfOk-weaker}
 use Rattle.jfr_layout.specs.declared.shape.Shape.{Shape}
 use Rattle.jfr_value.specs.Leaves.{leaf_key, leaf_of}
@@ -14,5 +14,5 @@ returns c =
     let l = leaf_of c.args.leaf.now in
     let node : Shape → NodeAt = λ s. node_at s l.at (l.at + length l.spelled) in
     let same : text_of p (node c.inline.result) ≡ leaf_text p l =
-      ap (λ s. text_of p (node s)) c.inline.ensures ∙ sym (text_is p (node (string_shape l)) (string_shape l) l.spelled (leaf_key l.kind l.spelled) c.parts_are_valid.ensures.sound (c.requires.in_chunk c.requires.string).1) in
-    record { ok = IfOk-weaker c.text_at.result (λ text. text ≡ text_of p (node c.inline.result)) (λ text. text ≡ leaf_text p l) (λ text e. e ∙ same) c.text_at.ensures.ok; }
+    ap (λ s. text_of p (node s)) c.inline.ensures ∙ sym (text_is p (node (string_shape l)) (string_shape l) l.spelled (leaf_key l.kind l.spelled) c.parts_are_valid.ensures.sound (c.requires.in_chunk c.requires.string).1) in
+    record { ok = IfOk-weaker c.text_at.result (λ text. text ≡ text_of p (node c.inline.result)) (λ text. text ≡ leaf_text p l) (λ text e. e ∙ same) c.text_at.ensures.ok }

@@ -1,6 +1,5 @@
-use Rattle.std.proofs.Common.{◌≡◌, ◌+◌, ◌++◌, ap, arith, length, sym, subst, ◌∙◌}
+use Rattle.std.proofs.Common.{◌+◌, ◌++◌, ap, arith, length, sym, subst, ◌∙◌}
 use Rattle.std.specs.List.{slice_range}
-use Rattle.jfr_value.specs.Leaves.{leaf_of}
 use Rattle.jfr_value.specs.Nodes.{IsNode, node_of}
 use Rattle.jfr_mask.specs.Masked.{is_held_masked}
 use Rattle.jfr_mask.specs.MaskedLeaves.{masked_from}

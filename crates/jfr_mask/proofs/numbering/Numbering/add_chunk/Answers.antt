@@ -1,4 +1,4 @@
-use Rattle.std.proofs.Common.{◌≡◌, ℕ, List, ap, refl, sym, subst, ◌∙◌}
+use Rattle.std.proofs.Common.{ℕ, List, ap, refl, sym, subst, ◌∙◌}
 use Rattle.std.specs.List.{AllByRecursion, flat_map}
 use Rattle.jfr_chunk.specs.Metas.{new_metadata}
 use Rattle.jfr_chunk.specs.Reach.{kept_by}
@@ -58,5 +58,5 @@ returns c =
           ap (λ z. with_texts c.output_records.dictionary (flat_map (λ o. origin_texts m p (origin_of p (kept_by p flags) c.args.entries.now o)) z)) (sym (c.in_default.ensures.exact slim))
           ∙ (c.output_records.invariant.texts m is
           ∙ ap (λ es. with_texts c.args.dictionary.now (flat_map (λ o. origin_texts m p (origin_of p (kept_by p flags) es o)) (records_out m p (kept_by p flags))))
-            (c.requires.entries ∙ sym (entries_same c.args.self.now m is (kept_by p flags)))));
+          (c.requires.entries ∙ sym (entries_same c.args.self.now m is (kept_by p flags)))));
     }

@@ -1,4 +1,4 @@
-use Rattle.std.proofs.Common.{◌≡◌, ℕ, List, ◌+◌, drop, get_or, slice_get, ap, refl, sym, Some, ◌∙◌}
+use Rattle.std.proofs.Common.{ℕ, List, ◌+◌, drop, get_or, ap, sym, ◌∙◌}
 use Rattle.std.specs.List.{flat_map}
 use Rattle.std.proofs.lemmas.List.{drop_all}
 use Rattle.std.proofs.lemmas.Option.{slice_get-get_or}
@@ -15,7 +15,7 @@ pub add_entry-requires : goal.add_entry-requires
 add_entry-requires c =
     let none : EntryAt = record { class = 0; key = 0; key_at = 0; value_at = 0; end = 0; checkpoint = 0; pool = 0 } in
     let here = slice_get-get_or c.args.entries.now c.loop-entry.entry-index none c.loop-entry-test.true in
-    record { value = all_get (IsEntryValue c.args.self.now.strings.chunk.now) c.args.entries.now c.loop-entry.entry-index (get_or c.args.entries.now c.loop-entry.entry-index none) c.requires.values here; }
+    record { value = all_get (IsEntryValue c.args.self.now.strings.chunk.now) c.args.entries.now c.loop-entry.entry-index (get_or c.args.entries.now c.loop-entry.entry-index none) c.requires.values here }
 
 pub loop-entry-preserved : goal.loop-entry-preserved
 loop-entry-preserved c =
@@ -32,4 +32,4 @@ loop-entry-preserved c =
 pub returns : goal.returns
 returns c =
     let texts : EntryAt → List (List ℕ) = λ e. node_texts_by c.args.self.now (entry_node e) in
-    record { ok = ap (λ z. with_texts c.loop-entry.dictionary (flat_map texts z)) (sym (drop_all c.loop-entry.entry-index c.args.entries.now c.loop-entry-test.false)) ∙ c.loop-entry.invariant; }
+    record { ok = ap (λ z. with_texts c.loop-entry.dictionary (flat_map texts z)) (sym (drop_all c.loop-entry.entry-index c.args.entries.now c.loop-entry-test.false)) ∙ c.loop-entry.invariant }

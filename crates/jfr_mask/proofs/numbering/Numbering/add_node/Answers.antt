@@ -1,4 +1,4 @@
-use Rattle.std.proofs.Common.{◌≡◌, ◌+◌, ap, length, sym, subst, ◌∙◌}
+use Rattle.std.proofs.Common.{◌+◌, ap, length, sym, subst, ◌∙◌}
 use Rattle.std.specs.List.{flat_map}
 use Rattle.jfr_value.specs.Leaves.{leaf_of}
 use Rattle.jfr_value.specs.Nodes.{IsNode, node_of}
@@ -26,7 +26,7 @@ add_leaf-requires c =
     let p = c.args.self.now.strings.chunk.now in
     let within = subst (λ z. IsNode p.classes z (node_of c.args.node) c.requires.value.0) c.requires.of_chunk c.requires.value.1 in
     let laid = subst (AreLaid p.classes p.bytes c.loop-leaf.invariant.0 c.args.node.end) c.in-Some.ensures.steps c.loop-leaf.invariant.1 in
-    record { in_chunk = string_in p c.loop-leaf.invariant.0 c.args.node.end (leaf_of c.in-Some.leaf) c.next.new.self laid within.within; }
+    record { in_chunk = string_in p c.loop-leaf.invariant.0 c.args.node.end (leaf_of c.in-Some.leaf) c.next.new.self laid within.within }
 
 pub loop-leaf-preserved : goal.loop-leaf-preserved
 loop-leaf-preserved c =

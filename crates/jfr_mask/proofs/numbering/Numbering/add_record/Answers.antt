@@ -1,4 +1,4 @@
-use Rattle.std.proofs.Common.{◌≡◌, ◌==◌, ap, sym, subst, ◌∙◌}
+use Rattle.std.proofs.Common.{◌==◌, ap, sym, subst, ◌∙◌}
 use Rattle.std.specs.List.{AllByRecursion, flat_map}
 use Rattle.std.proofs.lemmas.Result.{on_ok_weaker}
 use Rattle.jfr_pool.specs.Entries.{entry_node}
@@ -15,7 +15,7 @@ use Rattle.jfr_mask.proofs.numbering.Numbering.add_record.Goals as goal
 pub add_entries-requires : goal.add_entries-requires
 add_entries-requires c =
     let p = c.args.self.now.strings.chunk.now in
-    record { values = subst (AllByRecursion (IsEntryValue p)) (sym c.entries_of.ensures) (filter_all (IsEntryValue p) (λ e. e.checkpoint == c.in-Chained.number) c.args.entries.now c.requires.values); }
+    record { values = subst (AllByRecursion (IsEntryValue p)) (sym c.entries_of.ensures) (filter_all (IsEntryValue p) (λ e. e.checkpoint == c.in-Chained.number) c.args.entries.now c.requires.values) }
 
 pub returns-in-Metadata : goal.returns-in-Metadata
 returns-in-Metadata c =
@@ -36,6 +36,6 @@ returns-in-Chained c =
           e
           ∙ (ap (λ es. with_texts c.args.dictionary.now (flat_map (λ e. node_texts_by c.args.self.now (entry_node e)) es)) c.entries_of.ensures
           ∙ ap (λ z. with_texts c.args.dictionary.now z)
-            (sym (ap (λ o. origin_texts m p (origin_of p (kept_by p flags) c.args.entries.now (output_record_as slim o))) c.in-Chained.is
-            ∙ chained_texts c.args.self.now m is flags c.args.entries.now c.in-Chained.number c.in-Chained.field-1)))) c.add_entries.ensures.ok;
+          (sym (ap (λ o. origin_texts m p (origin_of p (kept_by p flags) c.args.entries.now (output_record_as slim o))) c.in-Chained.is
+          ∙ chained_texts c.args.self.now m is flags c.args.entries.now c.in-Chained.number c.in-Chained.field-1)))) c.add_entries.ensures.ok;
     }
