@@ -13,7 +13,7 @@ use Rattle.jfr_mask.specs.declared.numbering.Numbering.{Numbering}
 use Rattle.jfr_mask.specs.declared.texts.MaskedStrings.{MaskedStrings}
 use Rattle.jfr_mask.specs.Fields.{masks_of}
 use Rattle.jfr_mask.specs.Masked.{is_held_masked, is_masked_string, masking, node_texts}
-use Rattle.jfr_mask.specs.MaskedLeaves.{leaf_texts}
+use Rattle.jfr_mask.specs.MaskedLeaves.{leaf_texts, masked_from}
 use Rattle.jfr_mask.specs.MaskOf.{Masking}
 use Rattle.jfr_mask.specs.Pseudonyms.{has_text, shown}
 use Rattle.jfr_mask.specs.ReachBut.{remain_but}
@@ -38,9 +38,17 @@ pub record IsMaskingBy (n : Numbering) (m : Masking) : Type 0 where
   pub masks : n.strings.masked.now ≡ masks_of m.strings m.except n.strings.chunk.now.classes
   pub known : m.known ≡ has_text n.known.now
 
+-- What is shown for a text.
+abbrev pub shown_by : Masker → List ℕ → List ℕ
+shown_by m = shown (has_text m.known.now) m.dictionary.now
+
 -- What becomes of values.
 abbrev pub change_by : Masker → Change
-change_by m = masking (held_by m.strings) (shown (has_text m.known.now) m.dictionary.now) m.strings.chunk.now
+change_by m = masking (held_by m.strings) (shown_by m) m.strings.chunk.now
+
+-- The bytes of the masked chunk for those from an offset up to another one, between which these leaves are.
+abbrev pub masked_by : Masker → ℕ → ℕ → List LeafAt → List ℕ
+masked_by m from to ls = masked_from (held_by m.strings) (shown_by m) m.strings.chunk.now from to ls
 
 -- The entry's value is one of the chunk.
 abbrev pub IsEntryValue : Parts → EntryAt → Type 0

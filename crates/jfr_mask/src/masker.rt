@@ -7,9 +7,8 @@ ghost use Rattle.jfr_value.specs.Leaves.{LeafAt, leaf_of};
 ghost use Rattle.jfr_value.specs.Nodes.{IsValue, node_of};
 ghost use Rattle.jfr_rewrite.specs.Rewrite.{changed_bytes};
 ghost use Rattle.jfr_mask.specs.Masked.{is_string_leaf, string_bytes};
-ghost use Rattle.jfr_mask.specs.MaskedLeaves.{IsInChunk, leaf_text, masked_from};
-ghost use Rattle.jfr_mask.specs.Maskers.{change_by, held_by};
-ghost use Rattle.jfr_mask.specs.Pseudonyms.{has_text, shown};
+ghost use Rattle.jfr_mask.specs.MaskedLeaves.{IsInChunk, leaf_text};
+ghost use Rattle.jfr_mask.specs.Maskers.{change_by, masked_by, shown_by};
 
 use crate::texts::{MaskedStrings, leaf_text};
 use crate::{Dictionary, Known, MaskedFields, Shown};
@@ -19,8 +18,8 @@ use jfr_text::{EMPTY_BYTE, NULL_BYTE, UTF8_BYTE};
 use jfr_value::{Leaf, Leaves, Node};
 use std::alloc::Global;
 
-/// What the values of a chunk are masked with: its masked strings, the known texts, and the dictionary, which should have
-/// all texts of these strings.
+/// What the values of a chunk are masked with: its masked strings, the known texts, and the dictionary, which should
+/// have all texts of these strings.
 #[derive(Clone, Copy)]
 pub(crate) struct Masker<'m> {
     pub(crate) alloc: Global,
@@ -56,14 +55,14 @@ impl Masker<'_> {
         Ok(())
     }
 
-    /// If the leaf is a masked string, appends the bytes from `copied` up to it, and the string in its place, and returns
-    /// the offset after it. Otherwise returns `copied`.
+    // If the leaf is a masked string, appends the bytes from `copied` up to it, and the string in its place, and
+    // returns the offset after it. Otherwise returns `copied`.
     fn put_leaf(&self, out: &mut Vec<u8>, leaf: &Leaf<'_>, copied: usize) -> Result<usize, NoMemory>
         requires in_chunk { IsInChunk self.now.strings.chunk.now (leaf_of leaf.now) }
         requires start { copied ≤ leaf.now.at }
         requires within { leaf.now.at + length leaf.now.spelled.now ≤ length self.now.strings.chunk.now.bytes }
         ensures range { IfOk result (λ next. next ≤ leaf.now.at + length leaf.now.spelled.now) }
-        ensures ok { IfOk result (λ next. (to : ℕ) (ls : List LeafAt) → out.new.items ++ masked_from (held_by self.now.strings) (shown (has_text self.now.known.now) self.now.dictionary.now) self.now.strings.chunk.now next to ls ≡ out.old.items ++ masked_from (held_by self.now.strings) (shown (has_text self.now.known.now) self.now.dictionary.now) self.now.strings.chunk.now copied to (leaf_of leaf.now ∷ ls)) }
+        ensures ok { IfOk result (λ next. (to : ℕ) (ls : List LeafAt) → out.new.items ++ masked_by self.now next to ls ≡ out.old.items ++ masked_by self.now copied to (leaf_of leaf.now ∷ ls)) }
     {
         if !self.strings.has(leaf) {
             return Ok(copied);
@@ -73,11 +72,11 @@ impl Masker<'_> {
         Ok(leaf.at + leaf.spelled.len())
     }
 
-    /// Appends a string with what is shown for the text of this one; the null string if this one has no text.
+    // Appends a string with what is shown for the text of this one; the null string if this one has no text.
     fn put_string(&self, out: &mut Vec<u8>, leaf: &Leaf<'_>) -> Result<(), NoMemory>
         requires string { is_string_leaf leaf.now.kind ≡ true }
         requires in_chunk { IsInChunk self.now.strings.chunk.now (leaf_of leaf.now) }
-        ensures ok { OnOk result (out.new.items ≡ out.old.items ++ string_bytes (option_map (shown (has_text self.now.known.now) self.now.dictionary.now) (leaf_text self.now.strings.chunk.now (leaf_of leaf.now)))) }
+        ensures ok { OnOk result (out.new.items ≡ out.old.items ++ string_bytes (option_map (shown_by self.now) (leaf_text self.now.strings.chunk.now (leaf_of leaf.now)))) }
     {
         match leaf_text(self.alloc, self.strings.chunk, leaf)? {
             Some(text) => self.put_shown(out, text.as_str()),
@@ -85,9 +84,9 @@ impl Masker<'_> {
         }
     }
 
-    /// Appends a string with what is shown for a text. Nothing else than the empty text is shown as the empty text.
+    // Appends a string with what is shown for a text. Only the empty text is shown as the empty text.
     fn put_shown(&self, out: &mut Vec<u8>, text: &str) -> Result<(), NoMemory>
-        ensures ok { OnOk result (out.new.items ≡ out.old.items ++ text_bytes (shown (has_text self.now.known.now) self.now.dictionary.now (chars text.now))) }
+        ensures ok { OnOk result (out.new.items ≡ out.old.items ++ text_bytes (shown_by self.now (chars text.now))) }
     {
         if text.is_empty() {
             out.push(EMPTY_BYTE)?;

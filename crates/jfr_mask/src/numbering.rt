@@ -26,8 +26,8 @@ use jfr_pool::EntryAt;
 use jfr_value::{Leaf, Leaves, Node};
 use std::alloc::Global;
 
-/// Adds the masked texts of a chunk to a dictionary, except for those that are shown as they are. If memory runs out, some
-/// of the texts are added.
+/// Adds the masked texts of a chunk to a dictionary, except for those that are shown as they are. If memory runs out,
+/// some of the texts are added.
 #[derive(Clone, Copy)]
 pub(crate) struct Numbering<'m> {
     pub(crate) alloc: Global,

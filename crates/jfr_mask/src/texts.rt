@@ -39,8 +39,8 @@ impl MaskedStrings<'_> {
 
 /// The text of a leaf that is a string: its own, or that of the constant to which its key leads.
 ///
-/// It takes time in proportion to the text, which is copied if it has more than 14 bytes. The text of a constant is made
-/// again for each reference to it, so n references to a text of m bytes take n times m steps.
+/// It takes time in proportion to the text, which is copied if it has more than 14 bytes. The text of a constant is
+/// made again for each reference to it, so n references to a text of m bytes take n times m steps.
 pub(crate) fn leaf_text(
     alloc: Global,
     chunk: &Chunk<'_>,
