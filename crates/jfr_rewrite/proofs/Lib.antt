@@ -2,7 +2,9 @@ pub mod Accepted
 mod Carried
 pub mod ChangeLaws
 mod CheckpointBack
+pub mod CheckpointWriting
 mod Events
+pub mod EventWriting
 mod InForce
 mod Made
 pub mod MeaningLaws
@@ -14,6 +16,8 @@ mod RecordBack
 pub mod Remaining
 pub mod Rewriting
 mod Rows
+pub mod SizeLaws
 pub mod Sizes
 mod SpelledBack
 mod UsedLaws
+pub mod WritingLaws

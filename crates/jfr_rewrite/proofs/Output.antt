@@ -70,12 +70,12 @@ find_none test (y ∷ xs) e = by_test (test y) e (find_none test xs)
     by_test false h f = f h
 
 -- What holds of records that are written whole, which are chosen, and of those that are built anew.
-abbrev OnChosen : (Framed → Type 0) → (Framed → Bool) → (Framed → Option (List ℕ)) → OutputRecord → Type 0
+abbrev pub OnChosen : (Framed → Type 0) → (Framed → Bool) → (Framed → Option (List ℕ)) → OutputRecord → Type 0
 OnChosen P whole new (Whole r) = P r × (whole r ≡ true) × (new r ≡ None)
 OnChosen P whole new (Rebuilt r x) = P r × (new r ≡ Some x)
 OnChosen P whole new (Chained i l) = ⊤
 
-on_chosen : (P : Framed → Type 0) (all : List Numbered) (whole : Framed → Bool) (new : Framed → Option (List ℕ)) (rs : List Framed) → AllByRecursion P rs
+pub on_chosen : (P : Framed → Type 0) (all : List Numbered) (whole : Framed → Bool) (new : Framed → Option (List ℕ)) (rs : List Framed) → AllByRecursion P rs
     → AllByRecursion (OnChosen P whole new) (output_records_in all whole new rs)
 on_chosen P all whole new [] a = tt
 on_chosen P all whole new (r ∷ rs) a = one (numbered_at all r.at) (whole r) refl (new r) refl (on_chosen P all whole new rs a.1)
@@ -88,11 +88,11 @@ on_chosen P all whole new (r ∷ rs) a = one (numbered_at all r.at) (whole r) re
     one None false q z v i = i
 
 -- Nothing is built anew.
-abbrev none_anew : Framed → Option (List ℕ)
+abbrev pub none_anew : Framed → Option (List ℕ)
 none_anew r = None
 
 -- What holds of chained checkpoints.
-abbrev OnChained : (OutputRecord → Type 0) → OutputRecord → Type 0
+abbrev pub OnChained : (OutputRecord → Type 0) → OutputRecord → Type 0
 OnChained P (Whole r) = ⊤
 OnChained P (Rebuilt r x) = ⊤
 OnChained P (Chained i l) = P (Chained i l)
@@ -110,7 +110,7 @@ module _ (all : List Numbered) (whole : Framed → Bool) (new : Framed → Optio
       one None true (Some x) e = e
       one None false z e = e
 
-  on_chained : (P : OutputRecord → Type 0) (rs : List Framed) → AllByRecursion P (output_records_in all whole none_anew rs) → AllByRecursion (OnChained P) (output_records_in all whole new rs)
+  pub on_chained : (P : OutputRecord → Type 0) (rs : List Framed) → AllByRecursion P (output_records_in all whole none_anew rs) → AllByRecursion (OnChained P) (output_records_in all whole new rs)
   on_chained P [] a = tt
   on_chained P (r ∷ rs) a = one (numbered_at all r.at) (whole r) (new r) a (on_chained P rs)
     where
