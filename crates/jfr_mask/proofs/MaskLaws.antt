@@ -55,7 +55,7 @@ both_true : (a b : Bool) → (a && b) ≡ true → b ≡ true
 both_true true b h = h
 both_true false b h = cc
 
-text_kind : (kd : Kind) → is_text kd ≡ true → kd ≡ kinds.Text
+pub text_kind : (kd : Kind) → is_text kd ≡ true → kd ≡ kinds.Text
 text_kind kinds.Text h = refl
 text_kind kinds.Boolean h = cc
 text_kind kinds.Byte h = cc

@@ -193,3 +193,8 @@ number_most (u ∷ us) t = by_eq (bytes_eq u t) (number_most us t)
     by_eq : (b : Bool) → index_of us t + 1 ≤ length us + 1 → cond (not b) (1 + index_of us t) 0 + 1 ≤ length (u ∷ us) + 1
     by_eq true h = omega arith
     by_eq false h = omega arith
+
+-- Texts are added one after another.
+pub with_append : (d ts us : List (List ℕ)) → with_texts d (ts ++ us) ≡ with_texts (with_texts d ts) us
+with_append d [] us = refl
+with_append d (t ∷ ts) us = with_append (with_text d t) ts us

@@ -1,12 +1,15 @@
 -- What is shown is one to one, and no known text is shown for another.
-use Rattle.std.specs.Prelude.{◌≡◌, ℕ, ◌<◌, ◌^◌, ◌&&◌, ◌||◌, not, Bool, true, false, List, [], ◌∷◌, ◌++◌, codes, decimal, encode_utf8_all, IsUtf8, length, if◌then◌else◌}
+use Rattle.std.specs.Prelude.{◌≡◌, ℕ, ◌<◌, ◌^◌, ◌&&◌, ◌||◌, ◌==◌, not, Bool, true, false, List, [], ◌∷◌, ◌++◌, codes, decimal, encode_utf8_all, IsUtf8, length, if◌then◌else◌}
 use Rattle.std.specs.Str.{chars}
-use Rattle.std.proofs.Common.{ap, arith, refl, sym, ◌∙◌}
+use Rattle.std.proofs.Common.{ap, append_assoc, arith, refl, sym, ◌∙◌}
+use Rattle.std.proofs.lemmas.Bool.{eqb-true}
 use Rattle.std.proofs.lemmas.Fmt.{IsAscii-decimal, decimal_injective}
 use Rattle.std.proofs.lemmas.List.{append_cancel_left}
-use Rattle.std.proofs.lemmas.Str.{encodes-IsAscii, encodes-append, encodes-chars}
+use Rattle.std.proofs.lemmas.Str.{chars-nil, encodes-IsAscii, encodes-append, encodes-chars}
 use lib.Utf8.{encode, encodes}
+use Rattle.jfr_base.specs.Integer.{spell}
 use Rattle.jfr_filter.specs.Patterns.{glob, some_suffix}
+use Rattle.jfr_meta.specs.Written.{text_bytes}
 use Rattle.jfr_mask.specs.Laws.{AreDistinct}
 use Rattle.jfr_mask.specs.Pseudonyms.{has_text, number_of, is_descriptor, is_known, is_like_pseudonym, pseudonym, shown, stays}
 use Rattle.jfr_mask.proofs.NumberLaws.{number_most, number_one}
@@ -116,3 +119,37 @@ other_stays known text u some = by_chars (chars text) refl
     by_chars : (t : List ℕ) → chars text ≡ t → stays known t ≡ known t
     by_chars [] e = let z : length text ≡ 0 = ap length (sym (encodes-chars text u)) ∙ ap (λ z. length (encodes z)) e in absurd (some z)
     by_chars (c ∷ cs) e = refl
+
+-- The empty text, as a string.
+pub empty_string : (known : List ℕ → Bool) (d : List (List ℕ)) (text : List ℕ) → (length text == 0) ≡ true → text_bytes (shown known d (chars text)) ≡ 1 ∷ []
+empty_string known d [] h = ap (λ t. text_bytes (shown known d t)) chars-nil
+empty_string known d (b ∷ bs) h = let z : length (b ∷ bs) ≡ 0 = eqb-true (length (b ∷ bs)) 0 h in absurd (omega arith)
+
+-- What is shown for any other text isn't empty.
+pub other_string : (known : List ℕ → Bool) (d : List (List ℕ)) (text u : List ℕ) → IsUtf8 text → (length text == 0) ≡ false → u ≡ encode_utf8_all (shown known d (chars text))
+    → text_bytes (shown known d (chars text)) ≡ 3 ∷ (spell (length u) ++ u)
+other_string known d text u w some e = by_chars (chars text) refl ∙ ap (λ z. 3 ∷ (spell (length z) ++ z)) (sym e)
+  where
+    filled : List ℕ → List ℕ
+    filled t = 3 ∷ (spell (length (encode_utf8_all t)) ++ encode_utf8_all t)
+
+    by_descriptor : (b : Bool) (n : ℕ) → text_bytes (pseudonym b n) ≡ filled (pseudonym b n)
+    by_descriptor true n = refl
+    by_descriptor false n = refl
+
+    by_stay : (b : Bool) (c : ℕ) (cs : List ℕ) → text_bytes (if b then c ∷ cs else pseudonym (is_descriptor (c ∷ cs)) (number_of d (c ∷ cs))) ≡ filled (if b then c ∷ cs else pseudonym (is_descriptor (c ∷ cs)) (number_of d (c ∷ cs)))
+    by_stay true c cs = refl
+    by_stay false c cs = by_descriptor (is_descriptor (c ∷ cs)) (number_of d (c ∷ cs))
+
+    by_chars : (t : List ℕ) → chars text ≡ t → text_bytes (shown known d t) ≡ filled (shown known d t)
+    by_chars [] f =
+        let z : length text ≡ 0 = ap length (sym (encodes-chars text w)) ∙ ap (λ z. length (encodes z)) f in
+        let both : true ≡ false = sym (ap (λ n. n == 0) z) ∙ some in
+        cc
+    by_chars (c ∷ cs) f = by_stay (stays known (c ∷ cs)) c cs
+
+-- A kind byte, a length and these bytes, one after another.
+pub string_steps : (o p q r b : List ℕ) (n : ℕ) → p ≡ o ++ 3 ∷ [] → q ≡ p ++ spell n → r ≡ q ++ b → n ≡ length b → r ≡ o ++ (3 ∷ (spell (length b) ++ b))
+string_steps o p q r b n e f g h =
+    let k : r ≡ ((o ++ 3 ∷ []) ++ spell (length b)) ++ b = cc in
+    k ∙ (append_assoc (o ++ 3 ∷ []) (spell (length b)) b ∙ append_assoc o (3 ∷ []) (spell (length b) ++ b))

@@ -4,6 +4,8 @@ pub mod Held
 pub mod Laws
 pub mod MaskOf
 pub mod Masked
+pub mod MaskedLeaves
+pub mod Maskers
 pub mod Plain
 pub mod Pseudonyms
 pub mod ReachBut

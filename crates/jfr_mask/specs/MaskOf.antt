@@ -1,12 +1,11 @@
 -- What becomes of a chunk and of a recording when they are masked, and the dictionary that goes on from chunk to chunk.
 use Rattle.std.specs.Prelude.{ℕ, Bool, List, [], ◌∷◌, Option, Some, None}
 use Rattle.std.specs.List.{flat_map}
-use Rattle.std.specs.Option.{option_map_or}
 use Rattle.jfr_frame.specs.declared.framed.Framed.{Framed}
 use Rattle.jfr_frame.specs.Records.{record_bytes}
 use Rattle.jfr_layout.specs.Classes.{Classes}
 use Rattle.jfr_value.specs.declared.leaf.Holder.{Holder}
-use Rattle.jfr_value.specs.Nodes.{NodeAt, value_of}
+use Rattle.jfr_value.specs.Nodes.{NodeAt}
 use Rattle.jfr_pool.specs.declared.link.Link.{Link}
 use Rattle.jfr_pool.specs.declared.entry.EntryAt.{EntryAt}
 use Rattle.jfr_pool.specs.Entries.{entry_node}
@@ -19,7 +18,8 @@ use Rattle.jfr_rewrite.specs.Changed.{Change}
 use Rattle.jfr_rewrite.specs.Paths.{Stops}
 use Rattle.jfr_rewrite.specs.Rewrite.{Rewrite, event_there, fewest_or_five, rewritten}
 use Rattle.jfr_mask.specs.Fields.{masks_of}
-use Rattle.jfr_mask.specs.Masked.{is_held_masked, is_masked_string, masked_texts, masking}
+use Rattle.jfr_mask.specs.Masked.{is_held_masked, is_masked_string, masking}
+use Rattle.jfr_mask.specs.Masked as masked
 use Rattle.jfr_mask.specs.Pseudonyms.{shown, with_texts}
 use Rattle.jfr_mask.specs.ReachBut.{remain_but}
 
@@ -69,9 +69,9 @@ origin_of p kept entries (Whole r) = whole_origin p r (event_there kept r)
 origin_of p kept entries (Rebuilt r bytes) = Metadata bytes
 origin_of p kept entries (Chained number l) = Pools l (groups_of entries number)
 
--- The texts of the masked strings in a node that is in no field, as an event's and an entry's are.
+-- The texts of the masked strings in a node that is in no field.
 abbrev pub node_texts : Masking → Parts → NodeAt → List (List ℕ)
-node_texts m p n = option_map_or (masked_texts (is_masked_in m p.classes) m.known p None) (value_of p.classes p.bytes n) []
+node_texts m p n = masked.node_texts (is_masked_in m p.classes) m.known p n
 
 -- Those of an output record: of the event's fields, or of the values of the entries.
 abbrev pub group_texts : Masking → Parts → Group → List (List ℕ)

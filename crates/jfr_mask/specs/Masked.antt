@@ -11,6 +11,7 @@ use Rattle.jfr_value.specs.declared.leaf.LeafKind.{LeafKind}
 use Rattle.jfr_value.specs.declared.leaf.LeafKind.TheVariants as leaf_kinds
 use Rattle.jfr_value.specs.Values.{Value, Values, Single, Group, Nil, Cons}
 use Rattle.jfr_value.specs.Leaves.{part_holder}
+use Rattle.jfr_value.specs.Nodes.{NodeAt, value_of}
 use Rattle.jfr_pool.specs.Entries.{in_force, entry_node}
 use Rattle.jfr_chunk.specs.Parts.{Parts}
 use Rattle.jfr_chunk.specs.Paths.{always, content_in, follow_while, string_of}
@@ -74,3 +75,7 @@ abbrev mutual
   pub masked_texts_all : (Option Holder → Bool) → (List ℕ → Bool) → Parts → (ℕ → Option Holder) → Values → List (List ℕ)
   masked_texts_all masked known p f Nil = []
   masked_texts_all masked known p f (Cons v vs) = masked_texts masked known p (f zero) v ++ masked_texts_all masked known p (λ n. f (suc n)) vs
+
+-- Those of a node that is in no field, as an event's and an entry's are.
+abbrev pub node_texts : (Option Holder → Bool) → (List ℕ → Bool) → Parts → NodeAt → List (List ℕ)
+node_texts masked known p n = option_map_or (masked_texts masked known p None) (value_of p.classes p.bytes n) []

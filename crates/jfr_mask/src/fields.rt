@@ -1,12 +1,13 @@
 //! The masked fields of a chunk's classes.
-ghost use Rattle.std.specs.Prelude.{◌≡◌, ◌<◌, ◌&&◌, Bool, false, IfOk, Some, get_or, length, map, slice_get, string_bytes};
+ghost use Rattle.std.specs.Prelude.{◌≡◌, ◌&&◌, Bool, false, IfOk, [], get_or, map, string_bytes};
 ghost use Rattle.std.specs.List.{list_any};
+ghost use Rattle.std.specs.Option.{option_map_or};
 ghost use Rattle.std.specs.Str.{chars};
 ghost use Rattle.jfr_layout.specs.declared.class.FieldInfo.{FieldInfo};
-ghost use Rattle.jfr_mask.specs.Fields.{any_matches, full_name, is_masked, is_masked_field, is_string, masks_of};
+ghost use Rattle.jfr_mask.specs.Fields.{full_name, is_masked, is_masked_field, is_string, masks_of};
 
-use jfr_base::{NoMemory, Words};
-use jfr_filter::glob;
+use jfr_base::NoMemory;
+use jfr_filter::Patterns;
 use jfr_layout::{ClassInfo, Classes, FieldInfo, Kind};
 use std::alloc::Global;
 use std::marker::Model;
@@ -29,14 +30,14 @@ impl Model for MaskedFields {
 
 impl MaskedFields {
     /// The masked fields of these classes: those of class `java.lang.String` whose full name, as `jdk.FileRead.path`,
-    /// a pattern of `strings` matches, and none of `except`.
+    /// a pattern of `strings` matches, and none of `except`, if it is given.
     pub fn of(
         alloc: Global,
-        strings: &Words,
-        except: &Words,
+        strings: &Patterns,
+        except: Option<&Patterns>,
         classes: &Classes,
     ) -> Result<MaskedFields, NoMemory>
-        ensures ok { IfOk result (λ masked. masked ≡ masks_of strings.now except.now classes.now) }
+        ensures ok { IfOk result (λ masked. masked ≡ masks_of strings.now (option_map_or (λ p. p.now) except.entry []) classes.now) }
     {
         let selector = Selector {
             strings,
@@ -85,15 +86,15 @@ pub(crate) fn flag_at(flags: &[bool], at: usize) -> bool
 // The patterns of fields that are masked and of those that aren't, and the classes.
 #[derive(Clone, Copy)]
 struct Selector<'c> {
-    strings: &'c Words,
-    except: &'c Words,
+    strings: &'c Patterns,
+    except: Option<&'c Patterns>,
     classes: &'c Classes,
 }
 
 impl<'c> Selector<'c> {
     // For each field of a class, whether it is masked.
     fn class_masks(&self, alloc: Global, class: &ClassInfo) -> Result<Vec<bool>, NoMemory>
-        ensures ok { IfOk result (λ masked. masked.items ≡ map (is_masked self.now.strings.now self.now.except.now self.now.classes.now class.now) class.now.fields) }
+        ensures ok { IfOk result (λ masked. masked.items ≡ map (is_masked self.now.strings.now (option_map_or (λ p. p.now) self.now.except []) self.now.classes.now class.now) class.now.fields) }
     {
         let mut masked = Vec::with_capacity(alloc, class.fields.len())?;
         for number in 0..class.fields.len() {
@@ -110,16 +111,19 @@ impl<'c> Selector<'c> {
         class: &ClassInfo,
         field: &FieldInfo,
     ) -> Result<bool, NoMemory>
-        ensures ok { IfOk result (λ masked. masked ≡ is_masked self.now.strings.now self.now.except.now self.now.classes.now class.now field.now) }
+        ensures ok { IfOk result (λ masked. masked ≡ is_masked self.now.strings.now (option_map_or (λ p. p.now) self.now.except []) self.now.classes.now class.now field.now) }
     {
         if !self.is_string(field) {
             return Ok(false);
         }
         let name = full_name(alloc, class, field)?;
-        if !any_matches(self.strings, name.as_str()) {
+        if !self.strings.matches(name.as_str()) {
             return Ok(false);
         }
-        Ok(!any_matches(self.except, name.as_str()))
+        match self.except {
+            Some(except) => Ok(!except.matches(name.as_str())),
+            None => Ok(true),
+        }
     }
 
     // Whether the field's class is `java.lang.String`.
@@ -141,29 +145,6 @@ fn full_name(alloc: Global, class: &ClassInfo, field: &FieldInfo) -> Result<Stri
     name.push('.')?;
     name.push_str(field.name.as_str())?;
     Ok(name)
-}
-
-// Whether some pattern matches the text.
-fn any_matches(patterns: &Words, text: &str) -> bool
-    ensures { result ≡ any_matches patterns.now (chars text.now) }
-{
-    for at in 0..patterns.len() {
-        if glob(text_at(patterns, at), text) {
-            return true;
-        }
-    }
-    false
-}
-
-// The text with this index.
-fn text_at(words: &Words, at: usize) -> &str
-    requires { at < length words.now }
-    ensures { slice_get words.now at ≡ Some (chars result.now) }
-{
-    match words.get(at) {
-        Some(text) => text,
-        None => unreachable!(),
-    }
 }
 
 // Whether a masked field of the class has the constant mark.

@@ -39,9 +39,12 @@ mod holders;
 mod known;
 pub mod laws;
 mod left;
+mod masker;
+mod numbering;
 mod plain;
 mod references;
 mod shown;
+mod texts;
 
 pub use chunk_laws::{
     equal_outputs, masked_chunks_are_accepted, masked_chunks_mean_the_same, masked_values_are_read,

@@ -58,8 +58,8 @@ impl<'t> Shown<'t> {
     }
 }
 
-// Whether the text is empty or known.
-fn stays(known: &Known, text: &str) -> bool
+/// Whether the text is empty or known.
+pub(crate) fn stays(known: &Known, text: &str) -> bool
     ensures { result ≡ stays (has_text known.now) (chars text.now) }
 {
     if text.is_empty() {

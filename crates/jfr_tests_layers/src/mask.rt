@@ -1,5 +1,5 @@
 //! Pseudonyms, known texts and masked fields from outside.
-use crate::filter::words_of;
+use jfr_filter::Patterns;
 use jfr_layout::{ClassInfo, ClassList, Classes, FieldInfo, Fields, Shape};
 use jfr_mask::{Dictionary, Known, MaskedFields, Shown};
 use jfr_outside::{NoMemory, Text, Words};
@@ -155,28 +155,24 @@ static FIELDS: [FieldRow; 4] = [
     ("n", 8, false),
 ];
 
-/// The patterns of masked fields, those of exceptions, which of the fields above are masked, and whether constants are.
-type Mask = (
-    &'static [&'static str],
-    &'static [&'static str],
-    [bool; 4],
-    bool,
-);
+/// The list of patterns of masked fields, that of exceptions, if there is one, which of the fields above are masked, and
+/// whether constants are.
+type Mask = (&'static str, Option<&'static str>, [bool; 4], bool);
 
 static MASKS: [Mask; 5] = [
-    (&["t.Node.text"], &[], [true, false, false, false], false),
-    (&["t.Node.*"], &[], [true, false, true, false], true),
-    (&["*"], &["*.name"], [true, false, false, false], false),
+    ("t.Node.text", None, [true, false, false, false], false),
+    ("t.Node.*", None, [true, false, true, false], true),
+    ("*", Some("*.name"), [true, false, false, false], false),
     (
-        &["t.A.text", "t.Node.next"],
-        &[],
+        "t.A.text,t.Node.next",
+        None,
         [false, false, false, false],
         false,
     ),
     // A pattern matches the whole name, and not the part after a dot.
     (
-        &["text", "Node.name"],
-        &[],
+        "text,Node.name",
+        None,
         [false, false, false, false],
         false,
     ),
@@ -232,9 +228,12 @@ fn see_mask(
     classes: &Classes,
     (strings, except, wanted, constants): Mask,
 ) -> Result<(), Fail> {
-    let strings = words_of(alloc, strings)?;
-    let except = words_of(alloc, except)?;
-    let masked = MaskedFields::of(alloc, &strings, &except, classes)?;
+    let strings = Patterns::read(alloc, strings)?;
+    let except = match except {
+        Some(list) => Some(Patterns::read(alloc, list)?),
+        None => None,
+    };
+    let masked = MaskedFields::of(alloc, &strings, except.as_ref(), classes)?;
     for (number, is_masked) in wanted.iter().enumerate() {
         assert!(rt; masked.has(1, number) == *is_masked, "field {number}");
     }

@@ -1,5 +1,6 @@
 use Rattle.std.proofs.Common.{◌≡◌, ◌&&◌, ◌||◌, ◌++◌, ◌∷◌, [], Bool, List, ap, map, rules, sym, take, ◌∙◌}
 use Rattle.std.specs.List.{list_any}
+use Rattle.std.specs.Option.{option_map_or}
 use Rattle.std.proofs.lemmas.List.{map-append}
 use Rattle.jfr_layout.specs.Classes.{Class}
 use Rattle.jfr_layout.proofs.Lists.{map_next}
@@ -9,8 +10,8 @@ use Rattle.jfr_mask.proofs.fields.MaskedFields.of.Goals as goal
 
 pub loop-index-preserved : goal.loop-index-preserved
 loop-index-preserved c =
-    let masks : Class → List Bool = λ class. map (is_masked c.args.strings.now c.args.except.now c.args.classes.now class) class.fields in
-    let constants : Class → Bool = λ class. list_any (λ f. f.shape.constant && is_masked c.args.strings.now c.args.except.now c.args.classes.now class f) class.fields in
+    let masks : Class → List Bool = λ class. map (is_masked c.args.strings.now (option_map_or (λ p. p.now) c.args.except []) c.args.classes.now class) class.fields in
+    let constants : Class → Bool = λ class. list_any (λ f. f.shape.constant && is_masked c.args.strings.now (option_map_or (λ p. p.now) c.args.except []) c.args.classes.now class f) class.fields in
     let class = c.class_at-class.result.now in
     let k = c.args.classes.now in
     let pushed : c.push.new.self.items ≡ c.loop-index.fields.items ++ c.in_ok-masked.masked ∷ [] = search rules in (
@@ -21,6 +22,6 @@ loop-index-preserved c =
           ∙ sym (map_next masks k c.loop-index.index class c.class_at-class.ensures)))),
       ap (λ b. b || c.has_constant-constants.result) c.loop-index.invariant.1
           ∙ (ap (λ b. list_any constants (take c.loop-index.index k) || b)
-          (c.has_constant-constants.ensures (is_masked c.args.strings.now c.args.except.now k class) (c.deref.ensures.value ∙ c.in_ok-masked.ensures.ok))
+          (c.has_constant-constants.ensures (is_masked c.args.strings.now (option_map_or (λ p. p.now) c.args.except []) k class) (c.deref.ensures.value ∙ c.in_ok-masked.ensures.ok))
           ∙ sym (any_taken constants k c.loop-index.index class c.class_at-class.ensures)),
     )

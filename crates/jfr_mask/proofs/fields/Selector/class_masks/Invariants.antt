@@ -1,6 +1,7 @@
-use Rattle.std.proofs.Common.{◌≡◌, map, take}
+use Rattle.std.proofs.Common.{◌≡◌, [], map, take}
+use Rattle.std.specs.Option.{option_map_or}
 use Rattle.jfr_mask.specs.Fields.{is_masked}
 use Rattle.jfr_mask.proofs.fields.Selector.class_masks.Given as goal
 
 abbrev pub invariant-loop-number : goal.invariant-loop-number
-invariant-loop-number l = l.masked.items ≡ map (is_masked l.self.strings.now l.self.except.now l.self.classes.now l.class) (take l.number l.class.fields)
+invariant-loop-number l = l.masked.items ≡ map (is_masked l.self.strings.now (option_map_or (λ p. p.now) l.self.except []) l.self.classes.now l.class) (take l.number l.class.fields)

@@ -1,0 +1,61 @@
+//! Masked strings, and their texts.
+ghost use Rattle.std.specs.Prelude.{◌≡◌, true, IfOk};
+ghost use Rattle.jfr_value.specs.Leaves.{leaf_of};
+ghost use Rattle.jfr_mask.specs.Masked.{is_string_leaf};
+ghost use Rattle.jfr_mask.specs.MaskedLeaves.{IsInChunk, is_masked_leaf, leaf_text};
+ghost use Rattle.jfr_mask.specs.Maskers.{held_by};
+
+use crate::MaskedFields;
+use crate::holders::is_held_masked;
+use jfr_base::{NoMemory, Text};
+use jfr_chunk::Chunk;
+use jfr_layout::{Kind, Shape};
+use jfr_path::text_at;
+use jfr_value::{Leaf, LeafKind, Node};
+use std::alloc::Global;
+
+/// The masked strings of a chunk.
+#[derive(Clone, Copy)]
+pub(crate) struct MaskedStrings<'m> {
+    pub(crate) chunk: &'m Chunk<'m>,
+    pub(crate) masked: &'m MaskedFields,
+}
+
+impl MaskedStrings<'_> {
+    /// Whether the leaf is a masked string.
+    pub(crate) fn has(&self, leaf: &Leaf<'_>) -> bool
+        ensures { result ≡ is_masked_leaf (held_by self.now) (leaf_of leaf.now) }
+    {
+        match leaf.kind {
+            LeafKind::Base(Kind::Text) => is_held_masked(
+                self.masked,
+                self.chunk.classes(),
+                leaf.holder,
+            ),
+            _ => false,
+        }
+    }
+}
+
+/// The text of a leaf that is a string: its own, or that of the constant to which its key leads.
+///
+/// It takes time in proportion to the text, which is copied if it has more than 14 bytes. The text of a constant is
+/// made again for each reference to it, so n references to a text of m bytes take n times m steps.
+pub(crate) fn leaf_text(
+    alloc: Global,
+    chunk: &Chunk<'_>,
+    leaf: &Leaf<'_>,
+) -> Result<Option<Text>, NoMemory>
+    requires string { is_string_leaf leaf.now.kind ≡ true }
+    requires in_chunk { IsInChunk chunk.now (leaf_of leaf.now) }
+    ensures ok { IfOk result (λ text. text ≡ leaf_text chunk.now (leaf_of leaf.now)) }
+{
+    chunk.parts_are_valid();
+    let node = Node {
+        shape: Shape::inline(leaf.class),
+        bytes: chunk.bytes(),
+        at: leaf.at,
+        end: leaf.at + leaf.spelled.len(),
+    };
+    text_at(alloc, chunk, &node)
+}
