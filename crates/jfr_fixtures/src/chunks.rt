@@ -6,14 +6,18 @@ use std::alloc::{AllocError, Global};
 /// The plain chunk: a header, a metadata record without classes, and a checkpoint without pools.
 #[rattlefmt::skip]
 pub const PLAIN: [u8; 103] = [
-    0x46, 0x4C, 0x52, 0x00, 0x00, 0x02, 0x00, 0x01, 0, 0, 0, 0, 0, 0, 0, 103,
-    0, 0, 0, 0, 0, 0, 0, 96, 0, 0, 0, 0, 0, 0, 0, 68,
-    0, 0, 0, 0, 0, 0, 0x03, 0xE8, 0, 0, 0, 0, 0, 0, 0, 5,
-    0, 0, 0, 0, 0, 0, 0, 0, 0, 0, 0, 0, 0x3B, 0x9A, 0xCA, 0x00, 0, 0, 0, 1,
-    0x1C, 0x00, 0x00, 0x00, 0x01, 0x02, 0x03, 0x04, 0x72, 0x6F, 0x6F, 0x74,
-    0x03, 0x08, 0x6D, 0x65, 0x74, 0x61, 0x64, 0x61, 0x74, 0x61,
-    0x00, 0x00, 0x01, 0x01, 0x00, 0x00,
-    0x07, 0x01, 0x00, 0x00, 0x00, 0x00, 0x00,
+    b'F', b'L', b'R', 0, 0, 2, 0, 1,                // chunk format 2.1
+    0, 0, 0, 0, 0, 0, 0, 103, 0, 0, 0, 0, 0, 0, 0, 96, // its size, and where its checkpoint is
+    0, 0, 0, 0, 0, 0, 0, 68,                        // where its metadata record is
+    0, 0, 0, 0, 0, 0, 0x03, 0xE8, 0, 0, 0, 0, 0, 0, 0, 5, // it starts at 1000 ns and takes 5 ns
+    0, 0, 0, 0, 0, 0, 0, 0,                         // it starts at tick 0
+    0, 0, 0, 0, 0x3B, 0x9A, 0xCA, 0, 0, 0, 0, 1,    // 1,000,000,000 ticks a second; compressed integers
+    28, 0, 0, 0, 1, 2,                              // at 68: 28 bytes, a metadata record with 2 texts
+    3, 4, b'r', b'o', b'o', b't',
+    3, 8, b'm', b'e', b't', b'a', b'd', b'a', b't', b'a',
+    0, 0, 1,                                        // root
+    1, 0, 0,                                        //   metadata
+    7, 1, 0, 0, 0, 0, 0,                            // at 96: 7 bytes, a checkpoint without pools
 ];
 
 /// When a chunk starts and how long it takes, in nanoseconds, and its minor version.

@@ -2,7 +2,7 @@
 use crate::reading::with_chunk;
 use jfr_chunk::{Chunk, Kept};
 use jfr_filter::{Filter, Side};
-use jfr_fixtures::{JDK_LIKE, jdk_unnamed};
+use jfr_fixtures::{jdk_like, jdk_unnamed};
 use jfr_path::choose;
 use std::alloc::Global;
 use std::process::Abort;
@@ -85,7 +85,8 @@ fn compare_choices(rt: &impl Abort, alloc: Global, chunk: &Chunk<'_>) -> Result<
 
 #[test]
 fn events_are_chosen(rt: HostRuntime) -> Result<(), Fail> {
-    with_chunk(rt.alloc(), &JDK_LIKE, |chunk| {
+    let bytes = jdk_like(rt.alloc())?;
+    with_chunk(rt.alloc(), &bytes, |chunk| {
         compare_choices(&rt, rt.alloc(), chunk)
     })
 }

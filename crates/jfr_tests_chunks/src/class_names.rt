@@ -1,7 +1,7 @@
 //! Which strings of the metadata's table name the classes.
 use crate::reading::with_chunk;
 use jfr_chunk::Chunk;
-use jfr_fixtures::JDK_LIKE;
+use jfr_fixtures::jdk_like;
 use jfr_meta::ClassNames;
 use std::alloc::Global;
 use std::process::Abort;
@@ -63,7 +63,8 @@ fn compare_all(rt: &impl Abort, alloc: Global, chunk: &Chunk<'_>) -> Result<(), 
 
 #[test]
 fn strings_name_the_classes(rt: HostRuntime) -> Result<(), Fail> {
-    with_chunk(rt.alloc(), &JDK_LIKE, |chunk| {
+    let bytes = jdk_like(rt.alloc())?;
+    with_chunk(rt.alloc(), &bytes, |chunk| {
         compare_all(&rt, rt.alloc(), chunk)
     })
 }

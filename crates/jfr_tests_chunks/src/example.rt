@@ -6,7 +6,7 @@ use crate::reading::with_chunk;
 use jfr_base::{NoMemory, ReadFault, Words};
 use jfr_chunk::Chunk;
 use jfr_example::{constant_field, texts_of};
-use jfr_fixtures::{JDK_LIKE, KEYS, RINGS, with_classes};
+use jfr_fixtures::{KEYS, RINGS, jdk_like, with_classes};
 use jfr_header::{ChunkCutter, Cut, Ending};
 use jfr_outside::{MemoryPlace, Place};
 use jfr_path::named;
@@ -108,7 +108,7 @@ fn push_twice(bytes: &mut Vec<u8>, chunk: &[u8]) -> Result<(), AllocError> {
 // A recording of two chunks, the same chunk twice.
 fn two_chunks(alloc: Global) -> Result<Vec<u8>, AllocError> {
     let mut bytes = Vec::new(alloc);
-    push_twice(&mut bytes, &JDK_LIKE)?;
+    push_twice(&mut bytes, &jdk_like(alloc)?)?;
     Ok(bytes)
 }
 

@@ -165,9 +165,13 @@ fn sixteen_levels_are_read(rt: HostRuntime) -> Result<(), Fail> {
 }
 
 // The record of a chunk without classes as it is written: its size takes five bytes.
+#[rattlefmt::skip]
 static WRITTEN: [u8; 32] = [
-    0xA0, 0x80, 0x80, 0x80, 0x00, 0x00, 0x00, 0x00, 0x01, 0x02, 0x03, 0x04, 0x72, 0x6F, 0x6F, 0x74,
-    0x03, 0x08, 0x6D, 0x65, 0x74, 0x61, 0x64, 0x61, 0x74, 0x61, 0x00, 0x00, 0x01, 0x01, 0x00, 0x00,
+    0xA0, 0x80, 0x80, 0x80, 0, 0, 0, 0, 1, 2, // 32 bytes, a metadata record with 2 texts
+    3, 4, b'r', b'o', b'o', b't',
+    3, 8, b'm', b'e', b't', b'a', b'd', b'a', b't', b'a',
+    0, 0, 1,                                  // root
+    1, 0, 0,                                  //   metadata
 ];
 
 // The tree of that record.

@@ -5,7 +5,7 @@ use crate::kinds::kinds;
 use crate::shown::Form::Lines;
 use crate::shown::{Shown, compare, with_chunk};
 use jfr_chunk::Chunk;
-use jfr_fixtures::{JDK_LIKE, RINGS, STRINGS, with_classes};
+use jfr_fixtures::{RINGS, STRINGS, jdk_like, with_classes};
 use jfr_outside::NoMemory;
 use jfr_show::{TextBuilder, show_event};
 use std::alloc::Global;
@@ -186,5 +186,10 @@ const PARK: &str = "jdk.ThreadPark {
 
 #[test]
 fn a_stack_trace_is_shown(rt: HostRuntime) -> Result<(), Fail> {
-    compare(&rt, rt.alloc(), &JDK_LIKE, &[(Lines, 0, 1, PARK)])
+    compare(
+        &rt,
+        rt.alloc(),
+        &jdk_like(rt.alloc())?,
+        &[(Lines, 0, 1, PARK)],
+    )
 }

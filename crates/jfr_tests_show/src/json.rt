@@ -2,7 +2,7 @@
 use crate::kinds::{kinds, long_names};
 use crate::shown::Form::Json;
 use crate::shown::{Shown, compare};
-use jfr_fixtures::{JDK_LIKE, RINGS, STRINGS, with_classes};
+use jfr_fixtures::{RINGS, STRINGS, jdk_like, with_classes};
 use std::test::Fail;
 
 // The events of the chunk of rings.
@@ -57,5 +57,10 @@ const PARK: &str =
 
 #[test]
 fn a_stack_trace_is_an_object(rt: HostRuntime) -> Result<(), Fail> {
-    compare(&rt, rt.alloc(), &JDK_LIKE, &[(Json, 0, 1, PARK)])
+    compare(
+        &rt,
+        rt.alloc(),
+        &jdk_like(rt.alloc())?,
+        &[(Json, 0, 1, PARK)],
+    )
 }

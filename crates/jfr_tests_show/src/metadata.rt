@@ -2,7 +2,7 @@
 use crate::kinds::{kinds, oddly_named};
 use crate::shown::with_chunk;
 use jfr_chunk::Chunk;
-use jfr_fixtures::{JDK_LIKE, RINGS, inert, with_classes};
+use jfr_fixtures::{RINGS, inert, jdk_like, with_classes};
 use jfr_show::{metadata_json, metadata_text};
 use std::alloc::Global;
 use std::process::Abort;
@@ -220,7 +220,8 @@ fn arrays_are_shown(rt: HostRuntime) -> Result<(), Fail> {
 
 #[test]
 fn categories_are_shown(rt: HostRuntime) -> Result<(), Fail> {
-    compare(&rt, rt.alloc(), &JDK_LIKE, 2, (OF_JDK_LIKE, JDK_LIKE_JSON))
+    let chunk = jdk_like(rt.alloc())?;
+    compare(&rt, rt.alloc(), &chunk, 2, (OF_JDK_LIKE, JDK_LIKE_JSON))
 }
 
 #[test]

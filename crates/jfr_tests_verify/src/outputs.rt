@@ -22,30 +22,55 @@ pub(crate) const RIGHT: &[u8] = &[2, 0, 0, 0, 1, 1, 0];
 pub(crate) const PLAIN: Records = (NO_CLASSES, NO_POOLS, 96);
 
 // The first event, and a checkpoint with the first ring.
+#[rattlefmt::skip]
 pub(crate) const FIRST_RING: &[u8] = &[
-    5, 8, 0xAC, 2, 1, 0x13, 1, 0, 0, 0, 0, 1, 7, 2, 1, 2, 3, 1, 0x70, 2, 1, 3, 1, 0x71,
+    5, 8, 0xAC, 2, 1,     // t.A: 300, node 1
+    19, 1, 0, 0, 0, 0, 1, // a checkpoint of 19 bytes, one pool
+    7, 2,                 // 2 of t.Node
+    1, 2, 3, 1, 0x70,     // 1: next 2, p
+    2, 1, 3, 1, 0x71,     // 2: next 1, q
 ];
 
 // With both rings.
+#[rattlefmt::skip]
 pub(crate) const BOTH_RINGS: &[u8] = &[
-    5, 8, 0xAC, 2, 1, 0x1D, 1, 0, 0, 0, 0, 1, 7, 4, 1, 2, 3, 1, 0x70, 2, 1, 3, 1, 0x71, 3, 4, 3, 1,
-    0x72, 4, 3, 3, 1, 0x73,
+    5, 8, 0xAC, 2, 1,     // t.A: 300, node 1
+    29, 1, 0, 0, 0, 0, 1, // a checkpoint of 29 bytes, one pool
+    7, 4,                 // 4 of t.Node
+    1, 2, 3, 1, 0x70,     // 1: next 2, p
+    2, 1, 3, 1, 0x71,     // 2: next 1, q
+    3, 4, 3, 1, 0x72,     // 3: next 4, r
+    4, 3, 3, 1, 0x73,     // 4: next 3, s
 ];
 
 // With the first node of the first ring, and without nodes.
+#[rattlefmt::skip]
 pub(crate) const ONE_NODE: &[u8] = &[
-    5, 8, 0xAC, 2, 1, 0x0E, 1, 0, 0, 0, 0, 1, 7, 1, 1, 2, 3, 1, 0x70,
+    5, 8, 0xAC, 2, 1,     // t.A: 300, node 1
+    14, 1, 0, 0, 0, 0, 1, // a checkpoint of 14 bytes, one pool
+    7, 1,                 // 1 of t.Node
+    1, 2, 3, 1, 0x70,     // 1: next 2, p
 ];
 
 pub(crate) const NO_NODE: &[u8] = &[5, 8, 0xAC, 2, 1, 7, 1, 0, 0, 0, 0, 0];
 
 // With the nodes of the first ring in the other order, and with another text in the second.
+#[rattlefmt::skip]
 pub(crate) const SWAPPED: &[u8] = &[
-    5, 8, 0xAC, 2, 1, 0x13, 1, 0, 0, 0, 0, 1, 7, 2, 2, 1, 3, 1, 0x71, 1, 2, 3, 1, 0x70,
+    5, 8, 0xAC, 2, 1,     // t.A: 300, node 1
+    19, 1, 0, 0, 0, 0, 1, // a checkpoint of 19 bytes, one pool
+    7, 2,                 // 2 of t.Node
+    2, 1, 3, 1, 0x71,     // 2: next 1, q
+    1, 2, 3, 1, 0x70,     // 1: next 2, p
 ];
 
+#[rattlefmt::skip]
 pub(crate) const ANOTHER_TEXT: &[u8] = &[
-    5, 8, 0xAC, 2, 1, 0x13, 1, 0, 0, 0, 0, 1, 7, 2, 1, 2, 3, 1, 0x70, 2, 1, 3, 1, 0x78,
+    5, 8, 0xAC, 2, 1,     // t.A: 300, node 1
+    19, 1, 0, 0, 0, 0, 1, // a checkpoint of 19 bytes, one pool
+    7, 2,                 // 2 of t.Node
+    1, 2, 3, 1, 0x70,     // 1: next 2, p
+    2, 1, 3, 1, 0x78,     // 2: next 1, x
 ];
 
 // Reads a whole chunk.

@@ -4,7 +4,9 @@ use crate::outputs::{
 };
 use jfr_base::NoMemory;
 use jfr_chunk::{Chunk, Kept};
-use jfr_fixtures::{CLASSES, CLASSES_OF_A, JDK_LIKE, RINGS, chunk_of, with_metadata};
+use jfr_fixtures::{
+    CLASSES, CLASSES_OF_A, RINGS, THREAD_AND_SYMBOLS, jdk_after, jdk_like, with_metadata,
+};
 use jfr_verify::{receipt_of, receipt_of_scrub};
 use std::alloc::{AllocError, Global};
 use std::process::Abort;
@@ -57,20 +59,14 @@ fn compare_row(
     compare_bytes(rt, alloc, &bytes, receipt)
 }
 
-// What is left of the first checkpoint of the chunk that is like the JDK's, without the thread that isn't in
-// force.
-const THREADS: &[u8] = &[
-    0xBD, 0x80, 0x80, 0, 1, 0, 0, 0, 0, 2, 0x1E, 1, 1, 3, 4, 0x6D, 0x61, 0x69, 0x6E, 0x64, 3, 4,
-    0x6D, 0x61, 0x69, 0x6E, 1, 0x20, 3, 1, 3, 0x10, 0x6A, 0x61, 0x76, 0x61, 0x2F, 0x6C, 0x61, 0x6E,
-    0x67, 0x2F, 0x4F, 0x62, 0x6A, 0x65, 0x63, 0x74, 2, 3, 4, 0x77, 0x61, 0x69, 0x74, 3, 3, 3, 0x28,
-    0x29, 0x56,
-];
-
 // What is left of the chunk that is like the JDK's if all events are kept: its last checkpoint is 16 bytes
 // nearer to the first.
 fn jdk_left(alloc: Global) -> Result<Vec<u8>, AllocError> {
-    let records = [THREADS, &JDK_LIKE[145..1276], &[0xDF], &JDK_LIKE[1277..]];
-    chunk_of(alloc, &records, 1253, 162)
+    let mut chunk = jdk_after(alloc, THREAD_AND_SYMBOLS, 1253, 162)?;
+    if let Some(delta) = chunk.get_mut(1260) {
+        *delta = 0xDF;
+    }
+    Ok(chunk)
 }
 
 // Its receipt.
@@ -145,7 +141,8 @@ fn compare_all(
 
 // Compares that of the chunk that is like the JDK's if all events are kept.
 fn compare_jdk_scrub(rt: &impl Abort, alloc: Global) -> Result<(), Fail> {
-    let chunk = read(alloc, JDK_LIKE.as_slice())?;
+    let bytes = jdk_like(alloc)?;
+    let chunk = read(alloc, &bytes)?;
     compare_all(rt, alloc, &chunk, JDK_RECEIPT)
 }
 
