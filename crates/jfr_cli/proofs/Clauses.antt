@@ -37,7 +37,7 @@ use Rattle.jfr_cli.specs.Answers.{status_of, line_of, answer_status, answer_line
 use Rattle.jfr_cli.specs.Answers as answers
 use Rattle.jfr_cli.proofs.Leaving.{known_by}
 use Rattle.jfr_cli.proofs.Counting.{none_rose, tallied_once, text_leaves, place_passed, sink_passed, writes_stay}
-use Rattle.jfr_cli.specs.Runs.{Carries, Obeys, NoOrder, NotRead, CarriedOut, Under, Ended, Halted, Broken, IsPartlyDone, Prefix, Whole, Met, Torn, CarriesTo, CountsOnce, Doubts, HasStatus, KeepsText, Partly, IsCheck, IsDoubted, IsUnbuilt, IsVerdictStatus, Unbuilds, ByEnd, ByMemory, status_of_end, status_of_verdict, IsRefused}
+use Rattle.jfr_cli.specs.Runs.{Carries, Obeys, NoOrder, NotRead, CarriedOut, Under, WorkEnded, WorkHalted, WorkBroken, IsPartlyDone, Prefix, Whole, Met, Torn, CarriesTo, CountsOnce, Doubts, HasStatus, KeepsText, WorkPartly, IsCheck, IsDoubted, IsUnbuilt, IsVerdictStatus, Unbuilds, ByEnd, ByMemory, status_of_end, status_of_verdict, IsRefused}
 use Rattle.jfr_cli.specs.Runs as runs
 
 -- The state after an ending, if memory ran out for its line.
@@ -60,7 +60,7 @@ unchanged k a = Prefix (by_work k)
     same None P h = tt
     same (Some w) P h = h w
 
-    by_work : (k : Work) → Partly k a a
+    by_work : (k : Work) → WorkPartly k a a
     by_work (Over r input) = same a.place.contents (λ w v. StopsAs (Over r input) w (snapshot w (text_on r.target a.sink)) (snapshot v (text_on r.target a.sink))) (λ w. nothing (effects (plan_in r input w).steps) (snapshot w (text_on r.target a.sink)))
     by_work (Joins folder output) = same a.place.contents (λ w v. StopsAs (Joins folder output) w (snapshot w None) (snapshot v None)) (λ w. nothing (effects (assembling folder output w.files).steps) (snapshot w None))
     by_work (Planned p) = λ w. nothing (effects p.steps) (snapshot w a.sink.written)
@@ -196,7 +196,7 @@ built_end text output w r x p h = by_build (option_map build_of (file w text)) r
         fine ends.TooMany h = cc
 
 -- The ending is the plan's, and its status is answered.
-planned : (k : Work) (a b : Outside) (r : ℕ) (x : End) → r ≡ status_of_end x → Ended k x a b → IfSome a.place.contents (HasStatus k r)
+planned : (k : Work) (a b : Outside) (r : ℕ) (x : End) → r ≡ status_of_end x → WorkEnded k x a b → IfSome a.place.contents (HasStatus k r)
 planned k a b r x p h = from_files k a b (λ w v s t. Plans k w (λ q. AllDone q x s t)) (HasStatus k r) h (λ w v. by_work k w (snapshot w (text_on (target_of k) a.sink)) (snapshot v (text_on (target_of k) b.sink)))
   where
     by_work : (k : Work) (w : World) (s t : Snapshot) → Plans k w (λ q. AllDone q x s t) → HasStatus k r w
@@ -422,7 +422,7 @@ module _ {ws : List (List ℕ)} {r : ℕ} {a b : Outside} {e f : SinkState} wher
   untouched (Carried o is end c t) h = cc
   untouched (Stayed o is x d j t) h = cc
 
-  pub done_told : Answers ws r a b e f → r ≡ 0 → Under ws (λ o. Ended (work_of o) Fine a b) × (f ≡ e)
+  pub done_told : Answers ws r a b e f → r ≡ 0 → Under ws (λ o. WorkEnded (work_of o) Fine a b) × (f ≡ e)
   done_told x h =
       let k = obeyed x 0 h (λ z. omega (arith, z)) (λ z. omega (arith, z)) (omega arith) in
       let d = done_status k.end k.status_is in
@@ -434,19 +434,19 @@ module _ {ws : List (List ℕ)} {r : ℕ} {a b : Outside} {e f : SinkState} wher
       let d = refused_status k.end k.status_is in
       (k.order, k.is, record { refusal = d.0; ended = left ws 2 a b e f k (Refused d.0) d.1; said = said_by ws 2 a b e f k (Refused d.0) d.1 })
 
-  pub halted_told : Answers ws r a b e f → r ≡ 3 → Under ws (λ o. Halted (work_of o) a b) × IsLineWritten read_line e f × Rose a.place.read_faults b.place.read_faults
+  pub halted_told : Answers ws r a b e f → r ≡ 3 → Under ws (λ o. WorkHalted (work_of o) a b) × IsLineWritten read_line e f × Rose a.place.read_faults b.place.read_faults
   halted_told x h =
       let k = obeyed x 3 h (λ z. omega (arith, z)) (λ z. omega (arith, z)) (omega arith) in
       let d = read_status k.end k.status_is in
       ((k.order, k.is, left ws 3 a b e f k ReadFault d), said_by ws 3 a b e f k ReadFault d, plan.read_rose (target_of (work_of k.order)) ReadFault a b (counted ws 3 a b e f k ReadFault d) refl)
 
-  pub broken_told : Answers ws r a b e f → r ≡ 4 → Under ws (λ o. Broken (work_of o) a b) × IsLineWritten write_line e f × Under ws (λ o. Rose (write_count (target_of (work_of o)) a) (write_count (target_of (work_of o)) b))
+  pub broken_told : Answers ws r a b e f → r ≡ 4 → Under ws (λ o. WorkBroken (work_of o) a b) × IsLineWritten write_line e f × Under ws (λ o. Rose (write_count (target_of (work_of o)) a) (write_count (target_of (work_of o)) b))
   broken_told x h =
       let k = obeyed x 4 h (λ z. omega (arith, z)) (λ z. omega (arith, z)) (omega arith) in
       let d = write_status k.end k.status_is in
       ((k.order, k.is, left ws 4 a b e f k WriteFault d), said_by ws 4 a b e f k WriteFault d, (k.order, k.is, plan.write_rose (target_of (work_of k.order)) WriteFault a b (counted ws 4 a b e f k WriteFault d) refl))
 
-  pub parts_told : Answers ws r a b e f → r ≡ 6 → Under ws (λ o. Ended (work_of o) ends.TooMany a b) × IsLineWritten parts_line e f
+  pub parts_told : Answers ws r a b e f → r ≡ 6 → Under ws (λ o. WorkEnded (work_of o) ends.TooMany a b) × IsLineWritten parts_line e f
   parts_told x h =
       let k = obeyed x 6 h (λ z. omega (arith, z)) (λ z. omega (arith, z)) (omega arith) in
       let d = parts_status k.end k.status_is in

@@ -120,29 +120,29 @@ abbrev pub Under : List (List ℕ) → (Order → Type 0) → Type 0
 Under words P = (o : Order) × (order_of words ≡ Some o) × P o
 
 -- The plan has this end, and all its effects are done.
-abbrev pub Ended : Work → End → Outside → Outside → Type 0
-Ended k e a b = IsAfterWork k (Ends e) a b
+abbrev pub WorkEnded : Work → End → Outside → Outside → Type 0
+WorkEnded k e a b = IsAfterWork k (Ends e) a b
 
 -- A read failed. For one recording exactly the effects whose needs were met are done; for a folder's files
 -- the first effects are.
-abbrev pub Halted : Work → Outside → Outside → Type 0
-Halted k a b = IsAfterWork k command_ends.NotRead a b
+abbrev pub WorkHalted : Work → Outside → Outside → Type 0
+WorkHalted k a b = IsAfterWork k command_ends.NotRead a b
 
 -- The first effects are done, and of the next, which failed, a prefix of its bytes.
-abbrev pub Broken : Work → Outside → Outside → Type 0
-Broken k a b = IsAfterWork k NotWritten a b
+abbrev pub WorkBroken : Work → Outside → Outside → Type 0
+WorkBroken k a b = IsAfterWork k NotWritten a b
 
 -- The first effects are done.
-abbrev pub Partly : Work → Outside → Outside → Type 0
-Partly k a b = IsAfterWork k RanOut a b
+abbrev pub WorkPartly : Work → Outside → Outside → Type 0
+WorkPartly k a b = IsAfterWork k RanOut a b
 
 -- The state after memory ran out: the first effects are done; or all of them; or those that are done after a
 -- read fault; or, if the count of write faults rose, the first ones and a prefix of the next one's bytes.
 pub data IsPartlyDone (k : Work) (a b : Outside) : Type 0 where
-  Prefix : Partly k a b → IsPartlyDone k a b
-  Whole : (e : End) → Ended k e a b → IsPartlyDone k a b
-  Met : Halted k a b → IsPartlyDone k a b
-  Torn : Rose (write_count (target_of k) a) (write_count (target_of k) b) → Broken k a b → IsPartlyDone k a b
+  Prefix : WorkPartly k a b → IsPartlyDone k a b
+  Whole : (e : End) → WorkEnded k e a b → IsPartlyDone k a b
+  Met : WorkHalted k a b → IsPartlyDone k a b
+  Torn : Rose (write_count (target_of k) a) (write_count (target_of k) b) → WorkBroken k a b → IsPartlyDone k a b
 
 -- At most one count of faults rose: that of reads, that of writes to the place, or that of writes to the
 -- output sink.
@@ -208,5 +208,5 @@ pub record IsUnbuilt (k : Work) (a b : Outside) (e f : SinkState) : Type 0 where
 -- so.
 pub record IsRefused (k : Work) (a b : Outside) (e f : SinkState) : Type 0 where
   pub refusal : Refusal
-  pub ended : Ended k (Refused refusal) a b
+  pub ended : WorkEnded k (Refused refusal) a b
   pub said : IsLineWritten (refusal_line refusal) e f

@@ -18,7 +18,7 @@ use jfr_receipt::receipt_stream;
 use jfr_renumber::renumber_stream;
 use jfr_report::{metadata_stream, print_stream, sample_text, stacks_stream, summary_stream};
 use jfr_scrub::scrub_stream;
-use jfr_split::{SplitRule, assemble, disassemble};
+use jfr_split::SplitRule;
 use jfr_verify::{Verdict, verify_stream};
 use jfr_words::Order;
 use std::alloc::Global;
@@ -63,12 +63,12 @@ pub(crate) fn execute<P: Place, O: Sink>(
                 Answer::Ended(scrub(alloc, place, out, filter, &files))
             }
         }
-        Order::Disassemble { file, rule } => Answer::Ended(split(alloc, place, out, file, rule)),
-        Order::Assemble { folder, output } => Answer::Ended(join(
+        Order::Disassemble { file, rule } => Answer::Ended(disassemble(alloc, place, out, file, rule)),
+        Order::Assemble { folder, output } => Answer::Ended(assemble(
             alloc, place, out, folder, output,
         )),
         Order::Sample { seed, events } => {
-            Answer::Ended(write_sample(alloc, place, out, *seed, *events))
+            Answer::Ended(sample(alloc, place, out, *seed, *events))
         }
         Order::Receipt {
             filter,
@@ -79,7 +79,7 @@ pub(crate) fn execute<P: Place, O: Sink>(
                 input,
                 output: receipt,
             };
-            Answer::Ended(make_receipt(alloc, place, out, filter, &files))
+            Answer::Ended(receipt(alloc, place, out, filter, &files))
         }
         Order::Verify {
             filter,
@@ -195,7 +195,7 @@ fn renumber<P: Place, O: Sink>(
     renumber_stream(alloc, place, input.as_str(), output.as_str(), filter)
 }
 
-fn make_receipt<P: Place, O: Sink>(
+fn receipt<P: Place, O: Sink>(
     alloc: Global,
     place: &mut P,
     _out: &mut O,
@@ -272,7 +272,7 @@ fn build<P: Place, O: Sink>(
     }
 }
 
-fn split<P: Place, O: Sink>(
+fn disassemble<P: Place, O: Sink>(
     alloc: Global,
     place: &mut P,
     _out: &mut O,
@@ -282,10 +282,10 @@ fn split<P: Place, O: Sink>(
     requires usable { IsUsable rule.now }
     ensures { Carries (orders.Disassemble file.now rule.now) result (outside (P.state place.old) (O.state _out.old)) (outside (P.state place.new) (O.state _out.new)) }
 {
-    disassemble(alloc, place, file.as_str(), rule)
+    jfr_split::disassemble(alloc, place, file.as_str(), rule)
 }
 
-fn join<P: Place, O: Sink>(
+fn assemble<P: Place, O: Sink>(
     alloc: Global,
     place: &mut P,
     _out: &mut O,
@@ -294,10 +294,10 @@ fn join<P: Place, O: Sink>(
 ) -> Ending
     ensures { Carries (orders.Assemble folder.now output.now) result (outside (P.state place.old) (O.state _out.old)) (outside (P.state place.new) (O.state _out.new)) }
 {
-    assemble(alloc, place, folder.as_str(), output.as_str())
+    jfr_split::assemble(alloc, place, folder.as_str(), output.as_str())
 }
 
-fn write_sample<P: Place, O: Sink>(
+fn sample<P: Place, O: Sink>(
     alloc: Global,
     _place: &mut P,
     out: &mut O,

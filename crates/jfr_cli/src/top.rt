@@ -25,7 +25,7 @@ ghost use Rattle.jfr_build.specs.Builds.{build_of};
 ghost use Rattle.jfr_build.specs.Streams.{Builds};
 ghost use Rattle.jfr_cli.specs.Works.{work_of, target_of, KeepsSink, KeepsPlace, CanReadAll, CanCreateFor};
 ghost use Rattle.jfr_cli.specs.Answers.{usage_line, read_line, write_line, parts_line, IsLineWritten, IsMemoryLineWritten};
-ghost use Rattle.jfr_cli.specs.Runs.{Obeys, Under, Ended, Halted, Broken, IsPartlyDone, CountsOnce, HasStatus, IsDoubted, IsRefused, IsUnbuilt};
+ghost use Rattle.jfr_cli.specs.Runs.{Obeys, Under, WorkEnded, WorkHalted, WorkBroken, IsPartlyDone, CountsOnce, HasStatus, IsDoubted, IsRefused, IsUnbuilt};
 
 use crate::answer::Answer;
 use crate::execute::execute;
@@ -102,14 +102,14 @@ pub fn run<P: Place, O: Sink, E: Sink>(
     ensures each_built { (text chunk : List ℕ) → build_of text ≡ Ok chunk → IsBuiltOf text chunk }
 
     // The state after each status, and the line on the error sink.
-    ensures done { result ≡ 0 → Under words.now (λ o. Ended (work_of o) Fine (outside (P.state place.old) (O.state out.old)) (outside (P.state place.new) (O.state out.new))) }
+    ensures done { result ≡ 0 → Under words.now (λ o. WorkEnded (work_of o) Fine (outside (P.state place.old) (O.state out.old)) (outside (P.state place.new) (O.state out.new))) }
     ensures done_silent { result ≡ 0 → E.state err.new ≡ E.state err.old }
     ensures refused { result ≡ 2 → Under words.now (λ o. IsRefused (work_of o) (outside (P.state place.old) (O.state out.old)) (outside (P.state place.new) (O.state out.new)) (E.state err.old) (E.state err.new)) }
-    ensures halted { result ≡ 3 → Under words.now (λ o. Halted (work_of o) (outside (P.state place.old) (O.state out.old)) (outside (P.state place.new) (O.state out.new))) }
+    ensures halted { result ≡ 3 → Under words.now (λ o. WorkHalted (work_of o) (outside (P.state place.old) (O.state out.old)) (outside (P.state place.new) (O.state out.new))) }
     ensures halted_line_written { result ≡ 3 → IsLineWritten read_line (E.state err.old) (E.state err.new) }
-    ensures broken { result ≡ 4 → Under words.now (λ o. Broken (work_of o) (outside (P.state place.old) (O.state out.old)) (outside (P.state place.new) (O.state out.new))) }
+    ensures broken { result ≡ 4 → Under words.now (λ o. WorkBroken (work_of o) (outside (P.state place.old) (O.state out.old)) (outside (P.state place.new) (O.state out.new))) }
     ensures broken_line_written { result ≡ 4 → IsLineWritten write_line (E.state err.old) (E.state err.new) }
-    ensures too_many { result ≡ 6 → Under words.now (λ o. Ended (work_of o) TooMany (outside (P.state place.old) (O.state out.old)) (outside (P.state place.new) (O.state out.new))) }
+    ensures too_many { result ≡ 6 → Under words.now (λ o. WorkEnded (work_of o) TooMany (outside (P.state place.old) (O.state out.old)) (outside (P.state place.new) (O.state out.new))) }
     ensures too_many_line_written { result ≡ 6 → IsLineWritten parts_line (E.state err.old) (E.state err.new) }
     ensures parts { result ≡ 6 → Under words.now (λ o. target_of (work_of o) ≡ Parts) }
     ensures doubted { result ≡ 7 → Under words.now (λ o. IsDoubted (work_of o) (outside (P.state place.old) (O.state out.old)) (outside (P.state place.new) (O.state out.new)) (E.state err.old) (E.state err.new)) }

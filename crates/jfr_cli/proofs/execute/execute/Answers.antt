@@ -24,26 +24,26 @@ returns-in-Metadata g c =
 pub returns-in-Disassemble : goal.returns-in-Disassemble
 returns-in-Disassemble g c =
     let a = outside (g.P.Place.state c.args.place.now) (g.O.Sink.state c.args.out.now) in
-    let b = outside (g.P.Place.state c.split.new.place) (g.O.Sink.state c.split.new._out) in
-    subst (λ o. Carries o c.split.result a b) (sym c.in-Disassemble.is) c.split.ensures
+    let b = outside (g.P.Place.state c.disassemble.new.place) (g.O.Sink.state c.disassemble.new._out) in
+    subst (λ o. Carries o c.disassemble.result a b) (sym c.in-Disassemble.is) c.disassemble.ensures
 
 pub returns-in-Assemble : goal.returns-in-Assemble
 returns-in-Assemble g c =
     let a = outside (g.P.Place.state c.args.place.now) (g.O.Sink.state c.args.out.now) in
-    let b = outside (g.P.Place.state c.join.new.place) (g.O.Sink.state c.join.new._out) in
-    subst (λ o. Carries o c.join.result a b) (sym c.in-Assemble.is) c.join.ensures
+    let b = outside (g.P.Place.state c.assemble.new.place) (g.O.Sink.state c.assemble.new._out) in
+    subst (λ o. Carries o c.assemble.result a b) (sym c.in-Assemble.is) c.assemble.ensures
 
 pub returns-in-Sample : goal.returns-in-Sample
 returns-in-Sample g c =
     let a = outside (g.P.Place.state c.args.place.now) (g.O.Sink.state c.args.out.now) in
-    let b = outside (g.P.Place.state c.write_sample.new._place) (g.O.Sink.state c.write_sample.new.out) in
-    subst (λ o. Carries o c.write_sample.result a b) (sym c.in-Sample.is) c.write_sample.ensures
+    let b = outside (g.P.Place.state c.sample.new._place) (g.O.Sink.state c.sample.new.out) in
+    subst (λ o. Carries o c.sample.result a b) (sym c.in-Sample.is) c.sample.ensures
 
 pub returns-in-Receipt : goal.returns-in-Receipt
 returns-in-Receipt g c =
     let a = outside (g.P.Place.state c.args.place.now) (g.O.Sink.state c.args.out.now) in
-    let b = outside (g.P.Place.state c.make_receipt.new.place) (g.O.Sink.state c.make_receipt.new._out) in
-    subst (λ o. Carries o c.make_receipt.result a b) (sym c.in-Receipt.is) c.make_receipt.ensures
+    let b = outside (g.P.Place.state c.receipt.new.place) (g.O.Sink.state c.receipt.new._out) in
+    subst (λ o. Carries o c.receipt.result a b) (sym c.in-Receipt.is) c.receipt.ensures
 
 pub returns-in-Verify : goal.returns-in-Verify
 returns-in-Verify g c =

@@ -9,7 +9,7 @@ use Rattle.jfr_cli.proofs.Counting.{lifted_parts}
 use Rattle.jfr_words.specs.Words.{file_name}
 use Rattle.jfr_cli.proofs.Leaving.{over_leaves}
 use Rattle.jfr_cli.proofs.Orders.{named}
-use Rattle.jfr_cli.proofs.execute.split.Goals as goal
+use Rattle.jfr_cli.proofs.execute.disassemble.Goals as goal
 
 pub returns : goal.returns
 returns g c =

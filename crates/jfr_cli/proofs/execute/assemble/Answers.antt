@@ -7,7 +7,7 @@ use Rattle.jfr_words.specs.Words.{file_name}
 use Rattle.jfr_cli.proofs.Counting.{lifted}
 use Rattle.jfr_cli.proofs.Leaving.{join_leaves}
 use Rattle.jfr_cli.proofs.Orders.{named}
-use Rattle.jfr_cli.proofs.execute.join.Goals as goal
+use Rattle.jfr_cli.proofs.execute.assemble.Goals as goal
 
 pub returns : goal.returns
 returns g c =

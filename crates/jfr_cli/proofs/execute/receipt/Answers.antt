@@ -8,7 +8,7 @@ use Rattle.jfr_words.specs.Words.{file_name}
 use Rattle.jfr_cli.proofs.Counting.{lifted}
 use Rattle.jfr_cli.proofs.Leaving.{over_leaves}
 use Rattle.jfr_cli.proofs.Orders.{named}
-use Rattle.jfr_cli.proofs.execute.make_receipt.Goals as goal
+use Rattle.jfr_cli.proofs.execute.receipt.Goals as goal
 
 pub returns : goal.returns
 returns g c =

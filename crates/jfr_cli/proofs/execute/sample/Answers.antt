@@ -4,7 +4,7 @@ use Rattle.jfr_header.specs.declared.ending.Ending.TheVariants.{Memory}
 use Rattle.jfr_cli.specs.Texts.{IsWritten}
 use Rattle.jfr_cli.proofs.Orders.{named}
 use Rattle.jfr_cli.proofs.Sampling.{carries_sample}
-use Rattle.jfr_cli.proofs.execute.write_sample.Goals as goal
+use Rattle.jfr_cli.proofs.execute.sample.Goals as goal
 
 pub returns : goal.returns
 returns g c =
