@@ -1,4 +1,4 @@
-use Rattle.std.proofs.Common.{[], ◌+◌, ◌∷◌, ◌++◌, ap, arith, drop, length, subst, sym, ◌∙◌}
+use Rattle.std.proofs.Common.{[], ◌+◌, ◌∷◌, ◌++◌, ap, arith, drop, length, sym, ◌∙◌}
 use Rattle.std.specs.List.{slice_get}
 use Rattle.std.specs.Prelude.{◌≡◌, Some}
 use Rattle.jfr_layout.proofs.Lists.{item_at}
