@@ -20,7 +20,7 @@ DEPTH = 8
 FURTHER = f"(not within {DEPTH} references)"
 # What the texts of the metadata count as, at the name of their class.
 METADATA = "(metadata)"
-# Where there are more paths than this, a path is only that from the last constant.
+# Where there are more paths than this, a path is only that from the last constant that isn't a string.
 PATHS = 1_000_000
 ANY = "*"
 HEADER_BYTES = 68

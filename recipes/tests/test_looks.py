@@ -160,6 +160,15 @@ class Looks(Case):
         found = [line.split("\t")[2:] for line in self.recipe("left", "a.jfr").out.splitlines() if "metadata" not in line]
         self.assertEqual(found, [["one.class", '"direct"'], ["one.text", '"inside"'], ["other.text", '"two"']])
 
+    def test_class_of_a_basic_name(self) -> None:
+        self.recording("a.jfr", TEXTS + 'event 9 t.NamedAsAString\nfield javaName 6 -\nrecord 9 "inert"\nrecord 8 "one" null\n')
+        with open("b.jfr", "wb") as file:
+            file.write(self.read("a.jfr").replace(b"t.NamedAsAString", b"java.lang.String"))
+        self.assertIn('"inert"', self.recipe("left", "a.jfr").out)
+        self.assertEqual(self.recipe("threads", "a.jfr").out, '1 "inert"\n')
+        self.assertNotIn('"inert"', self.recipe("left", "b.jfr").out)
+        self.assertEqual(self.recipe("threads", "b.jfr")[:2], (0, ""))
+
     def test_how_words_are_found(self) -> None:
         types = TEXTS + "class 5 long\nevent 9 t.N\nfield n 5 -\n"
         for number, (string, word, is_found, is_exactly) in enumerate([
