@@ -2,17 +2,20 @@
 
 from typing import Tuple
 
+# By how much the seven bits of each of the first eight bytes are shifted.
+SHIFTS = tuple(range(0, 56, 7))
+
 
 def integer_at(data: bytes, at: int) -> Tuple[int, int]:
     """The integer at an offset, and the offset after it."""
-    value = shift = 0
-    while True:
+    value = 0
+    for shift in SHIFTS:
         byte = data[at]
         at += 1
-        value |= (byte if shift == 56 else byte & 127) << shift
-        if byte < 128 or shift == 56:
-            return value, at
-        shift += 7
+        if byte < 128:
+            return value | byte << shift, at
+        value |= (byte & 127) << shift
+    return value | data[at] << 56, at + 1
 
 
 def spelled(value: int, width: int) -> bytes:

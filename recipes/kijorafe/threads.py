@@ -1,6 +1,5 @@
 """The names of threads in a recording, and those that look like addresses or requests."""
 
-import json
 import re
 from collections import Counter
 from typing import Counter as Counts
@@ -8,9 +7,10 @@ from typing import Counter as Counts
 from kijorafe.messages import Fault
 from kijorafe.program import Failure, Program, find
 from kijorafe.shown import quoted
+from kijorafe.strings import last_field, strings_in
 
-# A member of a value, as `jfr print --json` writes it. Inside a string the quotes would be escaped.
-NAME = re.compile(rb'"(?:javaName|osName)":("(?:[^"\\]|\\.)*")')
+# The fields that are names of threads.
+NAMES = "javaName", "osName"
 
 # Each alternative takes time in proportion to the name: none can begin at each character of a long run.
 ADDRESS = re.compile(
@@ -23,11 +23,14 @@ ADDRESS = re.compile(
 
 
 def names_of(program: Program, recording: str) -> Counts[str]:
-    """The names, with the number of their mentions. Threads are at most three references from an event."""
-    names: Counts[bytes] = Counter()
-    for line in program.events(recording, 4):
-        names.update(NAME.findall(line))
-    return Counter({json.loads(name): count for name, count in names.items()})
+    """The names, with how often events lead to them."""
+    # If the program refuses the recording, it says why.
+    program.summary(recording)
+    names: Counts[str] = Counter()
+    for (path, string), kinds in strings_in(program, recording, set(), NAMES).items():
+        if last_field(path) in NAMES:
+            names[string] += sum(kinds.values())
+    return names
 
 
 def pattern_of(name: str) -> str:

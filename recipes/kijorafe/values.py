@@ -4,7 +4,9 @@ The program prints a constant wherever it is referred to, which for constants th
 memory holds. Here each is read once. The program must have accepted the chunk, so that no value is faulty.
 """
 
-from typing import Callable, Dict, Iterable, Iterator, List, NamedTuple, Set, Tuple, Union
+from collections import defaultdict
+from typing import Callable, Collection, Container, DefaultDict, Dict, Iterable, Iterator, List, NamedTuple
+from typing import Optional, Set, Tuple, Union
 
 from kijorafe.integers import integer_at
 from kijorafe.program import Class, Field
@@ -14,6 +16,8 @@ STRING = "java.lang.String"
 RAW = {"boolean": 1, "byte": 1, "float": 4, "double": 8}
 # How many bits of an integer count.
 BITS = {"short": 16, "char": 16, "int": 32, "long": 64}
+# The classes whose values aren't made of fields.
+BASIC = {*RAW, *BITS, STRING}
 
 # The class and the key of a constant.
 Reference = Tuple[int, int]
@@ -33,17 +37,34 @@ class Part(NamedTuple):
 
 
 class Reader:
-    """Reads the values of a chunk's classes."""
+    """Reads the values of a chunk's classes; if fields are named, events only up to the last that leads to one."""
 
-    def __init__(self, classes: Iterable[Class], numbers: Set[int]) -> None:
+    def __init__(self, classes: Iterable[Class], numbers: Set[int], names: Optional[Container[str]] = None) -> None:
         self.classes = {each.id: each for each in classes}
         self.numbers = numbers
+        self.strings = {each.id for each in self.classes.values() if each.name == STRING}
+        self.is_whole = names is None
+        # The classes whose constants may lead to what is read.
+        self.needed = set(self.classes)
+        # How many fields of an event are read, unless it is all of them.
+        self._ends: Dict[int, int] = {}
         self._parts: Dict[Tuple[int, str], List[Part]] = {}
+        if names is not None:
+            leading = leading_to(names, self.classes.values())
+            self.needed = leading | self.strings
+            self._ends = {each.id: _end(each, names, leading) for each in self.classes.values()}
+
+    def read_event(self, class_id: int, data: bytes, at: int) -> List[Leaf]:
+        """What an event of this class has from the offset on."""
+        leaves: List[Leaf] = []
+        for part in self._parts_of(class_id, "")[: self._ends.get(class_id)]:
+            at = self._read_part(part, data, at, leaves.append)
+        return leaves
 
     def read(self, class_id: int, path: str, data: bytes, at: int, take: Take) -> int:
         """Passes on what a value of this class has at an offset; the offset after it."""
         name = self.classes[class_id].name
-        if name in RAW or name in BITS or name == STRING:
+        if name in BASIC:
             return self._read_part(Part(path, name, class_id, False, False), data, at, take)
         for part in self._parts_of(class_id, path):
             at = self._read_part(part, data, at, take)
@@ -72,7 +93,7 @@ class Reader:
             return at
         if kind in BITS:
             number, at = integer_at(data, at)
-            return self._take_number(signed(number, kind), path, at, take)
+            return self._take_number(signed(number, kind), path, at, take) if self.numbers else at
         if kind == STRING:
             return _read_string(part, data, at, take)
         if kind == "byte":
@@ -85,6 +106,28 @@ class Reader:
         if number in self.numbers:
             take((path, number))
         return at
+
+
+def leading_to(names: Container[str], classes: Collection[Class]) -> Set[int]:
+    """The classes with a field of one of these names, and those from whose fields one is reached."""
+    above: DefaultDict[int, List[int]] = defaultdict(list)
+    for each in classes:
+        for field in each.fields:
+            above[field.class_id].append(each.id)
+    leading: Set[int] = set()
+    further = [each.id for each in classes if any(field.name in names for field in each.fields)]
+    while further:
+        class_id = further.pop()
+        if class_id not in leading:
+            leading.add(class_id)
+            further += above[class_id]
+    return leading
+
+
+def _end(of: Class, names: Container[str], leading: Set[int]) -> int:
+    """How many fields a class has up to the last that has one of these names, or is of a class that leads to one."""
+    ends = (n for n, field in enumerate(of.fields, 1) if field.name in names or field.class_id in leading)
+    return max(ends, default=0)
 
 
 def _part(path: str, field: Field) -> Part:

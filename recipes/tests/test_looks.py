@@ -113,6 +113,20 @@ class Looks(Case):
         self.assertRegex(out, r'\n[0-9]+\tt.A\t\*\.text\t"deep"\n')
         self.assertEqual(sum(int(line.split()[0]) for line in out.splitlines() if "deep" in line), 11111111)
 
+    def test_many_paths_to_strings_by_key(self) -> None:
+        self.replace("kijorafe.strings.PATHS", 50)
+        fields = "".join(f"field f{n} 9 c\n" for n in range(10))
+        text = NODES.replace("field all 9 ca\n", fields).replace("field text", "field javaName")
+        self.recording("a.jfr", text + f'constant 9 1{" #1" * 10} #2\nconstant 6 2 #3\nconstant 6 3 "x://deep"\n')
+        out = self.recipe("left", "a.jfr").out
+        self.assertRegex(out, r'\n[0-9]+\tt.A\t\*\.javaName\t"x://deep"\n')
+        self.assertNotIn('\t*\t"x://deep"', out)
+        self.assertEqual(self.recipe("threads", "a.jfr").out, '111111 "x://deep"\n')
+        self.assertEqual(self.recipe("threads", "--addresses", "a.jfr").out, "x://deep\n")
+        self.recording("b.jfr", text + f'constant 9 1{" #2" * 10} null\nconstant 9 2{" #0" * 10} #2\nconstant 6 2 "x://b"\n')
+        self.replace("kijorafe.strings.PATHS", 0)
+        self.assertEqual(self.recipe("threads", "--addresses", "b.jfr").out, "x://b\n")
+
     def test_left_of_several_chunks(self) -> None:
         self.recording("a.jfr")
         self.recording("b.jfr", TEXTS + 'record 8 "one" "two"\n')
@@ -145,6 +159,15 @@ class Looks(Case):
         self.recording("a.jfr", text + 'record 11 "direct" 7 true "two" 7\nrecord 12 #7\n')
         found = [line.split("\t")[2:] for line in self.recipe("left", "a.jfr").out.splitlines() if "metadata" not in line]
         self.assertEqual(found, [["one.class", '"direct"'], ["one.text", '"inside"'], ["other.text", '"two"']])
+
+    def test_class_of_a_basic_name(self) -> None:
+        self.recording("a.jfr", TEXTS + 'event 9 t.NamedAsAString\nfield javaName 6 -\nrecord 9 "inert"\nrecord 8 "one" null\n')
+        with open("b.jfr", "wb") as file:
+            file.write(self.read("a.jfr").replace(b"t.NamedAsAString", b"java.lang.String"))
+        self.assertIn('"inert"', self.recipe("left", "a.jfr").out)
+        self.assertEqual(self.recipe("threads", "a.jfr").out, '1 "inert"\n')
+        self.assertNotIn('"inert"', self.recipe("left", "b.jfr").out)
+        self.assertEqual(self.recipe("threads", "b.jfr")[:2], (0, ""))
 
     def test_how_words_are_found(self) -> None:
         types = TEXTS + "class 5 long\nevent 9 t.N\nfield n 5 -\n"
@@ -216,3 +239,33 @@ class Looks(Case):
         self.assertEqual(self.recipe("threads", "a.jfr")[:2], (0, '1 "http GET /pay"\n1 "main"\n'))
         self.assertEqual(self.recipe("threads", "--addresses", "a.jfr")[:2], (0, "http GET /pay\n"))
         self.assertEqual(self.recipe("threads", "none.jfr").status, 2)
+
+    def test_where_names_of_threads_are(self) -> None:
+        own = "class 5 long\nclass 7 t.Thread\nfield javaName 6 -\nfield osName 6 -\nclass 9 t.Held\nfield n 5 -\n"
+        own += "field by 7 c\nevent 10 t.B\nfield text 6 -\nfield in 9 -\nfield last 6 -\nfield osName 5 -\n"
+        own += "event 11 t.C\nfield all 9 ca\nfield javaName 6 -\nfield osName 6 a\nevent 12 t.D\nfield osName 9 c\n"
+        text = TEXTS.replace("event", own + "event", 1)
+        text += 'constant 6 1 "by\\u0020key"\nconstant 7 1 "" null\nconstant 7 2 #1 "os"\nconstant 7 3 "no\\u0020event" null\n'
+        text += "constant 9 1 300 #2\nconstant 9 2 300 #3\n"
+        text += 'record 8 "javaName" "t"\nrecord 10 "text" 7 #1 "last" 9\n'
+        self.recording("a.jfr", text + 'record 11 [2 #1 #1 "direct" [1 "item"\nrecord 12 #1\n')
+        expected = '1 ""\n1 "direct"\n3 "by key"\n3 "os"\n'
+        self.assertEqual(self.recipe("threads", "a.jfr")[:2], (0, expected))
+
+    def test_names_in_constants_that_share_others(self) -> None:
+        nodes = [f'constant 9 {n} [100{f" #{n + 1}" * 100} "name{n}.x:1"\n' for n in range(1, 12)]
+        self.recording("a.jfr", NODES.replace("field text", "field osName") + "".join(nodes))
+        out = "".join(f'{100 ** (n - 1)} "name{n}.x:1"\n' for n in range(1, 9))
+        self.assertEqual(self.recipe("threads", "a.jfr").out, out)
+        self.assertEqual(self.recipe("threads", "--addresses", "a.jfr").out, "name*.x:*\n")
+
+    def test_threads_of_what_is_refused(self) -> None:
+        self.recording("a.jfr")
+        self.write("text", "x")
+        with open("cut.jfr", "wb") as file:
+            file.write(self.read("a.jfr")[:-1])
+        for name, reason in ("cut.jfr", "ShortChunk"), ("text", "ShortHeader"):
+            self.assert_run(self.recipe("threads", name), 2, reason)
+            run = self.recipe("tenant", "--addresses", name, "out.jfr")
+            self.assert_run(run, 2, f"{name}: ")
+            self.assertIn("It can't be searched for addresses, so nothing is written", run.err)
