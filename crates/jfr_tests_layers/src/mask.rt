@@ -170,12 +170,7 @@ static MASKS: [Mask; 5] = [
         false,
     ),
     // A pattern matches the whole name, and not the part after a dot.
-    (
-        "text,Node.name",
-        None,
-        [false, false, false, false],
-        false,
-    ),
+    ("text,Node.name", None, [false, false, false, false], false),
 ];
 
 /// A field with this name, of this class.
