@@ -16,10 +16,9 @@ use Rattle.jfr_chunk.specs.Parts.{Parts}
 use Rattle.jfr_chunk.specs.Reach.{marked}
 use Rattle.jfr_chunk.specs.Written.{Group, by_pool, distance, sized}
 use Rattle.jfr_chunk.specs.Written as old
-use Rattle.jfr_chunk.proofs.AllLaws.{all_append}
 use Rattle.jfr_chunk.proofs.TestLaws.{is_eq}
 use Rattle.jfr_laws.proofs.Marks.{all_marked, marked_append}
-use Rattle.jfr_laws.specs.InChunk.{IsEntryIn, IsGroupIn}
+use Rattle.jfr_laws.specs.InChunk.{IsEntryIn}
 use Rattle.jfr_laws.proofs.Groups.{apart, in_front, by_front}
 use Rattle.jfr_laws.proofs.Room.{of_pool, later_pools}
 use Rattle.jfr_laws.proofs.Checkpoints.{Of, NotOf, others, of_number, later_numbers, block_only}
@@ -27,7 +26,7 @@ use Rattle.jfr_renumber.specs.Rekeyed.{rekeyed_bytes}
 use Rattle.jfr_renumber.specs.Renumber.{entry_bytes, group_bytes, checkpoint_tail, pair_of}
 use Rattle.jfr_rewrite.proofs.Pools.{all_parts}
 use Rattle.jfr_rewrite.proofs.Sizes.{in_length}
-use Rattle.jfr_renumber.proofs.CheckpointWriting.{entry_is}
+use Rattle.jfr_rewrite.proofs.CheckpointWriting.{entry_is}
 use Rattle.jfr_renumber.proofs.RekeyedLaws.{node_short}
 
 -- Each that is marked is marked there too.
@@ -64,10 +63,6 @@ under_fewer (true ∷ fs) (true ∷ ms) (x ∷ xs) u = omega (arith, under_fewer
 under_fewer (true ∷ fs) (false ∷ ms) (x ∷ xs) u = let e = u.0 refl in cc
 under_fewer (false ∷ fs) (true ∷ ms) (x ∷ xs) u = omega (arith, under_fewer fs ms xs u.1)
 under_fewer (false ∷ fs) (false ∷ ms) (x ∷ xs) u = under_fewer fs ms xs u.1
-
-pub all_to : {X : Type 0} {P Q : X → Type 0} → ((x : X) → P x → Q x) → (xs : List X) → AllByRecursion P xs → AllByRecursion Q xs
-all_to f [] a = tt
-all_to f (x ∷ xs) a = (f x a.0, all_to f xs a.1)
 
 pub sized_length : (n : ℕ) (tail : List ℕ) → length (sized n tail) ≡ n + length tail
 sized_length n tail = length-append (spell_in n (n + length tail)) tail ∙ ap (λ z. z + length tail) (in_length n (n + length tail))
@@ -220,11 +215,6 @@ module _ (p : Parts) (sound : Sound p.classes) (new : ℕ × ℕ → ℕ) (most 
         where
           differ : number ≡ i → (number == i) ≡ false → ⊥
           differ q e = let f : (number == i) ≡ true = is_eq number i q in cc
-
-  -- The entries of these groups.
-  pub entries_stand : (gs : List Group) → AllByRecursion (IsGroupIn p.bytes p.classes) gs → AllByRecursion (IsEntryIn p.bytes p.classes) (flat_map (λ g. g.entries) gs)
-  entries_stand [] a = tt
-  entries_stand (g ∷ gs) a = all_append (IsEntryIn p.bytes p.classes) g.entries (flat_map (λ g. g.entries) gs) (all_to (λ e x. x.0) g.entries a.0.1) (entries_stand gs a.1)
 
   -- A delta is no longer if neither or both have an older checkpoint.
   delta_short : (at other : ℕ) (older elder : Option ℕ) → is_some older ≡ is_some elder → other < 2 ^ 63 → length (spell (distance at older)) ≤ length (spell (distance other elder))

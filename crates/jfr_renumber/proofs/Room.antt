@@ -3,12 +3,10 @@
 use Rattle.std.specs.Prelude.{◌≡◌, ℕ, ◌+◌, ◌-◌, ◌≤◌, ◌==◌, Bool, true, List, [], ◌∷◌, length, filter, find, slice_range, Option, Some, None, is_some, reverse}
 use Rattle.std.specs.List.{AllByRecursion, flat_map}
 use Rattle.std.proofs.Common.{arith, subst}
-use Rattle.std.proofs.lemmas.Map.Views.{exact_unsigned_eq}
 use Rattle.jfr_base.specs.Integer.{spell}
 use Rattle.jfr_layout.specs.Classes.{Sound}
 use Rattle.jfr_frame.specs.declared.framed.Framed.{Framed}
 use Rattle.jfr_frame.specs.Records.{IsRecord}
-use Rattle.jfr_frame.proofs.RecordLaws.{record_one}
 use Rattle.jfr_pool.specs.declared.entry.EntryAt.{EntryAt}
 use Rattle.jfr_pool.specs.declared.link.Link.{Link}
 use Rattle.jfr_worklist.specs.Members.{In}
@@ -18,37 +16,23 @@ use Rattle.jfr_chunk.specs.Written as old
 use Rattle.jfr_chunk.specs.Written.{Group, by_pool, distance}
 use Rattle.jfr_chunk.specs.Metas.{Names, new_metadata}
 use Rattle.jfr_chunk.specs.Scrub.{OutputRecord, Whole, Chained, Rebuilt, Written, groups_of, output_records, is_kept_or_metadata, written_anew}
-use Rattle.jfr_chunk.proofs.AllLaws.{all_in}
 use Rattle.jfr_chunk.proofs.HasNodesLaws.{has_nodes}
 use Rattle.jfr_laws.specs.InChunk.{IsEntryIn, IsGroupIn}
 use Rattle.jfr_laws.proofs.Anews.{good_anew}
 use Rattle.jfr_laws.proofs.Copied.{record_length}
 use Rattle.jfr_laws.proofs.Groups.{groups_hold}
 use Rattle.jfr_laws.proofs.OutputRecords.{Deltas, IsOutputRecordIn, chained_fits}
-use Rattle.jfr_laws.proofs.Premises.{Ready, ready, recorded}
+use Rattle.jfr_laws.proofs.Premises.{Ready, ready}
 use Rattle.jfr_laws.proofs.Same.{chosen_events, event_of_chunk}
-use Rattle.jfr_rewrite.specs.Rewrite.{event_tail, rewritten_records, written_by}
+use Rattle.jfr_rewrite.specs.Rewrite as rewrite
+use Rattle.jfr_rewrite.specs.Rewrite.{event_tail, written_by}
 use Rattle.jfr_rewrite.specs.Rewritten.{CarriesAll, CarriesRecord}
-use Rattle.jfr_rewrite.proofs.Output.{find_in}
+use Rattle.jfr_rewrite.proofs.CheckpointWriting.{entries_stand}
 use Rattle.jfr_rewrite.proofs.Sizes.{old_width_carries}
-use Rattle.jfr_renumber.specs.Renumber.{checkpoint_tail, group_bytes, new_bytes, whole_bytes, with_keys}
-use Rattle.jfr_renumber.specs.Writing.{CanWrite}
+use Rattle.jfr_rewrite.proofs.WritingLaws.{event_record, found_event}
+use Rattle.jfr_renumber.specs.Renumber.{checkpoint_tail, group_bytes, whole_bytes, with_keys}
 use Rattle.jfr_renumber.proofs.EventWriting.{tail_short}
-use Rattle.jfr_renumber.proofs.Fewer.{Under, Shorter, all_to, entries_stand, numbers_short, sized_length, tail_length, under_same}
-use Rattle.jfr_renumber.proofs.RewrittenLaws.{bytes_same}
-
-module _ (p : Parts) (a : AreParts p) (flags : List Bool) where
-  abbrev kept : List EventAt
-  kept = kept_by p flags
-
-  event_record : (e : EventAt) → In kept e → IsRecord p.bytes e.record_of
-  event_record e i = all_in (IsRecord p.bytes) p.records e.record_of (recorded p a) (event_of_chunk p a kept (chosen_events p flags) e i).listed
-
-  -- The event whose record is here, if it is found.
-  pub found_event : (r : Framed) (e : EventAt) → IsRecord p.bytes r → find (λ e. e.record_of.at == r.at) kept ≡ Some e → In kept e × (e.record_of ≡ r)
-  found_event r e s q =
-      let f = find_in (λ e. e.record_of.at == r.at) kept e q in
-      (f.0, record_one p.bytes e.record_of r (event_record e f.0) s (exact_unsigned_eq e.record_of.at r.at f.1))
+use Rattle.jfr_renumber.proofs.Fewer.{Under, Shorter, numbers_short, sized_length, tail_length, under_same}
 
 module _ (p : Parts) (a : AreParts p) (flags : List Bool) (new : ℕ × ℕ → ℕ) (most : (t : ℕ × ℕ) → new t ≤ t.1) where
   abbrev these : List EventAt
@@ -75,7 +59,7 @@ module _ (p : Parts) (a : AreParts p) (flags : List Bool) (new : ℕ × ℕ → 
       → Shorter p sound new most (groups_of (marked fm p.entries) i) (groups_of (marked ms p.entries) i)
   groups_shorter fm ms u i g =
       numbers_short p sound new most 0 (reverse p.chain) p.entries fm ms u a.entries i
-      (subst (AllByRecursion (IsEntryIn p.bytes p.classes)) (groups_hold (filter (λ e. e.checkpoint == i) (marked fm p.entries))) (entries_stand p sound new most (groups_of (marked fm p.entries) i) g))
+      (subst (AllByRecursion (IsEntryIn p.bytes p.classes)) (groups_hold (filter (λ e. e.checkpoint == i) (marked fm p.entries))) (entries_stand p.bytes p.classes (groups_of (marked fm p.entries) i) g))
 
   module _ (fm : List Bool) where
     abbrev remaining : List EntryAt
@@ -95,51 +79,35 @@ module _ (p : Parts) (a : AreParts p) (flags : List Bool) (new : ℕ × ℕ → 
         let short : length x ≤ length y = (groups_shorter fm fm (under_same fm) i s).bytes in
         omega (arith, short, tail_length t m d k n x, tail_length t m d k n y)
 
-    checkpoint_fits : (i : ℕ) (l : Link) (at : ℕ) (older : Option ℕ) → IsOutputRecordIn p.bytes remaining p.classes (Chained i l)
-        → (is_some older ≡ true → l.delta_end ≡ l.delta_at + 9) → CanWrite new p remaining (Chained i l) at older
-    unfolding CanWrite
-    checkpoint_fits i l at older s d =
-        let f = chained_fits p.bytes remaining p.classes i l at older s d in
-        let t = checkpoint_tail_short l (distance at older) i s.1 in
-        record {
-          link = s.0;
-          entries = subst (AllByRecursion (IsEntryIn p.bytes p.classes)) (groups_hold (filter (λ e. e.checkpoint == i) remaining)) (entries_stand p sound new most (groups_of remaining i) s.1);
-          room = omega arith;
-        }
+    -- So the old widths carry the sizes of all output records.
+    module _ (new_record : Option (List ℕ)) where
+      abbrev bytes : OutputRecord → ℕ → Option ℕ → List ℕ
+      bytes = rewrite.new_bytes (with_keys new new_record) p these remaining
 
-    abbrev bytes : OutputRecord → ℕ → Option ℕ → List ℕ
-    bytes = new_bytes new p these remaining
+      abbrev Carried : Written → Type 0
+      Carried o = CarriesRecord (with_keys new new_record) p these remaining o.output_record o.at o.older
 
-    abbrev pub CanBeWritten : Written → Type 0
-    CanBeWritten w = CanWrite new p remaining w.output_record w.at w.older
+      event_carried : (r : Framed) → IsRecord p.bytes r → (at : ℕ) (older : Option ℕ) → CarriesRecord (with_keys new new_record) p these remaining (Whole r) at older
+      event_carried r s at older =
+          λ e q. (let f = found_event p a flags r e s q in
+          old_width_carries p.bytes e.record_of _ (event_record p a flags e f.0) (event_room e f.0))
 
-    each_can : (ss : List OutputRecord) (at : ℕ) (older : Option ℕ) → AllByRecursion (IsOutputRecordIn p.bytes remaining p.classes) ss → Deltas (is_some older) ss
-        → AllByRecursion CanBeWritten (written_by bytes at older ss)
-    unfolding CanWrite
-    each_can [] at older s d = tt
-    each_can (Whole r ∷ ss) at older s d = (s.0, each_can ss (at + length (bytes (Whole r) at older)) older s.1 d)
-    each_can (Rebuilt r x ∷ ss) at older s d = (s.0.0, each_can ss (at + length (bytes (Rebuilt r x) at older)) older s.1 d)
-    each_can (Chained i l ∷ ss) at older s d = (checkpoint_fits i l at older s.0 d.0, each_can ss (at + length (bytes (Chained i l) at older)) (Some at) s.1 d.1)
+      checkpoint_carried : (i : ℕ) (l : Link) (at : ℕ) (older : Option ℕ) → IsOutputRecordIn p.bytes remaining p.classes (Chained i l)
+          → (is_some older ≡ true → l.delta_end ≡ l.delta_at + 9) → CarriesRecord (with_keys new new_record) p these remaining (Chained i l) at older
+      checkpoint_carried i l at older s d =
+          let f = chained_fits p.bytes remaining p.classes i l at older s d in
+          let t = checkpoint_tail_short l (distance at older) i s.1 in
+          old_width_carries p.bytes l.frame (length (checkpoint_tail new p l (distance at older) (groups_of remaining i))) s.0.record_stands (omega arith)
 
-    -- All output records can be written.
-    pub all_can : (names : Names) → AllByRecursion CanBeWritten (written_by bytes 68 None (output_records (new_metadata names p these) p these))
-    all_can names =
-        let slim = new_metadata names p these in
-        let r : Ready p remaining (output_records slim p these) = ready p a (is_kept_or_metadata p these) (written_anew slim p) (good_anew names p a these) fm in
-        each_can (output_records slim p these) 68 None r.valid r.deltas
-
-    -- So their old widths carry their sizes.
-    record_carried : (slim : Option (List ℕ)) (o : OutputRecord) (at : ℕ) (older : Option ℕ) → CanWrite new p remaining o at older → CarriesRecord (with_keys new slim) p these remaining o at older
-    unfolding CanWrite
-    record_carried slim (Whole r) at older c =
-        λ e q. (let f = found_event p a flags r e c q in
-        old_width_carries p.bytes e.record_of _ (event_record p a flags e f.0) (event_room e f.0))
-    record_carried slim (Rebuilt r x) at older c = tt
-    record_carried slim (Chained i l) at older c =
-        old_width_carries p.bytes l.frame _ c.link.record_stands c.room
+      each_carried : (ss : List OutputRecord) (at : ℕ) (older : Option ℕ) → AllByRecursion (IsOutputRecordIn p.bytes remaining p.classes) ss → Deltas (is_some older) ss
+          → AllByRecursion Carried (written_by bytes at older ss)
+      each_carried [] at older s d = tt
+      each_carried (Whole r ∷ ss) at older s d = (event_carried r s.0 at older, each_carried ss (at + length (bytes (Whole r) at older)) older s.1 d)
+      each_carried (Rebuilt r x ∷ ss) at older s d = (tt, each_carried ss (at + length (bytes (Rebuilt r x) at older)) older s.1 d)
+      each_carried (Chained i l ∷ ss) at older s d = (checkpoint_carried i l at older s.0 d.0, each_carried ss (at + length (bytes (Chained i l) at older)) (Some at) s.1 d.1)
 
     pub carries_all : (names : Names) → CarriesAll (with_keys new (new_metadata names p these)) p these remaining
     carries_all names =
         let slim = new_metadata names p these in
-        all_to (λ o c. record_carried slim o.output_record o.at o.older c) (rewritten_records (with_keys new slim) p these remaining)
-        (subst (λ z. AllByRecursion CanBeWritten (written_by z 68 None (output_records slim p these))) (bytes_same new slim p these remaining) (all_can names))
+        let r : Ready p remaining (output_records slim p these) = ready p a (is_kept_or_metadata p these) (written_anew slim p) (good_anew names p a these) fm in
+        each_carried slim (output_records slim p these) 68 None r.valid r.deltas

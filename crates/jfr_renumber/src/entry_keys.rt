@@ -3,10 +3,15 @@ ghost use Rattle.std.specs.Prelude.{◌≡◌, map, IfOk};
 ghost use Rattle.jfr_renumber.specs.Numbers.{number_or_zero};
 ghost use Rattle.jfr_renumber.specs.Renumber.{pair_of};
 
+use crate::fields::put_value;
 use crate::numbered::NumberedKeys;
 use crate::rewriting::NewKeys;
 use jfr_base::NoMemory;
+use jfr_chunk::Chunk;
+use jfr_frame::Framed;
 use jfr_pool::{EntryAt, Pools};
+use jfr_rewrite::Rewriter;
+use jfr_value::Node;
 use std::alloc::Global;
 use std::marker::Model;
 
@@ -65,6 +70,39 @@ impl<'k> NewKeys for EntryKeys<'k> {
 
     fn zero_is_kept(&self) {
         self.keys.zero_is_kept();
+    }
+}
+
+/// Any chunk can be rewritten with these keys. Its sizes keep their widths.
+impl<'k> Rewriter for EntryKeys<'k> {
+    ghost use Rattle.std.specs.Prelude.{None, ⊤};
+    ghost use Rattle.jfr_renumber.specs.Numbers.{number_or_zero};
+    ghost use Rattle.jfr_renumber.specs.Renumber.{with_keys};
+
+    ghost rewrite = { λ keys. with_keys (number_or_zero keys) None };
+
+    ghost suits = { λ _ _. ⊤ };
+
+    fn put_changed(
+        &self,
+        out: &mut Vec<u8>,
+        chunk: &Chunk<'_>,
+        node: Node<'_>,
+        from: usize,
+        to: usize,
+    ) -> Result<(), NoMemory> {
+        chunk.parts_are_valid();
+        put_value(out, chunk.classes(), node, from, to, self)
+    }
+
+    #[inline]
+    fn entry_key(&self, class: u64, key: u64) -> u64 {
+        self.new_key(class, key)
+    }
+
+    #[inline]
+    fn width(&self, frame: Framed, _rest: usize) -> usize {
+        frame.type_at - frame.at
     }
 }
 

@@ -1,5 +1,5 @@
 //! Events and entries with new keys, field by field.
-ghost use Rattle.std.specs.Prelude.{◌≡◌, ℕ, ◌≤◌, ◌++◌, false, length, IfOk, IsSome, OnOk, Some, map, slice_get};
+ghost use Rattle.std.specs.Prelude.{◌≡◌, ℕ, ◌≤◌, ◌++◌, false, length, IfOk, IsSome, OnOk, Some, map, slice_get, slice_range};
 ghost use Rattle.std.specs.List.{AllByRecursion};
 ghost use Rattle.jfr_layout.specs.Classes.{IsFieldLayout, Sound, find_class};
 ghost use Rattle.jfr_layout.specs.declared.field_layout.FieldLayout.{FieldLayout};
@@ -15,19 +15,24 @@ use jfr_base::NoMemory;
 use jfr_layout::{Classes, FieldLayout, Form, Shape};
 use jfr_value::{Node, layout_of};
 
-/// Appends an inline value with new keys, as `put_rekeyed` does, but walks leaf by leaf only over those of its
-/// fields that are arrays or composite.
+/// Appends the bytes from `from` up to an inline value, the value with new keys, and the bytes after it up to `to`.
+/// It does what `put_rekeyed` does, but walks leaf by leaf only over those fields that are arrays or composite.
 pub(crate) fn put_value<N: NewKeys>(
     out: &mut Vec<u8>,
     classes: &Classes,
     node: Node<'_>,
+    from: usize,
+    to: usize,
     new: &N,
 ) -> Result<(), NoMemory>
     requires sound { Sound classes.now }
     requires array { node.shape.array ≡ false }
     requires constant { node.shape.constant ≡ false }
     requires value { IsValue classes.now node }
-    ensures ok { OnOk result (out.new.items ≡ out.old.items ++ rekeyed_bytes (N.keys new.now) classes.now node.entry.bytes.now (node_of node.entry)) }
+    requires start { from ≤ node.at }
+    requires end { node.end ≤ to }
+    requires within { to ≤ length node.bytes.now }
+    ensures ok { OnOk result (out.new.items ≡ out.old.items ++ (slice_range node.entry.bytes.now from node.entry.at ++ (rekeyed_bytes (N.keys new.now) classes.now node.entry.bytes.now (node_of node.entry) ++ slice_range node.entry.bytes.now node.entry.end to))) }
 {
     let context = RekeyContext {
         classes,
@@ -35,16 +40,9 @@ pub(crate) fn put_value<N: NewKeys>(
         end: node.end,
         new,
     };
-    let from = pass_value(
-        out,
-        context,
-        node.shape,
-        Passed {
-            from: node.at,
-            at: node.at,
-        },
-    )?;
-    out.extend_from_slice(&node.bytes[from..node.end])?;
+    let passed = Passed { from, at: node.at };
+    let rest = pass_value(out, context, node.shape, passed)?;
+    out.extend_from_slice(&node.bytes[rest..to])?;
     Ok(())
 }
 

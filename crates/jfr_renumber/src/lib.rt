@@ -11,7 +11,6 @@
 //! then `specs/Meaning.antt` (what the output means) and `specs/Headline.antt` (the output of a recording).
 #![tactic(auto)]
 
-mod checkpoints;
 mod entry_keys;
 mod field;
 mod fields;
@@ -22,11 +21,9 @@ mod missing;
 mod numbered;
 mod numbering;
 mod output;
-mod records;
 mod renumberer;
 mod rewriting;
 mod same;
-mod size;
 mod stream;
 mod values;
 

@@ -11,13 +11,14 @@ ghost use Rattle.jfr_renumber.specs.Renumber.{new_key_of, renumber_of};
 use crate::entry_keys::EntryKeys;
 use crate::firsts::first_entries;
 use crate::numbered::NumberedKeys;
-use crate::output::{Source, put_chunk};
+use crate::output::put_chunk;
 use jfr_base::NoMemory;
 use jfr_chunk::{Chunk, Kept};
 use jfr_filter::Filter;
 use jfr_output::slim_metadata;
 use jfr_path::choose;
 use jfr_reach::Marks;
+use jfr_rewrite::Source;
 use std::alloc::Global;
 use std::marker::Model;
 
@@ -132,9 +133,10 @@ fn put_output(
     let slim = slim_metadata(alloc, chunk, chosen.kept, chosen.filter)?;
     let source = Source {
         chunk,
-        slim: slim.as_deref(),
+        kept: chosen.kept,
+        metadata: slim.as_deref(),
         entries: &entries,
-        keys: &new,
+        rewriting: &new,
     };
-    put_chunk(memory, source, chosen.kept)
+    put_chunk(alloc, memory, source)
 }

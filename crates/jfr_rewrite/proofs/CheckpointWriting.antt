@@ -1,6 +1,6 @@
 -- A checkpoint that is rewritten.
-use Rattle.std.specs.Prelude.{◌≡◌, ℕ, suc, ◌+◌, ◌-◌, ◌≤◌, List, ◌∷◌, ◌++◌, length, take, drop, slice_get, slice_range, Some}
-use Rattle.std.specs.List.{flat_map}
+use Rattle.std.specs.Prelude.{◌≡◌, ℕ, suc, ◌+◌, ◌-◌, ◌≤◌, List, [], ◌∷◌, ◌++◌, length, take, drop, slice_get, slice_range, Some}
+use Rattle.std.specs.List.{AllByRecursion, flat_map}
 use Rattle.std.proofs.Common.{ap, arith, refl, sym, ◌∙◌, append_assoc}
 use Rattle.std.proofs.lemmas.List.{append-nil}
 use Rattle.jfr_base.specs.Integer.{spell}
@@ -14,8 +14,9 @@ use Rattle.jfr_pool.specs.declared.entry.EntryAt.{EntryAt}
 use Rattle.jfr_pool.specs.declared.link.Link.{Link}
 use Rattle.jfr_pool.specs.Entries.{inline, entry_node}
 use Rattle.jfr_chunk.specs.Parts.{Parts}
-use Rattle.jfr_chunk.specs.Written.{by_pool}
-use Rattle.jfr_laws.specs.InChunk.{IsEntryIn, IsLinkIn}
+use Rattle.jfr_chunk.specs.Written.{Group, by_pool}
+use Rattle.jfr_chunk.proofs.AllLaws.{all_append}
+use Rattle.jfr_laws.specs.InChunk.{IsEntryIn, IsGroupIn, IsLinkIn}
 use Rattle.jfr_laws.proofs.Values.{exact_reads}
 use Rattle.jfr_output.specs.Pools.{leading}
 use Rattle.jfr_output.proofs.PoolLaws.{by_first_of}
@@ -29,6 +30,15 @@ entry_is k c e s =
     let w : e.end ≤ length c = s.within in
     let r : Reads (value_format k (inline e.class)) c e.end e.value_at s.value e.end = exact_reads (value_format k (inline e.class)) c e.end e.value_at e.end (slice_range c e.value_at e.end) s.value s.exact (record { order = o; within = w; bytes = refl }) (omega arith) w in
     (read_node k (inline e.class) c e.end e.value_at e.end s.value w o r).0
+
+-- The entries of these groups are in the chunk.
+pub entries_stand : (c : List ℕ) (k : Classes) (gs : List Group) → AllByRecursion (IsGroupIn c k) gs → AllByRecursion (IsEntryIn c k) (flat_map (λ g. g.entries) gs)
+entries_stand c k [] h = tt
+entries_stand c k (g ∷ gs) h = all_append (IsEntryIn c k) g.entries (flat_map (λ g. g.entries) gs) (in_group g.class g.entries h.0.1) (entries_stand c k gs h.1)
+  where
+    in_group : (class : ℕ) (es : List EntryAt) → AllByRecursion (λ e. IsEntryIn c k e × (e.class ≡ class)) es → AllByRecursion (IsEntryIn c k) es
+    in_group class [] h = tt
+    in_group class (e ∷ es) h = (h.0.0, in_group class es h.1)
 
 -- One pool more.
 pub counted : (rest others : List EntryAt) (e : EntryAt) (n : ℕ) → slice_get rest 0 ≡ Some e → n ≡ leading e rest → others ≡ drop n rest → length (by_pool rest) ≡ suc (length (by_pool others))

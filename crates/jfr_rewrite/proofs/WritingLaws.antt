@@ -19,9 +19,8 @@ use Rattle.jfr_worklist.proofs.Members.{contains_in, in_contains}
 use Rattle.jfr_chunk.specs.Parts.{Parts, EventAt, AreParts, events_of, metadata_at}
 use Rattle.jfr_chunk.specs.Reach.{kept_by}
 use Rattle.jfr_chunk.specs.Scrub.{OutputRecord, Whole, Chained, Rebuilt, Written, groups_of, is_kept_or_metadata, last_at, moved, older_after, output_records, record_of, written_anew}
-use Rattle.jfr_chunk.specs.Written.{Group}
-use Rattle.jfr_chunk.proofs.AllLaws.{all_append, all_in}
-use Rattle.jfr_laws.specs.InChunk.{IsEntryIn, IsGroupIn}
+use Rattle.jfr_chunk.proofs.AllLaws.{all_in}
+use Rattle.jfr_laws.specs.InChunk.{IsEntryIn}
 use Rattle.jfr_laws.proofs.Groups.{groups_hold}
 use Rattle.jfr_laws.proofs.Order.{output_records_in}
 use Rattle.jfr_laws.proofs.OutputRecords.{IsOutputRecordIn}
@@ -41,6 +40,7 @@ use Rattle.jfr_rewrite.specs.Rewrite.{Rewrite, assembled_by, bytes_by, chained_t
 use Rattle.jfr_rewrite.specs.Rewritten.{CarriesRecord, CarriesTail}
 use Rattle.jfr_rewrite.specs.Writing.{AreSomeOf, CanWrite, CheckpointStands, IsBody, Progress, Wrote, with_record}
 use Rattle.jfr_rewrite.proofs.Accepted.{computed}
+use Rattle.jfr_rewrite.proofs.CheckpointWriting.{entries_stand}
 use Rattle.jfr_rewrite.proofs.Output.{OnChained, OnChosen, find_in, none_anew, on_chained, on_chosen}
 use Rattle.jfr_rewrite.proofs.SizeLaws.{wrote_weaker}
 
@@ -76,14 +76,6 @@ module _ (p : Parts) (a : AreParts p) (flags : List Bool) where
 
   -- All output records can be written, with some of the entries.
   module _ (new : Option (List ℕ)) (entries : List EntryAt) where
-    each_stands : (gs : List Group) → AllByRecursion (IsGroupIn p.bytes p.classes) gs → AllByRecursion (IsEntryIn p.bytes p.classes) (flat_map (λ g. g.entries) gs)
-    each_stands [] h = tt
-    each_stands (g ∷ gs) h = all_append (IsEntryIn p.bytes p.classes) g.entries (flat_map (λ g. g.entries) gs) (in_group g.class g.entries h.0.1) (each_stands gs h.1)
-      where
-        in_group : (class : ℕ) (es : List EntryAt) → AllByRecursion (λ e. IsEntryIn p.bytes p.classes e × (e.class ≡ class)) es → AllByRecursion (IsEntryIn p.bytes p.classes) es
-        in_group class [] h = tt
-        in_group class (e ∷ es) h = (h.0.0, in_group class es h.1)
-
     each_can : (ss : List OutputRecord) → AllByRecursion (OnChosen (IsRecord p.bytes) (is_kept_or_metadata p kept) (written_anew new p)) ss → AllByRecursion (OnChained (IsOutputRecordIn p.bytes entries p.classes)) ss
         → AllByRecursion (CanWrite p entries) ss
     unfolding CanWrite
@@ -91,7 +83,7 @@ module _ (p : Parts) (a : AreParts p) (flags : List Bool) where
     each_can (Whole r ∷ ss) h c = (h.0.0, each_can ss h.1 c.1)
     each_can (Rebuilt r x ∷ ss) h c = (h.0.0, each_can ss h.1 c.1)
     each_can (Chained i l ∷ ss) h c =
-        let es = subst (AllByRecursion (IsEntryIn p.bytes p.classes)) (groups_hold (filter (λ e. e.checkpoint == i) entries)) (each_stands (groups_of entries i) c.0.1) in
+        let es = subst (AllByRecursion (IsEntryIn p.bytes p.classes)) (groups_hold (filter (λ e. e.checkpoint == i) entries)) (entries_stand p.bytes p.classes (groups_of entries i) c.0.1) in
         (record { link = c.0.0; entries = es }, each_can ss h.1 c.1)
 
     pub all_can : AreSomeOf p entries → AllByRecursion (CanWrite p entries) (output_records new p kept)

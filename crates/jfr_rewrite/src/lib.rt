@@ -5,7 +5,7 @@
 //! | entry | what it is |
 //! |---|---|
 //! | `Rewriter` | how a chunk is rewritten: what becomes of values, the keys of entries, and how wide sizes are |
-//! | `Source` | what a rewritten chunk is made from: the chunk, its kept events, the entries that remain, how to rewrite |
+//! | `Source` | what a rewritten chunk is made from: the chunk, the kept events, the remaining entries, a `Rewriter` |
 //! | `write_chunk` | writes the rewritten chunk |
 //! | `WriteFault` | why that failed: an allocation, or a size that doesn't fit in its bytes |
 //! | `changed_values_are_read` and the other functions of `laws` | the laws: they do nothing |

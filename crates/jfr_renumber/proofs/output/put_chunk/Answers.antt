@@ -1,26 +1,25 @@
-use Rattle.std.proofs.Common.{◌∙◌, ◌++◌, ap, drop}
-use Rattle.std.specs.Prelude.{option_map, unwrap_or}
-use Rattle.jfr_header.specs.Headers.{header_bytes}
+use Rattle.std.proofs.Common.{◌≡◌, ◌∙◌, ℕ, Global, Vec, option_map}
 use Rattle.jfr_chunk.specs.Reach.{kept_by}
-use Rattle.jfr_chunk.specs.Scrub.{output_records}
+use Rattle.jfr_rewrite.specs.Rewrite.{rewritten}
+use Rattle.jfr_rewrite.specs.Rewritten.{CarriesAll}
 use Rattle.jfr_renumber.specs.Numbers.{number_or_zero}
-use Rattle.jfr_renumber.specs.Renumber.{new_bytes}
-use Rattle.jfr_renumber.specs.Writing.{progress_of}
-use Rattle.jfr_renumber.proofs.WritingLaws.{all_assembled, all_renumbered, numbers_below}
+use Rattle.jfr_renumber.specs.Renumber.{with_keys}
+use Rattle.jfr_renumber.proofs.WritingLaws.{all_carried, all_renumbered, firsts_some, not_too_long}
 use Rattle.jfr_renumber.proofs.output.put_chunk.Goals as goal
 
-pub put_records-requires-clause-below : goal.put_records-requires-clause-below
-put_records-requires-clause-below c = numbers_below c.args.source.chunk.now c.parts_are_valid.ensures.parts c.args.kept.now c.args.source.keys.now c.requires.keys
+pub write_chunk-requires-clause-entries : goal.write_chunk-requires-clause-entries
+write_chunk-requires-clause-entries c = firsts_some c.args.source.chunk.now c.args.source.kept.now c.args.source.entries.now c.requires.entries
 
-pub returns : goal.returns
-returns c =
-    let p = c.args.source.chunk.now in
-    let flags = c.args.kept.now in
-    let keys = c.args.source.keys.now in
-    let entries = c.args.source.entries.now in
-    let output = c.put_records.new.output in
-    let size = c.len.ensures ∙ output.bytes.ok.0 in
-    let header = c.output_header-header.ensures ∙ ap (λ n. header_bytes (record (c.header.result.now) { size = n; pools = unwrap_or output.newest 0; metadata = unwrap_or output.metadata 0 })) size in
-    all_renumbered (option_map (λ s. s.now) c.args.source.slim) p c.parts_are_valid.ensures.parts flags keys entries c.put_header.new.out.items c.requires.keys c.requires.entries
-    (all_assembled p (new_bytes (number_or_zero keys) p (kept_by p flags) entries) (output_records (option_map (λ s. s.now) c.args.source.slim) p (kept_by p flags)) (progress_of output) c.header.result.now c.put_header.new.out.items c.in_ok-put_records.ensures.ok c.header.ensures
-    (c.put_header.ensures ∙ ap (λ z. z ++ drop 68 output.bytes.items) header))
+pub unreachable-requires : goal.unreachable-requires
+unreachable-requires c =
+    let s = c.args.source in
+    let p = s.chunk.now in
+    let new = option_map (λ s. s.now) s.metadata in
+    let w = with_keys (number_or_zero s.rewriting.now) new in
+    not_too_long c.in-Err-TooLong.field-0 (λ (out : Vec ℕ Global). out.items ≡ rewritten w p (kept_by p s.kept.now) s.entries.now) (CarriesAll w p (kept_by p s.kept.now) s.entries.now) c.in-Err-TooLong.field-0-is c.in-Err-TooLong.ensures
+    (all_carried new p c.parts_are_valid.ensures.parts s.kept.now s.rewriting.now s.entries.now c.requires.keys c.requires.entries c.requires.metadata)
+
+pub returns-in-Ok : goal.returns-in-Ok
+returns-in-Ok c =
+    let s = c.args.source in
+    c.in-Ok.ensures ∙ all_renumbered (option_map (λ s. s.now) s.metadata) s.chunk.now c.parts_are_valid.ensures.parts s.kept.now s.rewriting.now s.entries.now c.requires.keys c.requires.entries
