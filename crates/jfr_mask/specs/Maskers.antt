@@ -9,12 +9,8 @@ use Rattle.jfr_chunk.specs.Parts.{EventAt, Parts}
 use Rattle.jfr_pool.specs.declared.entry.EntryAt.{EntryAt}
 use Rattle.jfr_pool.specs.Entries.{entry_node}
 use Rattle.jfr_filter.specs.Filters.{describes}
-use Rattle.jfr_rewrite.specs.declared.fault.WriteFault.{WriteFault}
-use Rattle.jfr_rewrite.specs.declared.fault.WriteFault.TheVariants as write_faults
 use Rattle.jfr_rewrite.specs.Changed.{Change}
 use Rattle.jfr_rewrite.specs.Rewrite.{Rewrite, fewest_or_five}
-use Rattle.jfr_mask.specs.declared.fault.MaskFault.{MaskFault}
-use Rattle.jfr_mask.specs.declared.fault.MaskFault.TheVariants as mask_faults
 use Rattle.jfr_mask.specs.declared.mask.MaskOptions.{MaskOptions}
 use Rattle.jfr_mask.specs.declared.masker.Masker.{Masker}
 use Rattle.jfr_mask.specs.declared.numbering.Numbering.{Numbering}
@@ -61,11 +57,6 @@ rewrite_by m = record { change = change_by m; key = λ t. t.1; width = fewest_or
 -- The masking that these options ask for.
 abbrev pub masking_of : MaskOptions → Masking
 masking_of o = record { strings = o.strings.now; except = option_map_or (λ p. p.now) o.except []; known = has_text o.known.now; described = describes o.filter.now }
-
--- The fault of masking after one of writing.
-abbrev pub fault_of : WriteFault → MaskFault
-fault_of write_faults.Memory = mask_faults.Memory
-fault_of write_faults.TooLong = mask_faults.TooLong
 
 -- The bytes of the masked chunk for those from an offset up to another one, between which these leaves are.
 abbrev pub masked_by : Masker → ℕ → ℕ → List LeafAt → List ℕ

@@ -1,6 +1,5 @@
 //! Why a chunk couldn't be masked.
 use jfr_base::NoMemory;
-use jfr_rewrite::WriteFault;
 use std::error::Error;
 use std::fmt;
 
@@ -32,19 +31,5 @@ impl From<NoMemory> for MaskFault {
 
     fn from(_: NoMemory) -> Self {
         MaskFault::Memory
-    }
-}
-
-impl From<WriteFault> for MaskFault {
-    ghost use Rattle.std.specs.Prelude.{◌≡◌};
-    ghost use Rattle.jfr_mask.specs.Maskers.{fault_of};
-
-    ghost from_gives = { λ fault out. out ≡ fault_of fault };
-
-    fn from(fault: WriteFault) -> Self {
-        match fault {
-            WriteFault::Memory => MaskFault::Memory,
-            WriteFault::TooLong => MaskFault::TooLong,
-        }
     }
 }

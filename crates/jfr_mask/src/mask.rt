@@ -16,7 +16,7 @@ use crate::{Dictionary, Known, MaskFault, MaskedFields};
 use jfr_chunk::{Chunk, Kept};
 use jfr_filter::{Filter, Patterns};
 use jfr_output::slim_metadata;
-use jfr_rewrite::{Source, write_chunk};
+use jfr_rewrite::{Source, WriteFault, sizes_are_carried, write_chunk};
 use std::alloc::Global;
 
 /// A masked chunk is below this length.
@@ -38,12 +38,12 @@ pub struct MaskOptions<'m> {
 /// Masks a chunk: writes the kept events and what they reach, with pseudonyms in the masked strings, in the memory of a
 /// vector, whose items are dropped. The dictionary is that after the chunks before, and gets the texts of this one. If
 /// memory runs out or the masked chunk would have 2^30 bytes, it may have some or all of them.
-pub fn mask_chunk(
+pub fn mask_chunk<'m>(
     alloc: Global,
     memory: Vec<u8>,
-    chunk: &Chunk<'_>,
-    kept: &Kept,
-    options: MaskOptions<'_>,
+    chunk: &'m Chunk<'m>,
+    kept: &'m Kept,
+    options: MaskOptions<'m>,
     dictionary: &mut Dictionary,
 ) -> Result<Vec<u8>, MaskFault>
     requires { length kept.now ≡ length (events_of chunk.now) }
@@ -86,7 +86,7 @@ pub fn mask_chunk(
 fn put_masked(
     alloc: Global,
     memory: Vec<u8>,
-    source: Source<'_, Masker<'_>>,
+    source: Source<'_, Masker<'_, '_>>,
 ) -> Result<Vec<u8>, MaskFault>
     requires chunk { source.chunk.now ≡ source.rewriting.now.strings.chunk.now }
     requires entries { AreSomeOf source.chunk.now source.entries.now }
@@ -94,9 +94,23 @@ fn put_masked(
     ensures below { IfOk result (λ out. length out.items < 2 ^ 30) }
     ensures too_long { result ≡ Err TooLong → 2 ^ 30 ≤ length (rewritten (with_metadata (rewrite_by source.entry.rewriting.now) (option_map (λ s. s.now) source.entry.metadata)) source.entry.chunk.now (kept_by source.entry.chunk.now source.entry.kept.now) source.entry.entries.now) }
 {
-    let out = write_chunk(alloc, memory, source)?;
-    if out.len() >= LIMIT {
-        return Err(MaskFault::TooLong);
+    sizes_are_carried();
+    match write_chunk(alloc, memory, source) {
+        Ok(out) => below_limit(out),
+        Err(WriteFault::TooLong) => Err(MaskFault::TooLong),
+        Err(WriteFault::Memory) => Err(MaskFault::Memory),
     }
-    Ok(out)
+}
+
+// The bytes, if they are below the limit.
+fn below_limit(out: Vec<u8>) -> Result<Vec<u8>, MaskFault>
+    ensures ok { IfOk result (λ same. same.items ≡ out.items) }
+    ensures below { IfOk result (λ same. length same.items < 2 ^ 30) }
+    ensures too_long { result ≡ Err TooLong → 2 ^ 30 ≤ length out.items }
+{
+    if out.len() < LIMIT {
+        Ok(out)
+    } else {
+        Err(MaskFault::TooLong)
+    }
 }

@@ -24,14 +24,14 @@ use std::alloc::Global;
 /// What the values of a chunk are masked with: its masked strings, the known texts, and the dictionary, which should
 /// have all texts of these strings.
 #[derive(Clone, Copy)]
-pub(crate) struct Masker<'m> {
+pub(crate) struct Masker<'m, 'd> {
     pub(crate) alloc: Global,
     pub(crate) strings: MaskedStrings<'m>,
     pub(crate) known: &'m Known,
-    pub(crate) dictionary: &'m Dictionary,
+    pub(crate) dictionary: &'d Dictionary,
 }
 
-impl Rewriter for Masker<'_> {
+impl Rewriter for Masker<'_, '_> {
     ghost use Rattle.std.specs.Prelude.{◌≡◌};
     ghost use Rattle.jfr_mask.specs.Maskers.{rewrite_by};
 
@@ -50,7 +50,7 @@ impl Rewriter for Masker<'_> {
         self.put_masked(out, node, from, to)
     }
 
-    fn new_key(&self, _class: u64, key: u64) -> u64 {
+    fn entry_key(&self, _class: u64, key: u64) -> u64 {
         key
     }
 
@@ -59,7 +59,7 @@ impl Rewriter for Masker<'_> {
     }
 }
 
-impl Masker<'_> {
+impl Masker<'_, '_> {
     // Appends the chunk's bytes from `from` up to a value, the masked value, and the bytes after it up to `to`. Bytes
     // between masked strings are copied in one piece.
     fn put_masked(
