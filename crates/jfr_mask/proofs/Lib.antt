@@ -8,6 +8,7 @@ mod HeadlineLaws
 mod ItselfLaws
 mod LaidLeaves
 mod LeafMasks
+mod MaskedChunk
 mod KnownLaws
 mod LeafReferences
 mod MapLaws

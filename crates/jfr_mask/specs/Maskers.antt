@@ -1,5 +1,6 @@
 -- What the structs of the code stand for.
-use Rattle.std.specs.Prelude.{◌≡◌, ℕ, Bool, List, Option}
+use Rattle.std.specs.Prelude.{◌≡◌, ℕ, Bool, List, [], Option, None}
+use Rattle.std.specs.Option.{option_map_or}
 use Rattle.jfr_value.specs.declared.leaf.Holder.{Holder}
 use Rattle.jfr_value.specs.Leaves.{LeafAt}
 use Rattle.jfr_value.specs.Nodes.{IsNode, NodeAt}
@@ -7,7 +8,10 @@ use Rattle.jfr_value.specs.Values.{Value}
 use Rattle.jfr_chunk.specs.Parts.{EventAt, Parts}
 use Rattle.jfr_pool.specs.declared.entry.EntryAt.{EntryAt}
 use Rattle.jfr_pool.specs.Entries.{entry_node}
+use Rattle.jfr_filter.specs.Filters.{describes}
 use Rattle.jfr_rewrite.specs.Changed.{Change}
+use Rattle.jfr_rewrite.specs.Rewrite.{Rewrite, fewest_or_five}
+use Rattle.jfr_mask.specs.declared.mask.MaskOptions.{MaskOptions}
 use Rattle.jfr_mask.specs.declared.masker.Masker.{Masker}
 use Rattle.jfr_mask.specs.declared.numbering.Numbering.{Numbering}
 use Rattle.jfr_mask.specs.declared.texts.MaskedStrings.{MaskedStrings}
@@ -45,6 +49,14 @@ shown_by m = shown (has_text m.known.now) m.dictionary.now
 -- What becomes of values.
 abbrev pub change_by : Masker → Change
 change_by m = masking (held_by m.strings) (shown_by m) m.strings.chunk.now
+
+-- How a masker rewrites its chunk, but for the metadata record.
+abbrev pub rewrite_by : Masker → Rewrite
+rewrite_by m = record { change = change_by m; key = λ t. t.1; width = fewest_or_five; metadata = None }
+
+-- The masking that these options ask for.
+abbrev pub masking_of : MaskOptions → Masking
+masking_of o = record { strings = o.strings.now; except = option_map_or (λ p. p.now) o.except []; known = has_text o.known.now; described = describes o.filter.now }
 
 -- The bytes of the masked chunk for those from an offset up to another one, between which these leaves are.
 abbrev pub masked_by : Masker → ℕ → ℕ → List LeafAt → List ℕ

@@ -10,6 +10,7 @@
 //! | `Dictionary` | the masked texts, with their numbers |
 //! | `Known` | the known texts: lines of a file |
 //! | `Shown` | what is shown for a text, as bytes |
+//! | `mask_chunk`, `MaskOptions`, `MaskFault` | masks a chunk |
 //! | `MaskedFields` | which fields of a chunk's classes are masked, by patterns over `CLASS.FIELD` |
 //!
 //! A masked chunk has the kept events, and the entries that these reach by paths that go no further at masked strings.
@@ -34,23 +35,28 @@
 
 mod chunk_laws;
 mod dictionary;
+mod fault;
 mod fields;
 mod holders;
 mod known;
 pub mod laws;
 mod left;
+mod mask;
 mod masker;
 mod numbering;
 mod plain;
 mod references;
 mod shown;
 mod texts;
+mod widths;
 
 pub use chunk_laws::{
     equal_outputs, masked_chunks_are_accepted, masked_chunks_mean_the_same, masked_values_are_read,
     masks_keep_secrets, numbers_hold_in_all_chunks, outputs_are_masked, what_remains_is_reached,
 };
 pub use dictionary::Dictionary;
+pub use fault::MaskFault;
 pub use fields::MaskedFields;
 pub use known::Known;
+pub use mask::{MaskOptions, mask_chunk};
 pub use shown::Shown;

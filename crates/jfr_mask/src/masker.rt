@@ -11,9 +11,12 @@ ghost use Rattle.jfr_mask.specs.MaskedLeaves.{IsInChunk, leaf_text};
 ghost use Rattle.jfr_mask.specs.Maskers.{change_by, masked_by, shown_by};
 
 use crate::texts::{MaskedStrings, leaf_text};
+use crate::widths::width_of;
 use crate::{Dictionary, Known, MaskedFields, Shown};
 use jfr_base::{NoMemory, push_var};
 use jfr_chunk::Chunk;
+use jfr_frame::Framed;
+use jfr_rewrite::Rewriter;
 use jfr_text::{EMPTY_BYTE, NULL_BYTE, UTF8_BYTE};
 use jfr_value::{Leaf, Leaves, Node};
 use std::alloc::Global;
@@ -21,17 +24,45 @@ use std::alloc::Global;
 /// What the values of a chunk are masked with: its masked strings, the known texts, and the dictionary, which should
 /// have all texts of these strings.
 #[derive(Clone, Copy)]
-pub(crate) struct Masker<'m> {
+pub(crate) struct Masker<'m, 'd> {
     pub(crate) alloc: Global,
     pub(crate) strings: MaskedStrings<'m>,
     pub(crate) known: &'m Known,
-    pub(crate) dictionary: &'m Dictionary,
+    pub(crate) dictionary: &'d Dictionary,
 }
 
-impl Masker<'_> {
-    /// Appends the chunk's bytes from `from` up to a value, the masked value, and the bytes after it up to `to`. Bytes
-    /// between masked strings are copied in one piece.
-    pub(crate) fn put_changed(
+impl Rewriter for Masker<'_, '_> {
+    ghost use Rattle.std.specs.Prelude.{◌≡◌};
+    ghost use Rattle.jfr_mask.specs.Maskers.{rewrite_by};
+
+    ghost rewrite = { λ m. rewrite_by m };
+
+    ghost suits = { λ m p. p ≡ m.strings.chunk.now };
+
+    fn put_changed(
+        &self,
+        out: &mut Vec<u8>,
+        chunk: &Chunk<'_>,
+        node: Node<'_>,
+        from: usize,
+        to: usize,
+    ) -> Result<(), NoMemory> {
+        self.put_masked(out, node, from, to)
+    }
+
+    fn entry_key(&self, _class: u64, key: u64) -> u64 {
+        key
+    }
+
+    fn width(&self, frame: Framed, rest: usize) -> usize {
+        width_of(frame, rest)
+    }
+}
+
+impl Masker<'_, '_> {
+    // Appends the chunk's bytes from `from` up to a value, the masked value, and the bytes after it up to `to`. Bytes
+    // between masked strings are copied in one piece.
+    fn put_masked(
         &self,
         out: &mut Vec<u8>,
         node: Node<'_>,

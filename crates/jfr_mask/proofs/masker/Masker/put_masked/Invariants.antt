@@ -5,7 +5,7 @@ use Rattle.jfr_mask.specs.Masked.{is_held_masked}
 use Rattle.jfr_mask.specs.MaskedLeaves.{masked_from}
 use Rattle.jfr_mask.specs.Pseudonyms.{has_text, shown}
 use Rattle.jfr_mask.proofs.LaidLeaves.{AreLaid}
-use Rattle.jfr_mask.proofs.masker.Masker.put_changed.Given as goal
+use Rattle.jfr_mask.proofs.masker.Masker.put_masked.Given as goal
 
 -- What is written, followed by what is left to write, is what was written, followed by all.
 abbrev pub invariant-loop-leaf : goal.invariant-loop-leaf

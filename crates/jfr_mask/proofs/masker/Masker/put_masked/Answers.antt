@@ -6,7 +6,7 @@ use Rattle.jfr_mask.specs.MaskedLeaves.{masked_from}
 use Rattle.jfr_mask.specs.Pseudonyms.{has_text, shown}
 use Rattle.jfr_mask.proofs.LaidLeaves.{AreLaid, laid_here, laid_order, leaves_here}
 use Rattle.jfr_mask.proofs.LeafMasks.{node_masked_is}
-use Rattle.jfr_mask.proofs.masker.Masker.put_changed.Goals as goal
+use Rattle.jfr_mask.proofs.masker.Masker.put_masked.Goals as goal
 
 pub loop-leaf-init : goal.loop-leaf-init
 loop-leaf-init c =
