@@ -1,0 +1,5 @@
+//! Tests of masked chunks, as tables.
+#![tactic(auto)]
+
+#[cfg(test)]
+mod chunks;
