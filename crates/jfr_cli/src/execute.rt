@@ -63,7 +63,9 @@ pub(crate) fn execute<P: Place, O: Sink>(
                 Answer::Ended(scrub(alloc, place, out, filter, &files))
             }
         }
-        Order::Disassemble { file, rule } => Answer::Ended(disassemble(alloc, place, out, file, rule)),
+        Order::Disassemble { file, rule } => Answer::Ended(disassemble(
+            alloc, place, out, file, rule,
+        )),
         Order::Assemble { folder, output } => Answer::Ended(assemble(
             alloc, place, out, folder, output,
         )),
