@@ -75,12 +75,9 @@ pub(crate) fn execute<P: Place, O: Sink>(
         Order::Receipt {
             filter,
             input,
-            receipt,
+            receipt: output,
         } => {
-            let files = Files {
-                input,
-                output: receipt,
-            };
+            let files = Files { input, output };
             Answer::Ended(receipt(alloc, place, out, filter, &files))
         }
         Order::Verify {
