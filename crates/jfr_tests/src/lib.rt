@@ -18,6 +18,8 @@ mod faults;
 #[cfg(test)]
 mod filters;
 #[cfg(test)]
+mod jdk;
+#[cfg(test)]
 mod outputs;
 #[cfg(test)]
 mod parts;

@@ -5,19 +5,12 @@ use std::alloc::{AllocError, Global};
 use std::process::Abort;
 use std::test::Fail;
 
-// Texts that the classes share, as the first ten strings.
-#[rattlefmt::skip]
+// Texts that the classes share, as the first ten strings: root, metadata, class, name, id, field, long, 5,
+// c, x.
 const SHARED: [u8; 55] = [
-    3, 4, b'r', b'o', b'o', b't',
-    3, 8, b'm', b'e', b't', b'a', b'd', b'a', b't', b'a',
-    3, 5, b'c', b'l', b'a', b's', b's',
-    3, 4, b'n', b'a', b'm', b'e',
-    3, 2, b'i', b'd',
-    3, 5, b'f', b'i', b'e', b'l', b'd',
-    3, 4, b'l', b'o', b'n', b'g',
-    3, 1, b'5',
-    3, 1, b'c',
-    3, 1, b'x',
+    3, 4, 0x72, 0x6F, 0x6F, 0x74, 3, 8, 0x6D, 0x65, 0x74, 0x61, 0x64, 0x61, 0x74, 0x61, 3, 5, 0x63,
+    0x6C, 0x61, 0x73, 0x73, 3, 4, 0x6E, 0x61, 0x6D, 0x65, 3, 2, 0x69, 0x64, 3, 5, 0x66, 0x69, 0x65,
+    0x6C, 0x64, 3, 4, 0x6C, 0x6F, 0x6E, 0x67, 3, 1, 0x35, 3, 1, 0x63, 3, 1, 0x78,
 ];
 
 // The class `long`, whose id is 5.
