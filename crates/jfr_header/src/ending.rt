@@ -19,6 +19,8 @@ pub enum Ending {
     WriteFault,
     /// A recording needs more parts than `disassemble` may write, 999,999.
     TooManyParts,
+    /// The masked chunk with this number would be too long, or for 0 the file of known texts is.
+    MaskTooLong(u64),
     /// Memory ran out.
     Memory,
 }

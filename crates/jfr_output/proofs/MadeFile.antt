@@ -105,4 +105,5 @@ module _ (k : List ℕ → Option Flaw) (m : List ℕ → List ℕ) (input outpu
   made_by_plan ending.ReadFault a b d r h = absurd h
   made_by_plan ending.WriteFault a b d r h = absurd h
   made_by_plan ending.TooManyParts a b d r h = absurd h
+  made_by_plan (ending.MaskTooLong n) a b d r h = absurd h
   made_by_plan ending.Memory a b d r h = absurd h

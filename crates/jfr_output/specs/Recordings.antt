@@ -4,7 +4,7 @@ use Rattle.jfr_base.specs.declared.flaw.Flaw.{Flaw}
 use Rattle.jfr_outside.specs.World.{World, file}
 use Rattle.jfr_header.specs.Cuts.{cut, joined}
 use Rattle.jfr_header.specs.declared.ending.Ending.{Ending}
-use Rattle.jfr_header.specs.declared.ending.Ending.TheVariants.{Done, Refused, ReadFault, WriteFault, TooManyParts, Memory}
+use Rattle.jfr_header.specs.declared.ending.Ending.TheVariants.{Done, Refused, ReadFault, WriteFault, TooManyParts, MaskTooLong, Memory}
 
 -- These chunks if there is no flaw, else none.
 abbrev pub unless_refused : Option Flaw → List (List ℕ) → List (List ℕ)
@@ -55,4 +55,5 @@ IsByPlan (Refused refusal) = ⊤
 IsByPlan ReadFault = ⊥
 IsByPlan WriteFault = ⊥
 IsByPlan TooManyParts = ⊥
+IsByPlan (MaskTooLong n) = ⊥
 IsByPlan Memory = ⊥

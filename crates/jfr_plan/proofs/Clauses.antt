@@ -4,11 +4,11 @@ use Rattle.jfr_base.specs.declared.flaw.Flaw.{Flaw}
 use Rattle.jfr_outside.specs.World.{World, IfKnown, file}
 use Rattle.jfr_outside.specs.Counts.{Rose}
 use Rattle.jfr_header.specs.declared.ending.Ending.{Ending}
-use Rattle.jfr_header.specs.declared.ending.Ending.TheVariants.{Done, Refused, ReadFault, WriteFault, TooManyParts, Memory}
+use Rattle.jfr_header.specs.declared.ending.Ending.TheVariants.{Done, Refused, ReadFault, WriteFault, TooManyParts, MaskTooLong, Memory}
 use Rattle.jfr_plan.specs.Ends as ends
 use Rattle.jfr_plan.specs.Ends.{End, CommandEnd, Ends, NotRead, NotWritten, RanOut, command_end}
 use Rattle.jfr_plan.specs.Effects.{Outside, Effect, Create, Append, Snapshot, snapshot, done, apply, effects, Cannot}
-use Rattle.jfr_plan.specs.Rules.{Rule, Walk, Target, File, Parts, Text, walk, walk_on, cut_after, plan_after, plan_in}
+use Rattle.jfr_plan.specs.Rules.{Rule, Walk, Target, File, Parts, Masked, Text, walk, walk_on, cut_after, plan_after, plan_in}
 use Rattle.jfr_plan.specs.Outcomes.{After, HaltedIn, AllDone, Breaks, Unchanged, CountedWrite, Tallied}
 use Rattle.jfr_plan.specs.Makes.{making, asks_made}
 use Rattle.jfr_plan.specs.Clauses.{Task, over, IsAfterTask, Halted, IsPlanned, ByPlan, ForMemory, IsComplete, write_count, Ran, CanCreate}
@@ -16,16 +16,19 @@ use Rattle.jfr_plan.specs.Clauses.{Task, over, IsAfterTask, Halted, IsPlanned, B
 written_reads : (target : Target) (a b : Outside) → CountedWrite target a b → b.place.read_faults ≡ a.place.read_faults
 written_reads File a b t = t.0
 written_reads Parts a b t = t.0
+written_reads Masked a b t = t.0
 written_reads Text a b t = t.0
 
 written_rose : (target : Target) (a b : Outside) → CountedWrite target a b → Rose (write_count target a) (write_count target b)
 written_rose File a b t = t.1.1
 written_rose Parts a b t = t.1.1
+written_rose Masked a b t = t.1.1
 written_rose Text a b t = t.2.1
 
 kept_writes : (target : Target) (a b : Outside) → Unchanged a.place.write_faults b.place.write_faults → Unchanged a.sink.faults b.sink.faults → write_count target b ≡ write_count target a
 kept_writes File a b p q = p
 kept_writes Parts a b p q = p
+kept_writes Masked a b p q = p
 kept_writes Text a b p q = q
 
 -- If the count of read faults is larger, the ending is a read fault.
@@ -35,6 +38,7 @@ reads_clause target (Refused r) a b t n = t.1.0
 reads_clause target ReadFault a b t n = absurd (n refl)
 reads_clause target WriteFault a b t n = written_reads target a b t
 reads_clause target TooManyParts a b t n = t.1.0
+reads_clause target (MaskTooLong k) a b t n = t.1.0
 reads_clause target Memory a b t n = t.0
 
 pub no_read_passed : (target : Target) (e : Ending) (a b : Outside) → Tallied target (command_end e) a b → a.place.read_faults < b.place.read_faults → e ≡ ReadFault
@@ -43,6 +47,7 @@ no_read_passed target (Refused r) a b t h = absurd (omega (arith, t.1.0, h))
 no_read_passed target ReadFault a b t h = refl
 no_read_passed target WriteFault a b t h = absurd (let k = written_reads target a b t in omega (arith, k, h))
 no_read_passed target TooManyParts a b t h = absurd (omega (arith, t.1.0, h))
+no_read_passed target (MaskTooLong k) a b t h = absurd (omega (arith, t.1.0, h))
 no_read_passed target Memory a b t h = absurd (omega (arith, t.0, h))
 
 -- If the count of write faults is larger, the ending is a write fault.
@@ -52,6 +57,7 @@ writes_clause target (Refused r) a b t n = kept_writes target a b t.1.1 t.1.2
 writes_clause target ReadFault a b t n = kept_writes target a b t.1 t.2
 writes_clause target WriteFault a b t n = absurd (n refl)
 writes_clause target TooManyParts a b t n = kept_writes target a b t.1.1 t.1.2
+writes_clause target (MaskTooLong k) a b t n = kept_writes target a b t.1.1 t.1.2
 writes_clause target Memory a b t n = kept_writes target a b t.1 t.2
 
 no_less : (n m : ℕ) → m ≡ n → n < m → ⊥
@@ -63,6 +69,7 @@ no_write_passed target (Refused r) a b t h = absurd (no_less (write_count target
 no_write_passed target ReadFault a b t h = absurd (no_less (write_count target a) (write_count target b) (kept_writes target a b t.1 t.2) h)
 no_write_passed target WriteFault a b t h = refl
 no_write_passed target TooManyParts a b t h = absurd (no_less (write_count target a) (write_count target b) (kept_writes target a b t.1.1 t.1.2) h)
+no_write_passed target (MaskTooLong k) a b t h = absurd (no_less (write_count target a) (write_count target b) (kept_writes target a b t.1.1 t.1.2) h)
 no_write_passed target Memory a b t h = absurd (no_less (write_count target a) (write_count target b) (kept_writes target a b t.1 t.2) h)
 
 -- A fault is counted.
@@ -76,9 +83,14 @@ write_rose target e a b t is = written_rose target a b (subst (λ (y : Ending). 
 parts_clause : (target : Target) (e : Ending) (a b : Outside) → Tallied target (command_end e) a b → e ≡ TooManyParts → target ≡ Parts
 parts_clause target e a b t is = let k : Tallied target (Ends ends.TooMany) a b = subst (λ (y : Ending). Tallied target (command_end y) a b) is t in k.0
 
+-- Only a masked chunk is too long.
+masks_clause : (target : Target) (e : Ending) (a b : Outside) → Tallied target (command_end e) a b → (n : ℕ) → e ≡ MaskTooLong n → target ≡ Masked
+masks_clause target e a b t n is = let k : Tallied target (Ends (ends.TooLong n)) a b = subst (λ (y : Ending). Tallied target (command_end y) a b) is t in k.0
+
 written_steady : (target : Target) (a b : Outside) → CountedWrite target a b → b.place.steady ≡ a.place.steady
 written_steady File a b t = t.3
 written_steady Parts a b t = t.3
+written_steady Masked a b t = t.3
 written_steady Text a b t = t.3
 
 -- A steady place stays steady.
@@ -128,12 +140,14 @@ ran k e a b never t c =
       halted = by ReadFault;
       broken = by WriteFault;
       memory = by Memory;
+      too_long = λ n. by (MaskTooLong n);
       read_fault = read_rose k.target e a b c;
       write_fault = write_rose k.target e a b c;
       no_read_passed = no_read_passed k.target e a b c;
       no_write_passed = no_write_passed k.target e a b c;
       complete = complete_clause k (command_end e) a b t c;
       parts = parts_clause k.target e a b c;
+      masks = masks_clause k.target e a b c;
       can_read = λ can. (no can, reads_clause k.target e a b c (no can));
       same = same_clause k.target (command_end e) a b c;
     }

@@ -2,12 +2,12 @@
 use Rattle.std.proofs.Common.{◌≡◌, ◌∷◌, ℕ, refl, sym, ◌∙◌, ap, subst, Bool, List, ◌++◌, Result, Ok, Err, append_assoc}
 use Rattle.jfr_outside.specs.World.{State, IfKnown}
 use Rattle.jfr_header.specs.declared.ending.Ending.{Ending}
-use Rattle.jfr_header.specs.declared.ending.Ending.TheVariants.{Done, Refused, ReadFault, WriteFault, TooManyParts, Memory}
+use Rattle.jfr_header.specs.declared.ending.Ending.TheVariants.{Done, Refused, ReadFault, WriteFault, TooManyParts, MaskTooLong, Memory}
 use Rattle.jfr_header.proofs.Steps.{map_known, chain_known}
 use Rattle.jfr_plan.specs.Ends as ends
 use Rattle.jfr_plan.specs.Ends.{End, CommandEnd, Ends, NotRead, NotWritten, RanOut, command_end}
 use Rattle.jfr_plan.specs.Effects.{Outside, Effect, Snapshot, outside, snapshot, done, broken, Cannot}
-use Rattle.jfr_plan.specs.Rules.{Stops, Goes, Target, File, Parts, Text}
+use Rattle.jfr_plan.specs.Rules.{Stops, Goes, Target, File, Parts, Masked, Text}
 use Rattle.jfr_plan.specs.Outcomes.{SomeDone, Breaks, Unchanged, Counted, Tallied, Rises}
 use Rattle.jfr_plan.specs.Parts.{PartEnded, PartOutcome, PartWorld, PartTallied, IsPlaceAfter, PlaceCounts, WriteRises}
 use Rattle.jfr_plan.proofs.Walking.{done_append}
@@ -58,6 +58,7 @@ ended_more : (st : Bool) (a b : List Effect) (ended : CommandEnd) (s t : Snapsho
 ended_more st a b (Ends ends.Fine) s t h = h
 ended_more st a b (Ends (ends.Refused r)) s t h = absurd (goes_stops a (ends.Refused r) h.0)
 ended_more st a b (Ends ends.TooMany) s t h = absurd (goes_stops a ends.TooMany h.0)
+ended_more st a b (Ends (ends.TooLong n)) s t h = absurd (goes_stops a (ends.TooLong n) h.0)
 ended_more st a b NotRead s t h = h
 ended_more st a b NotWritten s t h = breaks_more st a b (a ++ b) s t refl h
 ended_more st a b RanOut s t h = some_more a b (a ++ b) s t refl h
@@ -67,6 +68,7 @@ ended_after : (st : Bool) (a b : List Effect) (ended : CommandEnd) (s t u : Snap
 ended_after st a b (Ends ends.Fine) s t u e h = h
 ended_after st a b (Ends (ends.Refused r)) s t u e h = absurd (goes_stops b (ends.Refused r) h.0)
 ended_after st a b (Ends ends.TooMany) s t u e h = absurd (goes_stops b ends.TooMany h.0)
+ended_after st a b (Ends (ends.TooLong n)) s t u e h = absurd (goes_stops b (ends.TooLong n) h.0)
 ended_after st a b NotRead s t u e h = h
 ended_after st a b NotWritten s t u e h = breaks_after st a b s t u e h
 ended_after st a b RanOut s t u e h = some_after a b s t u e h
@@ -102,6 +104,7 @@ tallied_after target (Ends e) x y z h k = (k.0, counted_after Unchanged Unchange
 tallied_after target NotRead x y z h k = counted_after Rises Unchanged Unchanged x y z h k
 tallied_after File NotWritten x y z h k = counted_after Unchanged Rises Unchanged x y z h k
 tallied_after Parts NotWritten x y z h k = counted_after Unchanged Rises Unchanged x y z h k
+tallied_after Masked NotWritten x y z h k = counted_after Unchanged Rises Unchanged x y z h k
 tallied_after Text NotWritten x y z h k = counted_after Unchanged Unchanged Rises x y z h k
 tallied_after target RanOut x y z h k = counted_after Unchanged Unchanged Unchanged x y z h k
 
@@ -117,10 +120,11 @@ by_write P (Err (Refused f)) n m h ok failed memory = absurd h
 by_write P (Err ReadFault) n m h ok failed memory = absurd h
 by_write P (Err WriteFault) n m h ok failed memory = failed
 by_write P (Err TooManyParts) n m h ok failed memory = absurd h
+by_write P (Err (MaskTooLong k)) n m h ok failed memory = absurd h
 by_write P (Err Memory) n m h ok failed memory = memory
 
--- The counts after effects on a place, for a command that writes one file, and for one that writes parts.
-pub tallied : (r : Result (Unit {0}) Ending) (x y : Outside) → Counted Unchanged (WriteRises r) Unchanged x y → PartTallied File r x y × PartTallied Parts r x y
+-- The counts after effects on a place, for a command that writes one file, parts, or a masked recording.
+pub tallied : (r : Result (Unit {0}) Ending) (x y : Outside) → Counted Unchanged (WriteRises r) Unchanged x y → PartTallied File r x y × PartTallied Parts r x y × PartTallied Masked r x y
 tallied r x y h =
-    by_write (λ z. Counted Unchanged (WriteRises z) Unchanged x y → PartTallied File z x y × PartTallied Parts z x y) r x.place.write_faults y.place.write_faults h.1
-    (λ o k. (k, k)) (λ k. (k, k)) (λ k. (k, k)) h
+    by_write (λ z. Counted Unchanged (WriteRises z) Unchanged x y → PartTallied File z x y × PartTallied Parts z x y × PartTallied Masked z x y) r x.place.write_faults y.place.write_faults h.1
+    (λ o k. (k, k, k)) (λ k. (k, k, k)) (λ k. (k, k, k)) h

@@ -7,7 +7,7 @@ use Rattle.jfr_header.specs.Fronts as fronts
 use Rattle.jfr_header.specs.Nexts.{Found, Refuses, GaveChunk, flaw_of}
 use Rattle.jfr_header.specs.declared.ending.Ending.{Ending}
 use Rattle.jfr_header.proofs.Steps.{chain_known, TookLess, TookMost}
-use Rattle.jfr_plan.specs.Ends.{Fine, Refused, TooMany, CommandEnd, Ends, NotRead, NotWritten, RanOut, command_end, refused}
+use Rattle.jfr_plan.specs.Ends.{Fine, Refused, TooMany, TooLong, CommandEnd, Ends, NotRead, NotWritten, RanOut, command_end, refused}
 use Rattle.jfr_plan.specs.Effects.{Outside, snapshot}
 use Rattle.jfr_plan.specs.Rules.{Rule, Goes}
 use Rattle.jfr_plan.specs.Goings.{Going, Staged, IsAt, IsPast}
@@ -54,6 +54,7 @@ end_ended : (st : Bool) (r : Rule) (earlier : List (List ℕ)) (input : List ℕ
 end_ended st r earlier input c (Ends Fine) o p q w v u t g f k = absurd k
 end_ended st r earlier input c (Ends (Refused x)) o p q w v u t g f k = absurd (goes_stops (r.ends (earlier ++ g.before)) (Refused x) k.0)
 end_ended st r earlier input c (Ends TooMany) o p q w v u t g f k = absurd (goes_stops (r.ends (earlier ++ g.before)) TooMany k.0)
+end_ended st r earlier input c (Ends (TooLong n)) o p q w v u t g f k = absurd (goes_stops (r.ends (earlier ++ g.before)) (TooLong n) k.0)
 end_ended st r earlier input c NotRead o p q w v u t g f k = absurd k
 end_ended st r earlier input c NotWritten o p q w v u t g f k = ends_broken st r earlier input c.number o p q c [] w v u t g f k
 end_ended st r earlier input c RanOut o p q w v u t g f k = ends_partly st r earlier input c.number o p q c [] w v u t g f k
@@ -80,6 +81,7 @@ chunk_ended : (st : Bool) (r : Rule) (earlier : List (List ℕ)) (input : List �
 chunk_ended st r earlier input start number x (Ends Fine) o p q w u t g k = absurd k
 chunk_ended st r earlier input start number x (Ends (Refused f)) o p q w u t g k = stops st r earlier input start number x o p q (Refused f) w u t g k.0 k.1
 chunk_ended st r earlier input start number x (Ends TooMany) o p q w u t g k = stops st r earlier input start number x o p q TooMany w u t g k.0 k.1
+chunk_ended st r earlier input start number x (Ends (TooLong n)) o p q w u t g k = stops st r earlier input start number x o p q (TooLong n) w u t g k.0 k.1
 chunk_ended st r earlier input start number x NotRead o p q w u t g k = absurd k
 chunk_ended st r earlier input start number x NotWritten o p q w u t g k = breaks st r earlier input start number x o p q w u t g k
 chunk_ended st r earlier input start number x RanOut o p q w u t g k = partly_held st r earlier input start number x o p q w u t g k
@@ -131,6 +133,7 @@ opened_ended : (st : Bool) (r : Rule) (earlier : List (List ℕ)) (input x : Lis
 opened_ended st r earlier input x (Ends Fine) o q w t f k = absurd k
 opened_ended st r earlier input x (Ends (Refused y)) o q w t f k = absurd (goes_stops r.opens (Refused y) k.0)
 opened_ended st r earlier input x (Ends TooMany) o q w t f k = absurd (goes_stops r.opens TooMany k.0)
+opened_ended st r earlier input x (Ends (TooLong n)) o q w t f k = absurd (goes_stops r.opens (TooLong n) k.0)
 opened_ended st r earlier input x NotRead o q w t f k = absurd k
 opened_ended st r earlier input x NotWritten o q w t f k = opens_broken st r earlier (file w input) x (snapshot w o) (snapshot t q) f k
 opened_ended st r earlier input x RanOut o q w t f k = opens_partly r earlier (file w input) x (snapshot w o) (snapshot t q) f k

@@ -5,9 +5,9 @@ use Rattle.jfr_outside.specs.World.{World, State, IfKnown, file}
 use Rattle.jfr_outside.specs.Counts.{Rose}
 use Rattle.jfr_header.specs.declared.ending.Ending.{Ending}
 use Rattle.jfr_header.specs.declared.ending.Ending.TheVariants as ending
-use Rattle.jfr_plan.specs.Ends.{End, Fine, Refused, CommandEnd, Ends, RanOut, command_end}
+use Rattle.jfr_plan.specs.Ends.{End, Fine, Refused, TooLong, CommandEnd, Ends, RanOut, command_end}
 use Rattle.jfr_plan.specs.Effects.{Outside, Plan, Snapshot, snapshot, effects}
-use Rattle.jfr_plan.specs.Rules.{Rule, Target, File, Parts, Text, plan_in}
+use Rattle.jfr_plan.specs.Rules.{Rule, Target, File, Parts, Masked, Text, plan_in}
 use Rattle.jfr_plan.specs.Outcomes.{Outcome, AllDone, SomeDone, Breaks, HaltedIn, Tallied}
 
 -- What a call has to do: its plan, given the files of the place; the state after a read fault, on a steady
@@ -67,6 +67,7 @@ pub data IsPlanned (ended : CommandEnd) (o : Option End) : Type 0 where
 abbrev pub write_count : Target → Outside → ℕ
 write_count File a = a.place.write_faults
 write_count Parts a = a.place.write_faults
+write_count Masked a = a.place.write_faults
 write_count Text a = a.sink.faults
 
 -- If the place's files are known and neither count rose, the command ended with the plan's end, or memory ran
@@ -88,14 +89,17 @@ pub record Ran (task : Task) (result : Ending) (before after : Outside) : Type 0
   pub halted : result ≡ ending.ReadFault → Halted task before after
   pub broken : result ≡ ending.WriteFault → Broken task before after
   pub memory : result ≡ ending.Memory → Partly task before after
+  pub too_long : (n : ℕ) → result ≡ ending.MaskTooLong n → Ended task (TooLong n) before after
   -- A fault is the answer only if it was counted, and a counted fault is never ignored.
   pub read_fault : result ≡ ending.ReadFault → Rose before.place.read_faults after.place.read_faults
   pub write_fault : result ≡ ending.WriteFault → Rose (write_count task.target before) (write_count task.target after)
   pub no_read_passed : before.place.read_faults < after.place.read_faults → result ≡ ending.ReadFault
   pub no_write_passed : write_count task.target before < write_count task.target after → result ≡ ending.WriteFault
-  -- Without a fault the answer is the plan's end, or memory ran out. Only parts can be too many.
+  -- Without a fault the answer is the plan's end, or memory ran out. Only parts can be too many, and only a
+  -- masked chunk can be too long.
   pub complete : IsComplete task (command_end result) before after
   pub parts : result ≡ ending.TooManyParts → task.target ≡ Parts
+  pub masks : (n : ℕ) → result ≡ ending.MaskTooLong n → task.target ≡ Masked
   -- No read fails if all of the input can be read. A steady place stays steady.
   pub can_read : task.Readable before.place → (result ≢ ending.ReadFault) × (after.place.read_faults ≡ before.place.read_faults)
   pub same : after.place.steady ≡ before.place.steady

@@ -6,11 +6,13 @@ use Rattle.jfr_header.specs.Nexts.{at_chunk}
 use Rattle.jfr_header.specs.declared.ending.Ending.{Ending}
 use Rattle.jfr_header.specs.declared.ending.Ending.TheVariants as ending
 
--- The end of a plan: the input is read to its end, a chunk is refused, or there would be too many parts.
+-- The end of a plan: the input is read to its end, a chunk is refused, there would be too many parts, or the
+-- masked chunk with this number would be too long (for 0, the file of known texts is).
 pub data End : Type 0 where
   Fine : End
   Refused : Refusal → End
   TooMany : End
+  TooLong : ℕ → End
 
 -- The end of a command: that of its plan, or an earlier one because a read failed, a write failed, or memory
 -- ran out.
@@ -27,6 +29,7 @@ command_end (ending.Refused r) = Ends (Refused r)
 command_end ending.ReadFault = NotRead
 command_end ending.WriteFault = NotWritten
 command_end ending.TooManyParts = Ends TooMany
+command_end (ending.MaskTooLong n) = Ends (TooLong n)
 command_end ending.Memory = RanOut
 
 -- Chunk number n is refused for this flaw.

@@ -6,9 +6,9 @@ use Rattle.jfr_header.specs.Fronts.{reach}
 use Rattle.jfr_header.specs.Nexts.{is_header}
 use Rattle.jfr_base.specs.declared.flaw.Flaw.{Flaw}
 use Rattle.jfr_header.specs.Cuts.{Cuts, joined, whole_in}
-use Rattle.jfr_plan.specs.Ends.{End, Fine, Refused, TooMany, CommandEnd, Ends, NotRead, NotWritten, RanOut}
+use Rattle.jfr_plan.specs.Ends.{End, Fine, Refused, TooMany, TooLong, CommandEnd, Ends, NotRead, NotWritten, RanOut}
 use Rattle.jfr_plan.specs.Effects.{Outside, Effect, Plan, Snapshot, snapshot, done, broken, effects, keep_met, Cannot}
-use Rattle.jfr_plan.specs.Rules.{Rule, Target, File, Parts, Text, AllGo, cut_after, plan_after}
+use Rattle.jfr_plan.specs.Rules.{Rule, Target, File, Parts, Masked, Text, AllGo, cut_after, plan_after}
 
 -- The plan has this end, and all its effects are done.
 pub record AllDone (plan : Plan) (e : End) (s t : Snapshot) : Type 0 where
@@ -105,16 +105,19 @@ Rises before now = (before ≤ now) × Rose before now
 abbrev pub Counted : (ℕ → ℕ → Type 0) → (ℕ → ℕ → Type 0) → (ℕ → ℕ → Type 0) → Outside → Outside → Type 0
 Counted Reads Writes Texts a b = Reads a.place.read_faults b.place.read_faults × Writes a.place.write_faults b.place.write_faults × Texts a.sink.faults b.sink.faults × (b.place.steady ≡ a.place.steady)
 
--- A command with this target may have this end: only one that writes parts can write too many.
+-- A command with this target may have this end: only one that writes parts can write too many, and only one
+-- that masks can find a chunk too long.
 abbrev pub MayEnd : Target → End → Type 0
 MayEnd target Fine = Unit {0}
 MayEnd target (Refused r) = Unit {0}
 MayEnd target TooMany = target ≡ Parts
+MayEnd target (TooLong n) = target ≡ Masked
 
 -- Only the count of write faults for this target rose.
 abbrev pub CountedWrite : Target → Outside → Outside → Type 0
 CountedWrite File a b = Counted Unchanged Rises Unchanged a b
 CountedWrite Parts a b = Counted Unchanged Rises Unchanged a b
+CountedWrite Masked a b = Counted Unchanged Rises Unchanged a b
 CountedWrite Text a b = Counted Unchanged Unchanged Rises a b
 
 -- The counts that rose, for each end: a fault is counted, and no fault is ignored.

@@ -12,10 +12,12 @@ pub data Asked : Type 0 where
   Stops : End → Asked
   Goes : List Effect → Asked
 
--- The target of a command: one file, parts, of which there may be too many, or text.
+-- The target of a command: one file; parts, of which there may be too many; a masked recording, of which a chunk
+-- may be too long; or text.
 pub data Target : Type 0 where
   File : Target
   Parts : Target
+  Masked : Target
   Text : Target
 
 -- The rule of a command over an input: what it does when the input is open, for a chunk, given the chunks

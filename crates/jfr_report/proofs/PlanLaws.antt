@@ -3,7 +3,7 @@ use Rattle.std.proofs.Common.{◌≡◌, ℕ, ◌∙◌, refl, sym, ap, subst, B
 use Rattle.std.specs.List.{concat}
 use Rattle.jfr_outside.specs.World.{World, State, SinkState, IfKnown, added}
 use Rattle.jfr_header.specs.declared.ending.Ending.{Ending}
-use Rattle.jfr_header.specs.declared.ending.Ending.TheVariants.{Done, Refused, ReadFault, WriteFault, TooManyParts, Memory}
+use Rattle.jfr_header.specs.declared.ending.Ending.TheVariants.{Done, Refused, ReadFault, WriteFault, TooManyParts, MaskTooLong, Memory}
 use Rattle.jfr_plan.specs.Effects.{outside, Write, snapshot, done, broken}
 use Rattle.jfr_plan.specs.Rules.{Goes, Text}
 use Rattle.jfr_plan.specs.Outcomes.{SomeDone, Breaks}
@@ -55,6 +55,7 @@ texts_stand st all (Err Done) w o p t = absurd t
 texts_stand st all (Err (Refused r)) w o p t = absurd t
 texts_stand st all (Err ReadFault) w o p t = absurd t
 texts_stand st all (Err TooManyParts) w o p t = absurd t
+texts_stand st all (Err (MaskTooLong n)) w o p t = absurd t
 
 -- A part of a command that writes these texts and leaves the place.
 pub texts_told : (st : Bool) (all : List (List ℕ)) (result : Result (Unit {0}) Ending) (t : Option World) (o p : Option (List ℕ)) → TextLeaves all result o p → IfKnown t t (PartWorld st (Goes (writes all)) result o p)
@@ -75,3 +76,4 @@ texts_tallied (Err Done) a s z h = absurd h
 texts_tallied (Err (Refused r)) a s z h = absurd h
 texts_tallied (Err ReadFault) a s z h = absurd h
 texts_tallied (Err TooManyParts) a s z h = absurd h
+texts_tallied (Err (MaskTooLong n)) a s z h = absurd h

@@ -2,7 +2,7 @@
 use Rattle.std.specs.Prelude.{◌≡◌, ℕ, List, ◌∷◌, ◌++◌, take, Option, option_map, Result, Ok, Err}
 use Rattle.std.specs.List.{concat}
 use Rattle.jfr_header.specs.declared.ending.Ending.{Ending}
-use Rattle.jfr_header.specs.declared.ending.Ending.TheVariants.{Done, Refused, ReadFault, WriteFault, TooManyParts, Memory}
+use Rattle.jfr_header.specs.declared.ending.Ending.TheVariants.{Done, Refused, ReadFault, WriteFault, TooManyParts, MaskTooLong, Memory}
 use Rattle.jfr_outside.specs.World.{added}
 use Rattle.jfr_plan.specs.Outcomes.{Unchanged, Rises}
 
@@ -44,6 +44,7 @@ TextLeaves all (Err Done) before now = ⊥
 TextLeaves all (Err (Refused r)) before now = ⊥
 TextLeaves all (Err ReadFault) before now = ⊥
 TextLeaves all (Err TooManyParts) before now = ⊥
+TextLeaves all (Err (MaskTooLong n)) before now = ⊥
 
 -- The sink's count of faults after such a call, for each result.
 abbrev pub TextCounted : Result (Unit {0}) Ending → ℕ → ℕ → Type 0
@@ -54,6 +55,7 @@ TextCounted (Err Done) before now = ⊥
 TextCounted (Err (Refused r)) before now = ⊥
 TextCounted (Err ReadFault) before now = ⊥
 TextCounted (Err TooManyParts) before now = ⊥
+TextCounted (Err (MaskTooLong n)) before now = ⊥
 
 -- What has been written and collected after a call that adds texts to the page, for each result: the rest is
 -- still to come, or the command has ended.

@@ -5,7 +5,7 @@ use Rattle.jfr_base.specs.declared.flaw.Flaw.{Flaw}
 use Rattle.jfr_outside.specs.World.{World, IfKnown, file}
 use Rattle.jfr_header.specs.declared.ending.Ending.{Ending}
 use Rattle.jfr_header.specs.declared.ending.Ending.TheVariants.{WriteFault}
-use Rattle.jfr_plan.specs.Ends.{End, Fine, Refused, TooMany, NotWritten, command_end}
+use Rattle.jfr_plan.specs.Ends.{End, Fine, Refused, TooMany, TooLong, NotWritten, command_end}
 use Rattle.jfr_plan.specs.Effects.{Outside, Effect, Create, Append, Snapshot, Step, Plan, snapshot, apply, effects}
 use Rattle.jfr_plan.specs.Rules.{File, walk, cut_after, plan_after}
 use Rattle.jfr_plan.specs.Outcomes.{Breaks, Tallied}
@@ -43,6 +43,7 @@ module _ (out : List ℕ) where
   then_can ss (Some Fine) later f k = subst (λ (es : List Effect). CanGrow es) (sym (effects_append ss later.steps)) (f (effects later.steps) k)
   then_can ss (Some (Refused r)) later f k = subst (λ (es : List Effect). CanGrow es) (append-nil (effects ss)) (f [] (λ t o. tt))
   then_can ss (Some TooMany) later f k = subst (λ (es : List Effect). CanGrow es) (append-nil (effects ss)) (f [] (λ t o. tt))
+  then_can ss (Some (TooLong n)) later f k = subst (λ (es : List Effect). CanGrow es) (append-nil (effects ss)) (f [] (λ t o. tt))
   then_can ss None later f k = subst (λ (es : List Effect). CanGrow es) (append-nil (effects ss)) (f [] (λ t o. tt))
 
   joining_can : (earlier xs : List (List ℕ)) → CanGrow (effects (joining earlier xs).steps)

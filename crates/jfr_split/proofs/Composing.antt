@@ -2,7 +2,7 @@
 use Rattle.std.proofs.Common.{◌≡◌, refl, sym, ◌∙◌, ap, subst, Bool, false, ◌||◌, List, [], ◌++◌, Option, None, Some, append_assoc, append-nil}
 use Rattle.std.specs.List.{list_any}
 use Rattle.std.proofs.lemmas.List.Folds.{list_any-append}
-use Rattle.jfr_plan.specs.Ends.{End, Fine, Refused, TooMany, CommandEnd, Ends, NotRead, NotWritten, RanOut}
+use Rattle.jfr_plan.specs.Ends.{End, Fine, Refused, TooMany, TooLong, CommandEnd, Ends, NotRead, NotWritten, RanOut}
 use Rattle.jfr_plan.specs.Effects.{Effect, Plan, Snapshot, Step, done, effects}
 use Rattle.jfr_plan.specs.Outcomes.{AllDone, SomeDone, Breaks}
 use Rattle.jfr_plan.proofs.Leaving.{some_more, some_after, breaks_more, breaks_after}
@@ -52,6 +52,7 @@ goes_by : (ss : List Step) (o : Option End) (later : Plan) → GoesOn (record { 
 goes_by ss (Some Fine) later = record { later = effects later.steps; is = effects_append ss later.steps }
 goes_by ss (Some (Refused r)) later = record { later = []; is = sym (append-nil (effects ss)) }
 goes_by ss (Some TooMany) later = record { later = []; is = sym (append-nil (effects ss)) }
+goes_by ss (Some (TooLong n)) later = record { later = []; is = sym (append-nil (effects ss)) }
 goes_by ss None later = record { later = []; is = sym (append-nil (effects ss)) }
 
 goes_on : (p later : Plan) → GoesOn p (plan_then p later)
@@ -62,6 +63,7 @@ ends_by : (ss : List Step) (o : Option End) (e : End) (later : Plan) (s t : Snap
 ends_by ss (Some Fine) e later s t n h = absurd (n (sym (same_end Fine e h.end)))
 ends_by ss (Some (Refused r)) e later s t n h = h
 ends_by ss (Some TooMany) e later s t n h = h
+ends_by ss (Some (TooLong k)) e later s t n h = h
 ends_by ss None e later s t n h = h
 
 -- The first plan did not end well.
@@ -80,4 +82,5 @@ pub follows : (ss : List Step) (e : Option End) (later : Plan) (es : List Effect
 follows ss (Some Fine) later es h k = record { steps = effects_append ss later.steps ∙ ap (λ (x : List Effect). x ++ effects later.steps) h; end = refl }
 follows ss (Some (Refused r)) later es h k = cc
 follows ss (Some TooMany) later es h k = cc
+follows ss (Some (TooLong n)) later es h k = cc
 follows ss None later es h k = cc

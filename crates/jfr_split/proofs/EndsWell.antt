@@ -4,7 +4,7 @@ use Rattle.std.proofs.lemmas.Bool.{leb-true}
 use Rattle.std.specs.Prelude.{◌↔◌}
 use Rattle.std.specs.FinMap as fin
 use Rattle.jfr_outside.specs.World.{Files}
-use Rattle.jfr_plan.specs.Ends.{End, Fine, Refused, TooMany}
+use Rattle.jfr_plan.specs.Ends.{End, Fine, Refused, TooMany, TooLong}
 use Rattle.jfr_plan.specs.Effects.{Effect, Create, Append, Plan}
 use Rattle.jfr_plan.specs.Rules.{Stops, Goes, IsGoing, AllGo, cut_after, plan_after}
 use Rattle.jfr_plan.proofs.EndsWell.{plan_ends_well}
@@ -78,6 +78,7 @@ both_by : (o : Option End) (p later : Plan) → p.end ≡ o → (then_by o p lat
 both_by (Some Fine) p later e h = (e, h)
 both_by (Some (Refused r)) p later e h = cc
 both_by (Some TooMany) p later e h = cc
+both_by (Some (TooLong n)) p later e h = cc
 both_by None p later e h = cc
 
 joining_well : (earlier xs : List (List ℕ)) → ((joining earlier xs).end ≡ Some Fine) ↔ AreFlawless earlier xs

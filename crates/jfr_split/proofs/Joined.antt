@@ -9,9 +9,9 @@ use Rattle.jfr_base.specs.declared.flaw.Flaw.{Flaw}
 use Rattle.jfr_outside.specs.World.{World, IfKnown, grown, file}
 use Rattle.jfr_header.specs.declared.ending.Ending.{Ending}
 use Rattle.jfr_header.specs.declared.ending.Ending.TheVariants as ending
-use Rattle.jfr_header.specs.declared.ending.Ending.TheVariants.{Done, ReadFault, WriteFault, TooManyParts, Memory}
+use Rattle.jfr_header.specs.declared.ending.Ending.TheVariants.{Done, ReadFault, WriteFault, TooManyParts, MaskTooLong, Memory}
 use Rattle.jfr_header.specs.Cuts.{Cuts}
-use Rattle.jfr_plan.specs.Ends.{Fine, Refused, TooMany, CommandEnd, Ends, NotRead, NotWritten, RanOut, command_end}
+use Rattle.jfr_plan.specs.Ends.{Fine, Refused, TooMany, TooLong, CommandEnd, Ends, NotRead, NotWritten, RanOut, command_end}
 use Rattle.jfr_plan.specs.Effects.{Effect, Append, Finish, Snapshot, Plan, snapshot, apply, done, effects}
 use Rattle.jfr_plan.specs.Rules.{Goes, walk, cut_after, plan_by, plan_after}
 use Rattle.jfr_plan.specs.Outcomes.{AllDone, OutcomeIn, OutcomeOf}
@@ -167,6 +167,7 @@ pub part_ended : (steady : Bool) (es later : List Effect) (all : Plan) (ended : 
 part_ended steady es later all (Ends Fine) s t e h = absurd h
 part_ended steady es later all (Ends (Refused r)) s t e h = absurd (goes_stops es (Refused r) h.0)
 part_ended steady es later all (Ends TooMany) s t e h = absurd (goes_stops es TooMany h.0)
+part_ended steady es later all (Ends (TooLong n)) s t e h = absurd (goes_stops es (TooLong n) h.0)
 part_ended steady es later all NotRead s t e h = absurd h
 part_ended steady es later all NotWritten s t e h = breaks_more steady es later (effects all.steps) s t e h
 part_ended steady es later all RanOut s t e h = some_more es later (effects all.steps) s t e h
@@ -209,4 +210,5 @@ fine_done (ending.Refused r) h = cc
 fine_done ReadFault h = cc
 fine_done WriteFault h = cc
 fine_done TooManyParts h = cc
+fine_done (MaskTooLong n) h = cc
 fine_done Memory h = cc
