@@ -13,7 +13,7 @@ use std::env::Env;
 use std::process::ExitCode;
 use std::{env, io};
 
-// The words after the program's name.
+/// The words after the program's name.
 fn words_of<R: Env + AllocGlobal>(rt: &R, alloc: Global) -> io::Result<Words> {
     let mut words = Words::new(alloc);
     for word in env::args(rt)?.skip(1) {

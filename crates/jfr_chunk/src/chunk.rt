@@ -32,14 +32,14 @@ use jfr_value::Node;
 use std::alloc::Global;
 use std::marker::Model;
 
-// The flaw if no metadata record starts at the position in the header. Its offset is that of the header's
-// field.
+/// The flaw if no metadata record starts at the position in the header. Its offset is that of the header's
+/// field.
 const NO_METADATA: Flaw = Flaw {
     offset: 24,
     reason: Reason::MetadataPosition,
 };
 
-// The flaw if no checkpoint starts at the position in the header.
+/// The flaw if no checkpoint starts at the position in the header.
 const NO_CHECKPOINT: Flaw = Flaw {
     offset: 16,
     reason: Reason::PoolPosition,

@@ -46,7 +46,7 @@ pub fn write_answer<E: Sink>(alloc: Global, err: &mut E, answer: Answer) -> u8
     }
 }
 
-// Writes the usage line, and returns its status.
+/// Writes the usage line, and returns its status.
 fn write_usage<E: Sink>(err: &mut E) -> u8
     ensures { IsAnswered 1 (Some usage_line) result (E.state err.old) (E.state err.new) }
 {
@@ -57,7 +57,7 @@ fn write_usage<E: Sink>(err: &mut E) -> u8
     )
 }
 
-// Writes the line of an ending, if it has one, and returns its status.
+/// Writes the line of an ending, if it has one, and returns its status.
 fn write_ending<E: Sink>(alloc: Global, err: &mut E, ending: Ending) -> u8
     ensures { IsAnswered (status_of ending) (line_of ending) result (E.state err.old) (E.state err.new) }
 {
@@ -71,14 +71,14 @@ fn write_ending<E: Sink>(alloc: Global, err: &mut E, ending: Ending) -> u8
     }
 }
 
-// Writes the line of a doubt, and returns its status.
+/// Writes the line of a doubt, and returns its status.
 fn write_doubt<E: Sink>(alloc: Global, err: &mut E, chunk: u64, doubt: Doubt) -> u8
     ensures { IsAnswered 7 (Some (doubt_line chunk doubt)) result (E.state err.old) (E.state err.new) }
 {
     write_made_line(err, doubt_text(alloc, chunk, doubt), DOUBTED)
 }
 
-// The line of a doubt.
+/// The line of a doubt.
 fn doubt_text(alloc: Global, chunk: u64, doubt: Doubt) -> Result<String, AllocError>
     ensures { IfOk result (λ text. string_bytes text ≡ doubt_line chunk doubt) }
 {
@@ -86,14 +86,14 @@ fn doubt_text(alloc: Global, chunk: u64, doubt: Doubt) -> Result<String, AllocEr
     format!(in alloc; "chunk {chunk}: {name}\n")
 }
 
-// Writes the line of a text that is refused, and returns its status.
+/// Writes the line of a text that is refused, and returns its status.
 fn write_unbuilt<E: Sink>(alloc: Global, err: &mut E, line: u64, reason: BuildReason) -> u8
     ensures { IsAnswered 8 (Some (unbuilt_line line reason)) result (E.state err.old) (E.state err.new) }
 {
     write_made_line(err, unbuilt_text(alloc, line, reason), UNBUILT)
 }
 
-// The line of a text that is refused.
+/// The line of a text that is refused.
 fn unbuilt_text(alloc: Global, line: u64, reason: BuildReason) -> Result<String, AllocError>
     ensures { IfOk result (λ text. string_bytes text ≡ unbuilt_line line reason) }
 {
@@ -101,7 +101,7 @@ fn unbuilt_text(alloc: Global, line: u64, reason: BuildReason) -> Result<String,
     format!(in alloc; "line {line}: {name}\n")
 }
 
-// The line of a refused recording.
+/// The line of a refused recording.
 fn refusal_text(alloc: Global, refusal: &Refusal) -> Result<String, AllocError>
     ensures { IfOk result (λ text. string_bytes text ≡ refusal_line refusal.now) }
 {
@@ -109,7 +109,7 @@ fn refusal_text(alloc: Global, refusal: &Refusal) -> Result<String, AllocError>
     format!(in alloc; "chunk {chunk} offset {offset}: {name}\n")
 }
 
-// Writes the line. If there was no memory to make it, writes `out of memory` instead.
+/// Writes the line. If there was no memory to make it, writes `out of memory` instead.
 fn write_made_line<E: Sink>(err: &mut E, made: Result<String, AllocError>, status: u8) -> u8
     ensures { (line : List ℕ) → IfOk made (λ text. string_bytes text ≡ line) → IsAnswered status (Some line) result (E.state err.old) (E.state err.new) }
 {
@@ -119,7 +119,7 @@ fn write_made_line<E: Sink>(err: &mut E, made: Result<String, AllocError>, statu
     }
 }
 
-// Writes a line. A failed write doesn't change the status; if memory runs out, the status is `NO_MEMORY`.
+/// Writes a line. A failed write doesn't change the status; if memory runs out, the status is `NO_MEMORY`.
 fn write_status_line<E: Sink>(err: &mut E, line: &str, status: u8) -> u8
     ensures { IsAnswered status (Some line.now) result (E.state err.old) (E.state err.new) }
 {

@@ -37,7 +37,7 @@ use jfr_verify::{kept_is_passed, scrubs_are_verified, verdict_is_unique};
 use jfr_words::{WordsFault, read_words};
 use std::alloc::Global;
 
-// Carries out the order that the words give, if they give one.
+/// Carries out the order that the words give, if they give one.
 fn obey<P: Place, O: Sink>(alloc: Global, words: &Words, place: &mut P, out: &mut O) -> Answer
     ensures { Obeys words.now result (outside (P.state place.old) (O.state out.old)) (outside (P.state place.new) (O.state out.new)) }
 {

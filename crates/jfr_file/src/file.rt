@@ -33,7 +33,7 @@ impl From<Fault> for FileFault {
     }
 }
 
-// Reads the open input to its end. `None` if it has `limit` bytes or more.
+/// Reads the open input to its end. `None` if it has `limit` bytes or more.
 fn read_rest<P: Place>(alloc: Global, place: &mut P, limit: usize) -> Result<Option<Vec<u8>>, Fault>
     ensures contents { IfContentsKnown (P.state place.old) (P.state place.new) (RestRead limit result) }
     ensures bound { IfOk result (λ read. IfSome read (λ bytes. length bytes.items < limit)) }

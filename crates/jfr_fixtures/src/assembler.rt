@@ -31,14 +31,14 @@ pub enum Source {
     Record(Metadata),
 }
 
-// The texts of a metadata record, and its elements as bytes.
+/// The texts of a metadata record, and its elements as bytes.
 #[derive(Drop)]
 struct Tree {
     texts: Vec<&'static str>,
     bytes: Vec<u8>,
 }
 
-// Adds a number in this many bytes, each with seven bits of it.
+/// Adds a number in this many bytes, each with seven bits of it.
 fn push_number(bytes: &mut Vec<u8>, number: usize, width: usize) -> Result<(), AllocError> {
     let mut left = number;
     for _ in 1..width {
@@ -49,7 +49,7 @@ fn push_number(bytes: &mut Vec<u8>, number: usize, width: usize) -> Result<(), A
     Ok(())
 }
 
-// The place of a text in a table.
+/// The place of a text in a table.
 fn place_of(texts: &[&'static str], text: &str) -> Option<usize> {
     for (at, known) in texts.iter().enumerate() {
         if *known == text {
@@ -59,7 +59,7 @@ fn place_of(texts: &[&'static str], text: &str) -> Option<usize> {
     None
 }
 
-// The place of a text in a table, to which it is added if it isn't there.
+/// The place of a text in a table, to which it is added if it isn't there.
 fn added(texts: &mut Vec<&'static str>, text: &'static str) -> Result<usize, AllocError> {
     if let Some(at) = place_of(texts, text) {
         return Ok(at);
@@ -69,13 +69,13 @@ fn added(texts: &mut Vec<&'static str>, text: &'static str) -> Result<usize, All
     Ok(at)
 }
 
-// Adds the place of a text.
+/// Adds the place of a text.
 fn push_place(tree: &mut Tree, text: &'static str) -> Result<(), AllocError> {
     let at = added(&mut tree.texts, text)?;
     push_number(&mut tree.bytes, at, 1)
 }
 
-// Adds attributes.
+/// Adds attributes.
 fn push_attributes(tree: &mut Tree, attributes: &[Attribute]) -> Result<(), AllocError> {
     for (key, value) in attributes {
         push_place(tree, key)?;
@@ -84,7 +84,7 @@ fn push_attributes(tree: &mut Tree, attributes: &[Attribute]) -> Result<(), Allo
     Ok(())
 }
 
-// Adds an element.
+/// Adds an element.
 fn push_element(tree: &mut Tree, (name, attributes, inner): Element) -> Result<(), AllocError> {
     push_place(tree, name)?;
     push_number(&mut tree.bytes, attributes.len(), 1)?;
@@ -92,7 +92,7 @@ fn push_element(tree: &mut Tree, (name, attributes, inner): Element) -> Result<(
     push_number(&mut tree.bytes, inner, 1)
 }
 
-// Adds elements.
+/// Adds elements.
 fn push_elements(tree: &mut Tree, elements: &[Element]) -> Result<(), AllocError> {
     for element in elements {
         push_element(tree, *element)?;
@@ -100,7 +100,7 @@ fn push_elements(tree: &mut Tree, elements: &[Element]) -> Result<(), AllocError
     Ok(())
 }
 
-// The tree of a metadata record.
+/// The tree of a metadata record.
 fn tree_of(alloc: Global, source: Metadata) -> Result<Tree, AllocError> {
     let texts = Vec::from_slice(alloc, source.texts)?;
     let bytes = Vec::new(alloc);
@@ -115,7 +115,7 @@ fn tree_of(alloc: Global, source: Metadata) -> Result<Tree, AllocError> {
     Ok(tree)
 }
 
-// Adds a table of texts.
+/// Adds a table of texts.
 fn push_texts(bytes: &mut Vec<u8>, texts: &[&'static str]) -> Result<(), AllocError> {
     push_number(bytes, texts.len(), 1)?;
     for text in texts {
@@ -126,7 +126,7 @@ fn push_texts(bytes: &mut Vec<u8>, texts: &[&'static str]) -> Result<(), AllocEr
     Ok(())
 }
 
-// Adds a metadata record. Its texts are at most 127, and none has more than 127 bytes.
+/// Adds a metadata record. Its texts are at most 127, and none has more than 127 bytes.
 fn push_metadata(bytes: &mut Vec<u8>, alloc: Global, source: Metadata) -> Result<(), AllocError> {
     let tree = tree_of(alloc, source)?;
     let mut body = Vec::from_slice(alloc, [0, 0, 0, 1].as_slice())?;
@@ -136,7 +136,7 @@ fn push_metadata(bytes: &mut Vec<u8>, alloc: Global, source: Metadata) -> Result
     bytes.extend_from_slice(&body)
 }
 
-// Adds lines of bytes.
+/// Adds lines of bytes.
 fn push_lines(bytes: &mut Vec<u8>, lines: &[&[u8]]) -> Result<(), AllocError> {
     for line in lines {
         bytes.extend_from_slice(line)?;
@@ -144,7 +144,7 @@ fn push_lines(bytes: &mut Vec<u8>, lines: &[&[u8]]) -> Result<(), AllocError> {
     Ok(())
 }
 
-// Adds the bytes of a source.
+/// Adds the bytes of a source.
 fn push_source(bytes: &mut Vec<u8>, alloc: Global, source: Source) -> Result<(), AllocError> {
     match source {
         Source::Bytes(line) => bytes.extend_from_slice(line),

@@ -3,7 +3,7 @@ use crate::assembler::{Element, Metadata, Source, assembled};
 use crate::chunks::chunk_of;
 use std::alloc::{AllocError, Global};
 
-// The classes that aren't those of events.
+/// The classes that aren't those of events.
 #[rattlefmt::skip]
 const VALUES: &[Element] = &[
     ("class", &[("name", "long"), ("id", "20")], 0),
@@ -38,7 +38,7 @@ const VALUES: &[Element] = &[
     ("field", &[("name", "frames"), ("class", "34"), ("dimension", "1")], 0),
 ];
 
-// The event classes.
+/// The event classes.
 #[rattlefmt::skip]
 const PARK: &[Element] = &[
     ("class", &[("name", "jdk.ThreadPark"), ("id", "101"), ("superType", "jdk.jfr.Event")], 6),
@@ -69,7 +69,7 @@ const LOAD: &[Element] = &[
     ("annotation", &[("class", "25"), ("value-0", "Operating System"), ("value-1", "Processor")], 0),
 ];
 
-// The metadata record of the chunk.
+/// The metadata record of the chunk.
 const CLASSES: Source = Source::Record(Metadata {
     width: 4,
     texts: &[],
@@ -77,7 +77,7 @@ const CLASSES: Source = Source::Record(Metadata {
     elements: &[VALUES, PARK, ENTER, LOAD],
 });
 
-// The first checkpoint: the threads with the keys 1 and 2, and three symbols.
+/// The first checkpoint: the threads with the keys 1 and 2, and three symbols.
 #[rattlefmt::skip]
 const FIRST: Source = Source::Lines(&[
     b"\xCD\x80\x80\0\x01\0\0\0\0\x02",      // 77 bytes, a checkpoint at 0 of two pools
@@ -90,7 +90,7 @@ const FIRST: Source = Source::Lines(&[
     b"\x03\x03\x03()V",
 ]);
 
-// The events.
+/// The events.
 #[rattlefmt::skip]
 const EVENTS: Source = Source::Lines(&[
     b"\x8B\x80\x80\0\x65\xE8\x07\x32\x01\x01\x01", // ThreadPark at 1000 for 50, thread, stack and class 1
@@ -158,8 +158,8 @@ pub const THREAD_AND_SYMBOLS: Source = Source::Lines(&[
     b"\x03\x03\x03()V",
 ]);
 
-// The last checkpoint: its front, at the place of the first, then five pools; the thread with the key 2; and what is
-// in the other pools.
+/// The last checkpoint: its front, at the place of the first, then five pools; the thread with the key 2; and what is
+/// in the other pools.
 #[rattlefmt::skip]
 const LAST: Source = Source::Lines(&[
     b"\xE4\x80\x80\0\x01\0\0",             // 100 bytes, a checkpoint
@@ -180,7 +180,7 @@ const LAST_POOLS: Source = Source::Lines(&[
     b"\x02\0\x02\x02\x14\x04\x01\x0A\x02", // 2: method 2 at line 20, bytecode 4; method 1 as before
 ]);
 
-// The last checkpoint, whose thread with the key 2 has a null Java name.
+/// The last checkpoint, whose thread with the key 2 has a null Java name.
 #[rattlefmt::skip]
 const UNNAMED: Source = Source::Lines(&[
     b"\xD5\x80\x80\0\x01\0\0",             // 85 bytes, a checkpoint
@@ -190,7 +190,7 @@ const UNNAMED: Source = Source::Lines(&[
     b"\x02\x03\x01we\0\x02",                 // 2: w, 101, null, 2
 ]);
 
-// Where the kind of the text of `javaName` is in the chunk.
+/// Where the kind of the text of `javaName` is in the chunk.
 const JAVA_NAME: usize = 1294;
 
 /// A chunk whose classes have names of the JDK's. Its events are, in order: `jdk.ThreadPark` on the thread

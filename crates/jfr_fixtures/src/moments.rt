@@ -13,10 +13,10 @@ pub struct Clock {
     pub rate: i64,
 }
 
-// A metadata record with the classes `long` (5) and `int` (6), and the event classes `t.Span` (7) with `startTime`
-// and `duration`, `t.Start` (8) with `n` and `startTime`, `t.Plain` (9) with `n`, `t.Array` (10) with `startTime`
-// as an array, `t.Key` (11) with `startTime` as a reference, and `t.Int` (12) with `startTime` as an `int`. All
-// other fields are of class `long`.
+/// A metadata record with the classes `long` (5) and `int` (6), and the event classes `t.Span` (7) with `startTime`
+/// and `duration`, `t.Start` (8) with `n` and `startTime`, `t.Plain` (9) with `n`, `t.Array` (10) with `startTime`
+/// as an array, `t.Key` (11) with `startTime` as a reference, and `t.Int` (12) with `startTime` as an `int`. All
+/// other fields are of class `long`.
 const CLASSES: Source = Source::Record(Metadata {
     width: 2,
     texts: &[],
@@ -44,8 +44,8 @@ const TIMED: &[Element] = &[
     ("field", &[("name", "startTime"), ("class", "6")], 0),
 ];
 
-// Two events of `t.Span`, which start at tick 200 and last 50 and -50 ticks; one of each other class, whose only
-// number, or the last, is 200; and a `t.Span` that starts at tick -50 and lasts 0.
+/// Two events of `t.Span`, which start at tick 200 and last 50 and -50 ticks; one of each other class, whose only
+/// number, or the last, is 200; and a `t.Span` that starts at tick -50 and lasts 0.
 #[rattlefmt::skip]
 const EVENTS: Source = Source::Lines(&[
     b"\x05\x07\xC8\x01\x32",                                       // t.Span: 200, 50
@@ -66,7 +66,7 @@ pub fn timed(alloc: Global, clock: Clock) -> Result<Vec<u8>, AllocError> {
     Ok(chunk)
 }
 
-// Sets the clock in the header of a chunk.
+/// Sets the clock in the header of a chunk.
 fn set_clock(chunk: &mut [u8], clock: Clock) {
     let Some(front) = chunk.first_chunk_mut::<HEADER_LEN>() else {
         return;

@@ -27,8 +27,8 @@ impl Model for Buffer {
     ghost invariant = { λ b. b.count ≤ vec_len b.memory };
 }
 
-// Makes the vector longer than `count` bytes if it isn't: twice as long, or longer by `MIN_GROWTH` if that is more, but
-// never longer than `until`.
+/// Makes the vector longer than `count` bytes if it isn't: twice as long, or longer by `MIN_GROWTH` if that is more, but
+/// never longer than `until`.
 fn make_space(memory: &mut Vec<u8>, count: usize, until: usize) -> Result<(), AllocError>
     requires count { count ≤ vec_len memory.old }
     requires wanted { count < until }

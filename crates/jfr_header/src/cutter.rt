@@ -106,7 +106,7 @@ impl ChunkCutter {
         self.number - 1
     }
 
-    // The body of `next`, which derives its further clauses from these.
+    /// The body of `next`, which derives its further clauses from these.
     fn advance<P: Place>(&mut self, place: &mut P) -> Cut
         ensures cut { CutOf result self.old self.new }
         ensures contents { IfContentsKnown (P.state place.old) (P.state place.new) (NextOf result self.old self.new) }

@@ -67,7 +67,7 @@ impl Header {
     }
 }
 
-// The number of two bytes at an offset.
+/// The number of two bytes at an offset.
 fn u16_at(bytes: &[u8], at: usize) -> u16
     requires { at + 2 ≤ length bytes.now }
     ensures { result ≡ number_at at 2 bytes.now }
@@ -75,7 +75,7 @@ fn u16_at(bytes: &[u8], at: usize) -> u16
     BigEndian::read_u16(&bytes[at..])
 }
 
-// The number of eight bytes at an offset.
+/// The number of eight bytes at an offset.
 fn u64_at(bytes: &[u8], at: usize) -> u64
     requires { at + 8 ≤ length bytes.now }
     ensures { result ≡ number_at at 8 bytes.now }
@@ -83,7 +83,7 @@ fn u64_at(bytes: &[u8], at: usize) -> u64
     BigEndian::read_u64(&bytes[at..])
 }
 
-// The fields, each at its offset.
+/// The fields, each at its offset.
 fn fields(bytes: &[u8; HEADER_LEN]) -> Header
     ensures { result ≡ header_of bytes.now }
 {
@@ -103,7 +103,7 @@ fn fields(bytes: &[u8; HEADER_LEN]) -> Header
     }
 }
 
-// The first flaw in the fields, if there is one.
+/// The first flaw in the fields, if there is one.
 fn flaw_in(header: &Header) -> Option<Flaw>
     ensures { result ≡ field_flaw header.now }
 {
@@ -142,7 +142,7 @@ pub fn read_header(bytes: &[u8; HEADER_LEN]) -> Result<Header, Flaw>
     }
 }
 
-// Writes a byte at an offset.
+/// Writes a byte at an offset.
 fn put_u8(into: &mut [u8], at: usize, value: u8)
     requires { at + 1 ≤ length into.old }
     ensures { take (at + 1) into.new ≡ take at into.old ++ value ∷ [] }
@@ -150,7 +150,7 @@ fn put_u8(into: &mut [u8], at: usize, value: u8)
     into[at] = value;
 }
 
-// Writes a number of two bytes at an offset.
+/// Writes a number of two bytes at an offset.
 fn put_u16(into: &mut [u8], at: usize, value: u16)
     requires { at + 2 ≤ length into.old }
     ensures bytes { take (at + 2) into.new ≡ take at into.old ++ big_bytes 2 value }
@@ -159,7 +159,7 @@ fn put_u16(into: &mut [u8], at: usize, value: u16)
     BigEndian::write_u16(&mut into[at..], value);
 }
 
-// Writes a number of eight bytes at an offset.
+/// Writes a number of eight bytes at an offset.
 fn put_u64(into: &mut [u8], at: usize, value: u64)
     requires { at + 8 ≤ length into.old }
     ensures bytes { take (at + 8) into.new ≡ take at into.old ++ big_bytes 8 value }

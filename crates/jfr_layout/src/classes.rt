@@ -135,7 +135,7 @@ impl Classes {
         Some(FieldLayout::new(Shape::inline(id), index, Kind::Composite))
     }
 
-    // The index of the class with this id, if records of this type are events.
+    /// The index of the class with this id, if records of this type are events.
     #[inline]
     fn event_index(&self, id: u64) -> Option<usize>
         ensures { result ≡ event_index self.now id }
@@ -146,7 +146,7 @@ impl Classes {
         }
     }
 
-    // As `event_index`, for an id past the end of the direct table.
+    /// As `event_index`, for an id past the end of the direct table.
     #[cold]
     #[inline(never)]
     fn far_event_index(&self, id: u64) -> Option<usize>

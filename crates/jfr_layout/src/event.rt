@@ -6,7 +6,7 @@ use crate::resolved::Resolved;
 use jfr_base::NoMemory;
 use std::alloc::Global;
 
-// Records of types up to this one are metadata and checkpoints, not events.
+/// Records of types up to this one are metadata and checkpoints, not events.
 const LAST_OWN_TYPE: u64 = 1;
 
 /// The index of the class with this id, if records of this type are events.

@@ -25,7 +25,7 @@ pub struct Index {
 }
 
 impl Index {
-    // An index without classes, with a direct table for `ids` ids.
+    /// An index without classes, with a direct table for `ids` ids.
     fn new(alloc: Global, ids: usize) -> Result<Index, NoMemory>
         ensures { IfOk result (λ index. (id : ℕ) → index_in index id ≡ None) }
     {
@@ -36,7 +36,7 @@ impl Index {
         })
     }
 
-    // Sets the index of the class with this id, and returns whether the id had one before.
+    /// Sets the index of the class with this id, and returns whether the id had one before.
     fn insert(&mut self, id: u64, index: usize) -> Result<bool, NoMemory>
         ensures used { IfOk result (λ used. used ≡ is_some (index_in self.old id)) }
         ensures indices { IfOk result (λ _. (other : ℕ) → index_in self.new other ≡ (if id == other then Some index else index_in self.old other)) }
@@ -68,7 +68,7 @@ impl Index {
         self.far_index_of(id)
     }
 
-    // As `index_of`, for an id past the end of the direct table.
+    /// As `index_of`, for an id past the end of the direct table.
     #[cold]
     fn far_index_of(&self, id: u64) -> Option<usize>
         ensures { result ≡ tree.get nat_cmp self.now.far id }
@@ -77,7 +77,7 @@ impl Index {
     }
 }
 
-// The length of the direct table: up to the greatest id, as far as the bound allows.
+/// The length of the direct table: up to the greatest id, as far as the bound allows.
 fn near_ids(list: &ClassList) -> usize
     ensures small { result ≤ IDS_A_CLASS * length list.now + FEW_IDS }
 {
@@ -91,7 +91,7 @@ fn near_ids(list: &ClassList) -> usize
     ids.min(most) as usize
 }
 
-// Refuses a field with the name of an earlier one, by the numbers of the names.
+/// Refuses a field with the name of an earlier one, by the numbers of the names.
 fn check_names(
     alloc: Global,
     class: usize,

@@ -11,7 +11,7 @@ use std::alloc::Global;
 /// A chain of this many inline steps is too long.
 const TOO_MANY_STEPS: usize = 33;
 
-// Whether the field has inline values of a composite class without fields.
+/// Whether the field has inline values of a composite class without fields.
 fn is_empty(classes: &Resolved, class: usize, number: usize) -> bool
     requires { IsSome (field_at classes.now class number) }
     ensures { IfSome (field_at classes.now class number) (λ f. result ≡ is_empty_inline classes.now f) }
@@ -22,7 +22,7 @@ fn is_empty(classes: &Resolved, class: usize, number: usize) -> bool
     }
 }
 
-// Refuses a field of the class with inline values of a composite class without fields.
+/// Refuses a field of the class with inline values of a composite class without fields.
 fn check_filled_class(classes: &Resolved, class: usize) -> Result<(), ClassFault>
     requires { class < length classes.now }
     ensures { IfSome (slice_get classes.now class) (λ c. ReportsFirst (flaws_in EmptyInline (is_empty_inline classes.now) class c.fields) result) }
@@ -50,7 +50,7 @@ pub fn check_filled(classes: &Resolved) -> Result<(), ClassFault>
     Ok(())
 }
 
-// Whether the field's inline step goes to a class that begins a chain of n steps, given which classes do.
+/// Whether the field's inline step goes to a class that begins a chain of n steps, given which classes do.
 fn goes_by(classes: &Resolved, class: usize, number: usize, goes: &[bool]) -> bool
     requires field { IsSome (field_at classes.now class number) }
     requires each { length goes.now ≡ length classes.now }
@@ -62,7 +62,7 @@ fn goes_by(classes: &Resolved, class: usize, number: usize, goes: &[bool]) -> bo
     }
 }
 
-// Whether the class begins a chain of n + 1 steps, given which classes begin one of n steps.
+/// Whether the class begins a chain of n + 1 steps, given which classes begin one of n steps.
 fn goes_on(classes: &Resolved, class: usize, goes: &[bool]) -> bool
     requires within { class < length classes.now }
     requires each { length goes.now ≡ length classes.now }
@@ -81,7 +81,7 @@ fn goes_on(classes: &Resolved, class: usize, goes: &[bool]) -> bool
     false
 }
 
-// For each class, whether it begins a chain of n + 1 steps, given which classes begin one of n steps.
+/// For each class, whether it begins a chain of n + 1 steps, given which classes begin one of n steps.
 fn round(alloc: Global, classes: &Resolved, goes: &[bool]) -> Result<Vec<bool>, NoMemory>
     requires { length goes.now ≡ length classes.now }
     ensures exact { IfOk result (λ next. (n : ℕ) → goes.now ≡ map (begins_chain n classes.now) classes.now → next.items ≡ map (begins_chain (suc n) classes.now) classes.now) }
@@ -93,8 +93,8 @@ fn round(alloc: Global, classes: &Resolved, goes: &[bool]) -> Result<Vec<bool>, 
     Ok(next)
 }
 
-// For each class, whether it begins a chain that is too long. Each round looks at every field once, so that
-// no chain has to be followed, of which there can be exponentially many.
+/// For each class, whether it begins a chain that is too long. Each round looks at every field once, so that
+/// no chain has to be followed, of which there can be exponentially many.
 fn too_deep(alloc: Global, classes: &Resolved) -> Result<Vec<bool>, NoMemory>
     ensures exact { IfOk result (λ goes. goes.items ≡ map (begins_chain 33 classes.now) classes.now) }
 {

@@ -7,7 +7,7 @@ use jfr_base::NoMemory;
 use std::alloc::Global;
 use std::collections::BTreeMap;
 
-// For each field, the number of the first field with its name.
+/// For each field, the number of the first field with its name.
 fn number_names(alloc: Global, fields: &Fields) -> Result<Vec<u64>, NoMemory>
     ensures ok { IfOk result (λ numbers. AreNumbered fields.now numbers.items) }
 {

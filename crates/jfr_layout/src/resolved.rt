@@ -34,7 +34,7 @@ impl Model for Resolved {
     ghost invariant = { λ r. IsResolved r.list r.index r.kinds.items r.class_layouts.items };
 }
 
-// The kind of each class.
+/// The kind of each class.
 fn kinds_of(alloc: Global, list: &ClassList) -> Result<Vec<Kind>, NoMemory>
     ensures exact { IfOk result (λ kinds. kinds.items ≡ map (λ c. kind_of c.name) list.now) }
 {
@@ -45,7 +45,7 @@ fn kinds_of(alloc: Global, list: &ClassList) -> Result<Vec<Kind>, NoMemory>
     Ok(kinds)
 }
 
-// Whether the class, which is of this kind, is composite and has the super type of events.
+/// Whether the class, which is of this kind, is composite and has the super type of events.
 fn extends_event(class: &ClassInfo, kind: Kind) -> bool
     ensures { kind ≡ kind_of class.now.name → result ≡ extends_event class.now }
 {
@@ -59,7 +59,7 @@ fn extends_event(class: &ClassInfo, kind: Kind) -> bool
     }
 }
 
-// The layouts of the fields of one class. A field whose class isn't defined is refused.
+/// The layouts of the fields of one class. A field whose class isn't defined is refused.
 fn layouts_of(
     alloc: Global,
     list: &ClassList,
@@ -95,7 +95,7 @@ fn layouts_of(
     Ok(layouts)
 }
 
-// The layout of one class. A field whose class isn't defined is refused.
+/// The layout of one class. A field whose class isn't defined is refused.
 fn class_layout_of(
     alloc: Global,
     list: &ClassList,
@@ -118,7 +118,7 @@ fn class_layout_of(
     })
 }
 
-// The layouts of all classes, in order.
+/// The layouts of all classes, in order.
 fn class_layouts_of(
     alloc: Global,
     list: &ClassList,

@@ -191,7 +191,7 @@ node_plain p masks flags n v m sound right i at f =
     ap (λ o. option_map_or (targets_but (is_masked_string (is_held_masked masks p.classes)) None) o []) e
     ∙ (plain_targets (is_held_masked masks p.classes) None v (class_plain masks p.classes flags right n.shape m v i.fits i.shape at f) ∙ sym (ap (λ o. option_map_or targets_of o []) e))
 
--- The same, by what is known of the node of the code.
+-- A node of a plain class refers to what is listed, given what the code knows of the node.
 pub known_plain : (p : Parts) (masks : Masks) (flags : List Bool) (k : Classes) (b : List ℕ) (n : NodeAt) → Sound p.classes → ArePlain masks p.classes flags → k ≡ p.classes → b ≡ p.bytes
     → (v : Value) × IsNode p.classes b n v → (m : ℕ) × (class_index k n.shape.class ≡ Some m) × IsPlain flags m → targets k b n ≡ node_targets_but (is_masked_string (is_held_masked masks p.classes)) p n
 known_plain p masks flags k b n sound right e q v x =

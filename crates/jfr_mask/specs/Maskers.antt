@@ -1,4 +1,4 @@
--- What the structs of the code stand for.
+-- The structs of the code, as the definitions see them.
 use Rattle.std.specs.Prelude.{◌≡◌, ℕ, Bool, List, [], Option, None}
 use Rattle.std.specs.Option.{option_map_or}
 use Rattle.jfr_value.specs.declared.leaf.Holder.{Holder}

@@ -29,7 +29,7 @@ abbrev pub FieldIsPlain : Masks → Classes → List Bool → ℕ → ℕ → Fi
 FieldIsPlain masks k flags index number f = f.shape.constant ≡ false
     → (is_masked_field masks index number ≡ false) × ((d : Class) (m : ℕ) → find_class k f.shape.class ≡ Some d → kind_of d.name ≡ Composite → class_index k f.shape.class ≡ Some m → IsPlain flags m)
 
--- The same of the field's layout.
+-- `FieldIsPlain` of the field's layout.
 abbrev pub LayoutIsPlain : Masks → List Bool → ℕ → ℕ → FieldLayout → Type 0
 LayoutIsPlain masks flags index number s = s.shape.constant ≡ false → (is_masked_field masks index number ≡ false) × (s.kind ≡ Composite → IsPlain flags s.class_index)
 

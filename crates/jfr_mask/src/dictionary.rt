@@ -99,7 +99,7 @@ impl Dictionary {
     }
 }
 
-// Adds a text that isn't there, with the next number, which it returns.
+/// Adds a text that isn't there, with the next number, which it returns.
 #[tactic(auto, using(crate::proofs::NumberLaws::number_last))]
 fn append(
     alloc: Global,

@@ -83,7 +83,7 @@ pub(crate) fn flag_at(flags: &[bool], at: usize) -> bool
     }
 }
 
-// The patterns of fields that are masked and of those that aren't, and the classes.
+/// The patterns of fields that are masked and of those that aren't, and the classes.
 #[derive(Clone, Copy)]
 struct Selector<'c> {
     strings: &'c Patterns,
@@ -92,7 +92,7 @@ struct Selector<'c> {
 }
 
 impl<'c> Selector<'c> {
-    // For each field of a class, whether it is masked.
+    /// For each field of a class, whether it is masked.
     fn class_masks(&self, alloc: Global, class: &ClassInfo) -> Result<Vec<bool>, NoMemory>
         ensures ok { IfOk result (λ masked. masked.items ≡ map (is_masked self.now.strings.now (option_map_or (λ p. p.now) self.now.except []) self.now.classes.now class.now) class.now.fields) }
     {
@@ -104,7 +104,7 @@ impl<'c> Selector<'c> {
         Ok(masked)
     }
 
-    // Whether a field of a class is masked.
+    /// Whether a field of a class is masked.
     fn is_masked(
         &self,
         alloc: Global,
@@ -126,7 +126,7 @@ impl<'c> Selector<'c> {
         }
     }
 
-    // Whether the field's class is `java.lang.String`.
+    /// Whether the field's class is `java.lang.String`.
     fn is_string(&self, field: &FieldInfo) -> bool
         ensures { result ≡ is_string self.now.classes.now field.now }
     {
@@ -137,7 +137,7 @@ impl<'c> Selector<'c> {
     }
 }
 
-// The name of the class, a dot, and the name of the field.
+/// The name of the class, a dot, and the name of the field.
 fn full_name(alloc: Global, class: &ClassInfo, field: &FieldInfo) -> Result<String, NoMemory>
     ensures ok { IfOk result (λ name. chars (string_bytes name) ≡ full_name class.now field.now) }
 {
@@ -147,7 +147,7 @@ fn full_name(alloc: Global, class: &ClassInfo, field: &FieldInfo) -> Result<Stri
     Ok(name)
 }
 
-// Whether a masked field of the class has the constant mark.
+/// Whether a masked field of the class has the constant mark.
 fn has_constant(class: &ClassInfo, masked: &[bool]) -> bool
     ensures { (f : FieldInfo → Bool) → masked.now ≡ map f class.now.fields → result ≡ list_any (λ field. field.shape.constant && f field) class.now.fields }
 {
@@ -159,7 +159,7 @@ fn has_constant(class: &ClassInfo, masked: &[bool]) -> bool
     false
 }
 
-// Whether the field has the constant mark and is masked.
+/// Whether the field has the constant mark and is masked.
 fn is_masked_constant(field: &FieldInfo, is_masked: bool) -> bool
     ensures { result ≡ (field.now.shape.constant && is_masked) }
 {

@@ -56,7 +56,7 @@ impl Known {
     }
 }
 
-// Adds the text of a line, unless it begins as a pseudonym does.
+/// Adds the text of a line, unless it begins as a pseudonym does.
 fn add_line(alloc: Global, texts: &mut BTreeSet<String>, line: &[u8]) -> Result<(), NoMemory>
     ensures ok { OnOk result ((t : List ℕ) → has_text (texts_of texts.new) t ≡ (has_text (texts_of texts.old) t || is_known (lossy_chars line.now ∷ []) t)) }
 {
@@ -68,7 +68,7 @@ fn add_line(alloc: Global, texts: &mut BTreeSet<String>, line: &[u8]) -> Result<
     Ok(())
 }
 
-// Whether the text begins as a pseudonym does.
+/// Whether the text begins as a pseudonym does.
 fn is_like_pseudonym(text: &str) -> bool
     ensures { result ≡ is_like_pseudonym (chars text.now) }
 {

@@ -36,8 +36,8 @@ pub(crate) fn entries_left(
     marked_entries(alloc, &list, chunk.pools())
 }
 
-// Marks the entries that the kept events reach: first those to which the events refer; then, for each marked entry in
-// the order of marking, those to which it refers.
+/// Marks the entries that the kept events reach: first those to which the events refer; then, for each marked entry in
+/// the order of marking, those to which it refers.
 fn put_reached(
     list: &mut Worklist,
     chunk: &Chunk<'_>,
@@ -59,7 +59,7 @@ fn put_reached(
     }
 }
 
-// Marks the entries in force to which the kept events refer, one event after another.
+/// Marks the entries in force to which the kept events refer, one event after another.
 fn put_events(
     list: &mut Worklist,
     chunk: &Chunk<'_>,
@@ -77,7 +77,7 @@ fn put_events(
     }
 }
 
-// Marks the entries in force to which the event with this number refers, if it is kept.
+/// Marks the entries in force to which the event with this number refers, if it is kept.
 fn put_if_kept(
     list: &mut Worklist,
     chunk: &Chunk<'_>,
@@ -96,7 +96,7 @@ fn put_if_kept(
     }
 }
 
-// Marks the entries in force to which the entry with this number refers.
+/// Marks the entries in force to which the entry with this number refers.
 fn put_entry(
     list: &mut Worklist,
     chunk: &Chunk<'_>,
@@ -114,7 +114,7 @@ fn put_entry(
     }
 }
 
-// The marked entries, in the order of the file.
+/// The marked entries, in the order of the file.
 fn marked_entries(alloc: Global, list: &Worklist, pools: &Pools) -> Result<Vec<EntryAt>, NoMemory>
     requires { length list.now.flags.items ≡ length pools.now }
     ensures ok { IfOk result (λ entries. entries.items ≡ marked list.now.flags.items pools.now) }
@@ -126,7 +126,7 @@ fn marked_entries(alloc: Global, list: &Worklist, pools: &Pools) -> Result<Vec<E
     Ok(entries)
 }
 
-// Appends the entry with this number, if it is marked.
+/// Appends the entry with this number, if it is marked.
 fn push_if_marked(
     entries: &mut Vec<EntryAt>,
     list: &Worklist,

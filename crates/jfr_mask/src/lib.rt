@@ -15,8 +15,8 @@
 //!
 //! A masked chunk has the kept events, and the entries that these reach by paths that go no further at masked strings.
 //! In each masked string, what is shown for its text is written in place of the text, or of the key that leads to it;
-//! anything else stays. Sizes don't depend on the old ones, which tell how long the texts were. The dictionary goes on
-//! from chunk to chunk, so a text has one pseudonym in a whole recording.
+//! anything else stays. The width of a size doesn't depend on the old width, which says how long the texts were. The
+//! dictionary goes on from chunk to chunk, so a text has one pseudonym in a whole recording.
 //!
 //! | law | what it says |
 //! |---|---|

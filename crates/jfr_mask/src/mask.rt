@@ -82,7 +82,7 @@ pub fn mask_chunk<'m>(
     put_masked(alloc, memory, source)
 }
 
-// Writes the masked chunk, if it is below the limit.
+/// Writes the masked chunk, if it is below the limit.
 fn put_masked(
     alloc: Global,
     memory: Vec<u8>,
@@ -102,7 +102,7 @@ fn put_masked(
     }
 }
 
-// The bytes, if they are below the limit.
+/// The bytes, if they are below the limit.
 fn below_limit(out: Vec<u8>) -> Result<Vec<u8>, MaskFault>
     ensures ok { IfOk result (λ same. same.items ≡ out.items) }
     ensures below { IfOk result (λ same. length same.items < 2 ^ 30) }

@@ -60,8 +60,8 @@ impl Rewriter for Masker<'_, '_> {
 }
 
 impl Masker<'_, '_> {
-    // Appends the chunk's bytes from `from` up to a value, the masked value, and the bytes after it up to `to`. Bytes
-    // between masked strings are copied in one piece.
+    /// Appends the chunk's bytes from `from` up to a value, the masked value, and the bytes after it up to `to`. Bytes
+    /// between masked strings are copied in one piece.
     fn put_masked(
         &self,
         out: &mut Vec<u8>,
@@ -86,8 +86,8 @@ impl Masker<'_, '_> {
         Ok(())
     }
 
-    // If the leaf is a masked string, appends the bytes from `copied` up to it, and the string in its place, and
-    // returns the offset after it. Otherwise returns `copied`.
+    /// If the leaf is a masked string, appends the bytes from `copied` up to it, and the string in its place, and
+    /// returns the offset after it. Otherwise returns `copied`.
     fn put_leaf(&self, out: &mut Vec<u8>, leaf: &Leaf<'_>, copied: usize) -> Result<usize, NoMemory>
         requires in_chunk { IsInChunk self.now.strings.chunk.now (leaf_of leaf.now) }
         requires start { copied ≤ leaf.now.at }
@@ -103,7 +103,7 @@ impl Masker<'_, '_> {
         Ok(leaf.at + leaf.spelled.len())
     }
 
-    // Appends a string with what is shown for the text of this one; the null string if this one has no text.
+    /// Appends a string with what is shown for the text of this one; the null string if this one has no text.
     fn put_string(&self, out: &mut Vec<u8>, leaf: &Leaf<'_>) -> Result<(), NoMemory>
         requires string { is_string_leaf leaf.now.kind ≡ true }
         requires in_chunk { IsInChunk self.now.strings.chunk.now (leaf_of leaf.now) }
@@ -115,7 +115,7 @@ impl Masker<'_, '_> {
         }
     }
 
-    // Appends a string with what is shown for a text. Only the empty text is shown as the empty text.
+    /// Appends a string with what is shown for a text. Only the empty text is shown as the empty text.
     fn put_shown(&self, out: &mut Vec<u8>, text: &str) -> Result<(), NoMemory>
         ensures ok { OnOk result (out.new.items ≡ out.old.items ++ text_bytes (shown_by self.now (chars text.now))) }
     {

@@ -63,7 +63,7 @@ impl Numbering<'_> {
         Ok(())
     }
 
-    // Adds the texts of an output record.
+    /// Adds the texts of an output record.
     fn add_record(
         &self,
         dictionary: &mut Dictionary,
@@ -84,7 +84,7 @@ impl Numbering<'_> {
         }
     }
 
-    // Adds the texts of the event with this number, if there is one.
+    /// Adds the texts of the event with this number, if there is one.
     fn add_event(&self, dictionary: &mut Dictionary, number: usize) -> Result<(), NoMemory>
         ensures ok { OnOk result (IfSome (slice_get (events_of self.now.strings.chunk.now) number) (λ e. dictionary.new ≡ with_texts dictionary.old (node_texts_by self.now e.node))) }
     {
@@ -94,7 +94,7 @@ impl Numbering<'_> {
         }
     }
 
-    // Adds the texts of entries.
+    /// Adds the texts of entries.
     fn add_entries(&self, dictionary: &mut Dictionary, entries: &[EntryAt]) -> Result<(), NoMemory>
         requires values { AllByRecursion (IsEntryValue self.now.strings.chunk.now) entries.now }
         ensures ok { OnOk result (dictionary.new ≡ with_texts dictionary.old (flat_map (λ e. node_texts_by self.now (entry_node e)) entries.now)) }
@@ -105,7 +105,7 @@ impl Numbering<'_> {
         Ok(())
     }
 
-    // Adds the texts of an entry.
+    /// Adds the texts of an entry.
     fn add_entry(&self, dictionary: &mut Dictionary, entry: &EntryAt) -> Result<(), NoMemory>
         requires value { IsEntryValue self.now.strings.chunk.now entry.now }
         ensures ok { OnOk result (dictionary.new ≡ with_texts dictionary.old (node_texts_by self.now (entry_node entry.now))) }
@@ -119,7 +119,7 @@ impl Numbering<'_> {
         self.add_node(dictionary, node)
     }
 
-    // Adds the texts of a node, from left to right.
+    /// Adds the texts of a node, from left to right.
     fn add_node(&self, dictionary: &mut Dictionary, node: Node<'_>) -> Result<(), NoMemory>
         requires value { IsValue self.now.strings.chunk.now.classes node }
         requires of_chunk { node.bytes.now ≡ self.now.strings.chunk.now.bytes }
@@ -133,7 +133,7 @@ impl Numbering<'_> {
         Ok(())
     }
 
-    // Adds the text of a leaf, if it is a masked string with a text.
+    /// Adds the text of a leaf, if it is a masked string with a text.
     fn add_leaf(&self, dictionary: &mut Dictionary, leaf: &Leaf<'_>) -> Result<(), NoMemory>
         requires in_chunk { IsInChunk self.now.strings.chunk.now (leaf_of leaf.now) }
         ensures ok { OnOk result (dictionary.new ≡ with_texts dictionary.old (leaf_texts_by self.now (leaf_of leaf.now))) }
@@ -148,7 +148,7 @@ impl Numbering<'_> {
     }
 }
 
-// Adds a text, unless it is shown as it is.
+/// Adds a text, unless it is shown as it is.
 fn add_unless_shown(known: &Known, dictionary: &mut Dictionary, text: &str) -> Result<(), NoMemory>
     ensures ok { OnOk result (dictionary.new ≡ with_texts dictionary.old (numbered_text (has_text known.now) (Some (chars text.now)))) }
 {

@@ -10,8 +10,8 @@ use jfr_base::NoMemory;
 use jfr_layout::{Classes, FieldLayout, Kind};
 use std::alloc::Global;
 
-// The flags are right after at most 33 rounds, since a class begins no chain of more than 32 inline steps, and they are
-// looked at before each round.
+/// The flags are right after at most 33 rounds, since a class begins no chain of more than 32 inline steps, and they are
+/// looked at before each round.
 const ROUNDS: usize = 34;
 
 /// For each class, whether its values have no masked string: a flag for each index.
@@ -62,7 +62,7 @@ impl PlainClasses {
     }
 }
 
-// Whether each class with the flag is plain, by these flags.
+/// Whether each class with the flag is plain, by these flags.
 fn are_right(flags: &[bool], masked: &MaskedFields, classes: &Classes) -> bool
     ensures { IsTrue result → ArePlain masked.now classes.now flags.now }
 {
@@ -74,7 +74,7 @@ fn are_right(flags: &[bool], masked: &MaskedFields, classes: &Classes) -> bool
     true
 }
 
-// Whether the class with this index is plain, if it has the flag.
+/// Whether the class with this index is plain, if it has the flag.
 fn is_right_at(flags: &[bool], masked: &MaskedFields, classes: &Classes, index: usize) -> bool
     requires { index < length classes.now }
     ensures { IsTrue result → IsRightAt masked.now classes.now flags.now index }
@@ -85,7 +85,7 @@ fn is_right_at(flags: &[bool], masked: &MaskedFields, classes: &Classes, index: 
     is_plain_class(flags, masked, classes, index)
 }
 
-// Takes the flag from each class that isn't plain.
+/// Takes the flag from each class that isn't plain.
 fn clear_round(flags: &mut Vec<bool>, masked: &MaskedFields, classes: &Classes)
     ensures { length flags.new.items ≡ length flags.old.items }
 {
@@ -96,7 +96,7 @@ fn clear_round(flags: &mut Vec<bool>, masked: &MaskedFields, classes: &Classes)
     }
 }
 
-// Takes a flag.
+/// Takes a flag.
 fn clear(flags: &mut Vec<bool>, index: usize)
     ensures { length flags.new.items ≡ length flags.old.items }
 {
@@ -105,7 +105,7 @@ fn clear(flags: &mut Vec<bool>, index: usize)
     }
 }
 
-// Whether the class with this index is plain, by the flags of the classes of its fields.
+/// Whether the class with this index is plain, by the flags of the classes of its fields.
 fn is_plain_class(flags: &[bool], masked: &MaskedFields, classes: &Classes, index: usize) -> bool
     requires { index < length classes.now }
     ensures { IsTrue result → IfSome (slice_get classes.now index) (ClassIsPlain masked.now classes.now flags.now index) }
@@ -117,7 +117,7 @@ fn is_plain_class(flags: &[bool], masked: &MaskedFields, classes: &Classes, inde
     }
 }
 
-// Whether the fields with these layouts, of the class with this index, are plain.
+/// Whether the fields with these layouts, of the class with this index, are plain.
 fn are_plain_fields(
     flags: &[bool],
     masked: &MaskedFields,
@@ -134,7 +134,7 @@ fn are_plain_fields(
     true
 }
 
-// Whether the field with this number is plain, if there is one.
+/// Whether the field with this number is plain, if there is one.
 fn is_plain_field(
     flags: &[bool],
     masked: &MaskedFields,

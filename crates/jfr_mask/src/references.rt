@@ -72,7 +72,7 @@ pub(crate) fn put_event(
     }
 }
 
-// Marks the entries with these numbers.
+/// Marks the entries with these numbers.
 fn put_each(list: &mut Worklist, numbers: &[u32])
     requires { All (λ number. number < length list.old.flags.items) numbers.now }
     ensures { Puts numbers.now list.old list.new }
@@ -82,7 +82,7 @@ fn put_each(list: &mut Worklist, numbers: &[u32])
     }
 }
 
-// As `put_value`, by the leaves of the value.
+/// As `put_value`, by the leaves of the value.
 fn put_leaves(list: &mut Worklist, chunk: &Chunk<'_>, masked: &MaskedFields, node: Node<'_>)
     requires sound { Sound chunk.now.classes }
     requires bytes { node.bytes.now ≡ chunk.now.bytes }
@@ -97,7 +97,7 @@ fn put_leaves(list: &mut Worklist, chunk: &Chunk<'_>, masked: &MaskedFields, nod
     }
 }
 
-// Marks the entry in force to which a leaf refers, if it does and isn't a masked string.
+/// Marks the entry in force to which a leaf refers, if it does and isn't a masked string.
 fn put_leaf(list: &mut Worklist, chunk: &Chunk<'_>, masked: &MaskedFields, leaf: Leaf<'_>)
     requires spelled { KeyIsSpelled (leaf_of leaf) }
     requires size { length list.old.flags.items ≡ length chunk.now.entries }
@@ -110,7 +110,7 @@ fn put_leaf(list: &mut Worklist, chunk: &Chunk<'_>, masked: &MaskedFields, leaf:
     }
 }
 
-// Marks the entry in force to which a string refers, if it is a key and isn't masked.
+/// Marks the entry in force to which a string refers, if it is a key and isn't masked.
 fn put_string(list: &mut Worklist, chunk: &Chunk<'_>, masked: &MaskedFields, leaf: Leaf<'_>)
     requires text { leaf.kind ≡ leaf_kinds.Base kinds.Text }
     requires spelled { KeyIsSpelled (leaf_of leaf) }

@@ -68,7 +68,7 @@ pub(crate) fn stays(known: &Known, text: &str) -> bool
     known.has(text)
 }
 
-// Whether the text begins as a method's descriptor does.
+/// Whether the text begins as a method's descriptor does.
 fn is_descriptor(text: &str) -> bool
     ensures { result ≡ is_descriptor (chars text.now) }
 {
@@ -78,14 +78,14 @@ fn is_descriptor(text: &str) -> bool
     }
 }
 
-// The pseudonym up to its number.
+/// The pseudonym up to its number.
 fn pseudonym_start(descriptor: bool) -> &'static [u8]
     ensures { result.now ≡ (if descriptor then codes "()masked-" else codes "masked-") }
 {
     if descriptor { b"()masked-" } else { b"masked-" }
 }
 
-// The length of the pseudonym with a number.
+/// The length of the pseudonym with a number.
 fn pseudonym_len(descriptor: bool, number: u64) -> usize
     ensures { result ≡ length (pseudonym descriptor number) }
 {
@@ -93,7 +93,7 @@ fn pseudonym_len(descriptor: bool, number: u64) -> usize
     pseudonym_start(descriptor).len() + buffer.format(number).len()
 }
 
-// Appends the pseudonym with a number.
+/// Appends the pseudonym with a number.
 fn push_pseudonym(descriptor: bool, number: u64, out: &mut Vec<u8>) -> Result<(), NoMemory>
     ensures ok { OnOk result (out.new.items ≡ out.old.items ++ pseudonym descriptor number) }
 {
@@ -103,7 +103,7 @@ fn push_pseudonym(descriptor: bool, number: u64, out: &mut Vec<u8>) -> Result<()
     Ok(())
 }
 
-// Appends bytes.
+/// Appends bytes.
 fn push_bytes(bytes: &[u8], out: &mut Vec<u8>) -> Result<(), NoMemory>
     ensures ok { OnOk result (out.new.items ≡ out.old.items ++ bytes.now) }
 {

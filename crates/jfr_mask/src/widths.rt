@@ -1,4 +1,4 @@
-//! In how many bytes the sizes of masked records are spelled. They don't depend on the old ones, which tell how long
+//! In how many bytes the sizes of masked records are spelled. These don't depend on the old widths, which say how long
 //! the masked texts were.
 ghost use Rattle.std.specs.Prelude.{◌≡◌, ◌≤◌};
 ghost use Rattle.jfr_rewrite.specs.Rewrite.{fewest, fewest_or_five};
@@ -19,7 +19,7 @@ pub(crate) fn width_of(frame: Framed, rest: usize) -> usize
     fewest(rest)
 }
 
-// The fewest bytes that can spell a size, which counts them and the bytes after it; n bytes spell sizes below 128^n.
+/// The fewest bytes that can spell a size, which counts them and the bytes after it; n bytes spell sizes below 128^n.
 fn fewest(rest: usize) -> usize
     ensures exact { result ≡ fewest rest }
     ensures range { (1 ≤ result) × (result ≤ 5) }

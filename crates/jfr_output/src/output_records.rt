@@ -49,7 +49,7 @@ pub fn next_output_record(chunk: &Chunk, kept: &Kept, cursor: &mut Cursor) -> Op
     None
 }
 
-// The offset of the record with this number.
+/// The offset of the record with this number.
 #[inline(always)]
 fn offset_of(frames: &Frames, number: usize) -> usize
     requires { number < length frames.now }
@@ -61,8 +61,8 @@ fn offset_of(frames: &Frames, number: usize) -> usize
     }
 }
 
-// The output record for the cursor's record, which starts at `at`, if anything is written for it. Moves the
-// cursor past the record.
+/// The output record for the cursor's record, which starts at `at`, if anything is written for it. Moves the
+/// cursor past the record.
 #[inline(always)]
 fn pass_record(chunk: &Chunk, kept: &Kept, cursor: &mut Cursor, at: usize) -> Option<OutputRecord>
     requires cursor { IsCursor chunk.now kept.now cursor.old }
@@ -82,8 +82,8 @@ fn pass_record(chunk: &Chunk, kept: &Kept, cursor: &mut Cursor, at: usize) -> Op
     chosen(link, event, is_metadata, chunk.frames(), number)
 }
 
-// The output record for the record with this number: a chained checkpoint, the metadata record, or a kept event.
-// `None` for any other record.
+/// The output record for the record with this number: a chained checkpoint, the metadata record, or a kept event.
+/// `None` for any other record.
 #[inline(always)]
 fn chosen(
     link: Option<(usize, Link)>,
@@ -104,8 +104,8 @@ fn chosen(
     Some(OutputRecord::Event(event?, frames.get(number)?))
 }
 
-// `number` is that of the next event. If the event starts at this offset, `number` is incremented, and the
-// event's number is returned if it is kept.
+/// `number` is that of the next event. If the event starts at this offset, `number` is incremented, and the
+/// event's number is returned if it is kept.
 #[inline(always)]
 fn pass_event(chunk: &Chunk, kept: &Kept, number: &mut usize, at: usize) -> Option<usize>
     ensures number { number.new ≡ event_after (events_of chunk.now) number.old at }
@@ -126,7 +126,7 @@ fn pass_event(chunk: &Chunk, kept: &Kept, number: &mut usize, at: usize) -> Opti
     }
 }
 
-// The chained checkpoint that starts at this offset, with its number. `number` then becomes that of the next one.
+/// The chained checkpoint that starts at this offset, with its number. `number` then becomes that of the next one.
 #[inline(always)]
 fn pass_link(chain: &Chain, number: &mut usize, at: usize) -> Option<(usize, Link)>
     ensures number { number.new ≡ link_after chain.now number.old at }

@@ -4,7 +4,7 @@ ghost use Rattle.jfr_output.specs.Pools.{leading, same_pool};
 
 use jfr_pool::EntryAt;
 
-// Whether two entries of a checkpoint are in the same pool.
+/// Whether two entries of a checkpoint are in the same pool.
 fn same_pool(one: &EntryAt, other: &EntryAt) -> bool
     ensures { result ≡ same_pool one.now other.now }
 {

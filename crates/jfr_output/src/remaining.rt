@@ -44,7 +44,7 @@ pub fn remaining_entries<'p>(
     Ok(RemainingEntries::Listed(reached(alloc, pools, marks)?))
 }
 
-// Whether every entry is reached.
+/// Whether every entry is reached.
 fn are_all_reached(pools: &Pools, marks: &Marks) -> bool
     requires { length marks.now ≡ length pools.now }
     ensures { IsTrue result → marked marks.now pools.now ≡ pools.now }
@@ -57,7 +57,7 @@ fn are_all_reached(pools: &Pools, marks: &Marks) -> bool
     true
 }
 
-// A list of the entries that are reached.
+/// A list of the entries that are reached.
 fn reached(alloc: Global, pools: &Pools, marks: &Marks) -> Result<Vec<EntryAt>, NoMemory>
     requires { length marks.now ≡ length pools.now }
     ensures { IfOk result (λ remaining. remaining.items ≡ marked marks.now pools.now) }
@@ -79,7 +79,7 @@ fn entry_at(pools: &Pools, at: usize) -> EntryAt
     }
 }
 
-// Adds the entry if `keep` is true.
+/// Adds the entry if `keep` is true.
 fn push_if(remaining: &mut Vec<EntryAt>, entry: EntryAt, keep: bool) -> Result<(), NoMemory>
     ensures ok { OnOk result (remaining.new.items ≡ remaining.old.items ++ (if keep then entry ∷ [] else [])) }
 {

@@ -24,7 +24,7 @@ pub enum Call {
 }
 
 impl Call {
-    // A number for each kind, by which kinds are compared.
+    /// A number for each kind, by which kinds are compared.
     fn kind(self) -> u8
         ensures { result ≡ kind_of self }
     {
@@ -52,7 +52,7 @@ pub struct Script {
 }
 
 impl Script {
-    // Whether the next call of this kind has to fail.
+    /// Whether the next call of this kind has to fail.
     fn is_due(&self, call: Call) -> bool
         ensures { result ≡ is_due call self.now }
     {
@@ -62,8 +62,8 @@ impl Script {
         self.left == 1
     }
 
-    // The most bytes that the next call of this kind keeps, if this script or one before it makes it fail.
-    // `so_far` is the result for those before it.
+    /// The most bytes that the next call of this kind keeps, if this script or one before it makes it fail.
+    /// `so_far` is the result for those before it.
     fn keep_with(&self, call: Call, so_far: Option<usize>) -> Option<usize>
         ensures { result ≡ kept_with call so_far self.now }
     {
@@ -76,7 +76,7 @@ impl Script {
         }
     }
 
-    // Counts a call of this kind.
+    /// Counts a call of this kind.
     fn pass(&mut self, call: Call)
         ensures { self.new ≡ passed call self.old }
     {

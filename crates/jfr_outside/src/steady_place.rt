@@ -76,7 +76,7 @@ impl SteadyPlace {
         self.most = size;
     }
 
-    // Fails a call that opens an input: then no input is open.
+    /// Fails a call that opens an input: then no input is open.
     pub(crate) fn refuse_input(&mut self) -> Fault
         ensures failed { result ≡ Failed }
         ensures contents { (state_of self.new).contents ≡ option_map shut (state_of self.old).contents }
@@ -89,7 +89,7 @@ impl SteadyPlace {
         self.refuse_read()
     }
 
-    // Fails a read: the input is unchanged.
+    /// Fails a read: the input is unchanged.
     pub(crate) fn refuse_read(&mut self) -> Fault
         ensures failed { result ≡ Failed }
         ensures contents { (state_of self.new).contents ≡ (state_of self.old).contents }
@@ -102,7 +102,7 @@ impl SteadyPlace {
         Fault::Failed
     }
 
-    // Fails a call that creates or finishes an output: then no output is open.
+    /// Fails a call that creates or finishes an output: then no output is open.
     pub(crate) fn refuse_output(&mut self) -> Fault
         ensures failed { result ≡ Failed }
         ensures contents { (state_of self.new).contents ≡ option_map finished (state_of self.old).contents }
@@ -116,7 +116,7 @@ impl SteadyPlace {
         Fault::Failed
     }
 
-    // Fails an append: the output keeps at most `keep` of the bytes, and none of them if memory runs out.
+    /// Fails an append: the output keeps at most `keep` of the bytes, and none of them if memory runs out.
     pub(crate) fn refuse_append(&mut self, bytes: &[u8], keep: usize) -> Fault
         ensures failed { result ≡ Failed }
         ensures contents { KeepsPrefix keep (state_of self.old).contents (state_of self.new).contents bytes.now appended }
@@ -133,8 +133,8 @@ impl SteadyPlace {
         Fault::Failed
     }
 
-    // Fails an append of pieces: the output keeps at most `keep` of their bytes, and none of them if memory
-    // runs out.
+    /// Fails an append of pieces: the output keeps at most `keep` of their bytes, and none of them if memory
+    /// runs out.
     pub(crate) fn refuse_pieces(&mut self, pieces: &[&[u8]], keep: usize) -> Fault
         ensures failed { result ≡ Failed }
         ensures contents { KeepsPrefix keep (state_of self.old).contents (state_of self.new).contents (bytes_in pieces.now) appended }

@@ -9,7 +9,7 @@ use jfr_header::Ending;
 use jfr_outside::{Place, Sink};
 use std::alloc::Global;
 
-// The stage of a `Make`: creates the output, appends what is made from each chunk, and finishes the output.
+/// The stage of a `Make`: creates the output, appends what is made from each chunk, and finishes the output.
 #[derive(Drop)]
 struct Making<'a, M: Make> {
     alloc: Global,

@@ -64,7 +64,7 @@ pub trait Stage {
             (outside (P.state place.new) (O.state out.new)) };
 }
 
-// Runs the stage over the open input to its end, and moves the position past it.
+/// Runs the stage over the open input to its end, and moves the position past it.
 fn run_chunks<P: Place, O: Sink, S: Stage>(
     place: &mut P,
     out: &mut O,

@@ -8,16 +8,16 @@ use jfr_base::NoMemory;
 use std::alloc::Global;
 use std::collections::BTreeMap;
 
-// A class and key are in one of this many slots, of which their home is the first.
+/// A class and key are in one of this many slots, of which their home is the first.
 const REACH: usize = 8;
 
-// Classes with ids below this can be in a slot.
+/// Classes with ids below this can be in a slot.
 const CLASSES: u64 = 1 << 32;
 
-// The bits of a class are mixed into the key's from this bit on, where few keys have bits set.
+/// The bits of a class are mixed into the key's from this bit on, where few keys have bits set.
 const CLASS_AT: u32 = 48;
 
-// The odd number by which the two are multiplied to mix them.
+/// The odd number by which the two are multiplied to mix them.
 const MIX: u64 = 0x94D0_49BB_1331_11EB;
 
 /// A slot of the hash table: a class and key, and the ordinal of the entry in force, which is its number plus

@@ -6,16 +6,16 @@ use crate::table::Table;
 use jfr_base::NoMemory;
 use std::alloc::Global;
 
-// Only classes with ids below this can have a table.
+/// Only classes with ids below this can have a table.
 const TABLE_ID_LIMIT: u64 = 4096;
 
-// Classes with ids below this always have a table, if only one for the key 0.
+/// Classes with ids below this always have a table, if only one for the key 0.
 const FIRST_TABLES: usize = 1024;
 
-// All tables of a chunk together may have this many ordinals, whatever the number of entries.
+/// All tables of a chunk together may have this many ordinals, whatever the number of entries.
 const ORDINALS: usize = 65_536;
 
-// And this many more for each entry.
+/// And this many more for each entry.
 const ORDINALS_PER_ENTRY: usize = 4;
 
 /// The least and the greatest key above 0 of a class.
@@ -25,7 +25,7 @@ struct KeyRange {
     greatest: u64,
 }
 
-// A class without keys above 0.
+/// A class without keys above 0.
 const NO_KEYS: KeyRange = KeyRange {
     least: u64::MAX,
     greatest: 0,

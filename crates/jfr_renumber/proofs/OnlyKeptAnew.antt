@@ -135,7 +135,7 @@ module _ (slim other : Option (List ℕ)) (p q : Parts) (kept others : List Even
       (each_append (NodePair p q a b) (nodes_of kept) (nodes_of others) (map entry_node (remain p kept)) (map entry_node (remain q others))
       (event_nodes kept others (events slim other p q kept others a b these those g)) (entry_nodes (remain p kept) (remain q others) (entries slim other p q kept others a b these those g)))
 
-  -- The same of them are together.
+  -- Values are equal in one chunk where they are equal in the other.
   equal_same : (x y z w : Option EntryAt) → Both (SameValue p q a b) x z → Both (SameValue p q a b) y w → equal_values p.bytes x y ≡ equal_values q.bytes z w
   equal_same None y None w r s = refl
   equal_same None y (Some f) w r s = absurd r

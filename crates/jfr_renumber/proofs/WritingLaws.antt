@@ -43,7 +43,7 @@ all_renumbered slim p a flags k entries h e =
 pub firsts_some : (p : Parts) (flags : List Bool) (entries : List EntryAt) → entries ≡ firsts p (kept_by p flags) → AreSomeOf p entries
 firsts_some p flags entries e = let m = firsts_marked p (kept_by p flags) in (m.0, e ∙ m.1)
 
--- All sizes are carried in as many bytes as before.
+-- Each size fits in its old width.
 pub all_carried : (slim : Option (List ℕ)) (p : Parts) (a : AreParts p) (flags : List Bool) (k : NumberedPairs) (entries : List EntryAt) → ((t : ℕ × ℕ) → number_of k t ≡ new_key_of p (kept_by p flags) t) → entries ≡ firsts p (kept_by p flags)
     → IsNewMetadata p (kept_by p flags) slim → CarriesAll (with_keys (number_or_zero k) slim) p (kept_by p flags) entries
 all_carried slim p a flags k entries h e n =

@@ -106,7 +106,7 @@ impl<'k> Rewriter for EntryKeys<'k> {
     }
 }
 
-// The new key of each of these entries.
+/// The new key of each of these entries.
 fn keys_of(alloc: Global, keys: &NumberedKeys, entries: &[EntryAt]) -> Result<Vec<u64>, NoMemory>
     ensures { IfOk result (λ found. found.items ≡ map (λ e. number_or_zero keys.now (pair_of e)) entries.now) }
 {

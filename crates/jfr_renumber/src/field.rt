@@ -66,7 +66,7 @@ pub(crate) fn pass_field<N: NewKeys>(
     }
 }
 
-// Passes the key with this layout. The key 0 in one byte stays the same.
+/// Passes the key with this layout. The key 0 in one byte stays the same.
 #[inline(always)]
 fn pass_key<N: NewKeys>(
     out: &mut Vec<u8>,
@@ -92,7 +92,7 @@ fn pass_key<N: NewKeys>(
     Ok(())
 }
 
-// Passes the string with this layout. It stays the same if it isn't a key.
+/// Passes the string with this layout. It stays the same if it isn't a key.
 #[inline(always)]
 fn pass_text<N: NewKeys>(
     out: &mut Vec<u8>,
@@ -117,7 +117,7 @@ fn pass_text<N: NewKeys>(
     Ok(())
 }
 
-// Passes the field with this layout leaf by leaf.
+/// Passes the field with this layout leaf by leaf.
 #[inline(always)]
 fn pass_parts<N: NewKeys>(
     out: &mut Vec<u8>,
@@ -134,9 +134,9 @@ fn pass_parts<N: NewKeys>(
     Ok(())
 }
 
-// Appends what isn't written yet, and the field with this layout leaf by leaf. Returns the end of the field.
-// This is out of line, and gets a copy of `passed`, so that the loop in `pass_fields` keeps its own in
-// registers.
+/// Appends what isn't written yet, and the field with this layout leaf by leaf. Returns the end of the field.
+/// This is out of line, and gets a copy of `passed`, so that the loop in `pass_fields` keeps its own in
+/// registers.
 #[inline(never)]
 fn put_parts<N: NewKeys>(
     out: &mut Vec<u8>,
@@ -167,7 +167,7 @@ fn put_parts<N: NewKeys>(
     Ok(end)
 }
 
-// Appends the bytes that are passed and not written yet. After a value that was written there are none.
+/// Appends the bytes that are passed and not written yet. After a value that was written there are none.
 #[inline(always)]
 fn put_waiting(out: &mut Vec<u8>, bytes: &[u8], passed: Passed) -> Result<(), NoMemory>
     requires from { passed.from ≤ passed.at }
@@ -181,7 +181,7 @@ fn put_waiting(out: &mut Vec<u8>, bytes: &[u8], passed: Passed) -> Result<(), No
     Ok(())
 }
 
-// The integer at `at`, which ends by `end`.
+/// The integer at `at`, which ends by `end`.
 #[inline(always)]
 fn integer_at(bytes: &[u8], at: usize, end: usize) -> Var
     requires order { at ≤ end }

@@ -71,9 +71,9 @@ pub(crate) fn pass_value<N: NewKeys>(
     }
 }
 
-// Passes a value of this shape, as `pass_value` does. Composite values, the usual case, are handled in the
-// caller. Other values are handled here, out of line, so that the compiler keeps the caller's variables in
-// registers.
+/// Passes a value of this shape, as `pass_value` does. Composite values, the usual case, are handled in the
+/// caller. Other values are handled here, out of line, so that the compiler keeps the caller's variables in
+/// registers.
 #[inline(never)]
 fn pass_single<N: NewKeys>(
     out: &mut Vec<u8>,
@@ -95,8 +95,8 @@ fn pass_single<N: NewKeys>(
     Ok(passed.from)
 }
 
-// Passes the fields with these layouts, as `pass_value` does. The first starts at `start.at`. Numbers at the end of
-// the list stay the same, and aren't walked.
+/// Passes the fields with these layouts, as `pass_value` does. The first starts at `start.at`. Numbers at the end of
+/// the list stay the same, and aren't walked.
 fn pass_fields<N: NewKeys>(
     out: &mut Vec<u8>,
     context: RekeyContext<'_, N>,
@@ -118,7 +118,7 @@ fn pass_fields<N: NewKeys>(
     Ok(passed.from)
 }
 
-// How many fields there are up to the last one that isn't a number.
+/// How many fields there are up to the last one that isn't a number.
 #[inline]
 fn referring_len(layouts: &[FieldLayout]) -> usize
     ensures within { result ≤ length layouts.now }

@@ -36,7 +36,7 @@ pub(crate) fn first_entries(
     collected(alloc, chunk.pools(), marks, keys)
 }
 
-// Of the marked entries, the first for each class and new key.
+/// Of the marked entries, the first for each class and new key.
 fn collected<N: NewKeys>(
     alloc: Global,
     pools: &Pools,
@@ -57,7 +57,7 @@ fn collected<N: NewKeys>(
     Ok(firsts.entries)
 }
 
-// Adds an entry if `keep` is true and no entry with the same class and new key was added.
+/// Adds an entry if `keep` is true and no entry with the same class and new key was added.
 fn add_if<N: NewKeys>(
     firsts: &mut FirstEntries,
     entry: &EntryAt,
@@ -73,7 +73,7 @@ fn add_if<N: NewKeys>(
     add_entry(firsts, entry, new)
 }
 
-// Adds an entry, unless one with the same class and new key was added.
+/// Adds an entry, unless one with the same class and new key was added.
 fn add_entry<N: NewKeys>(
     firsts: &mut FirstEntries,
     entry: &EntryAt,

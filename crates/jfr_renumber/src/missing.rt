@@ -49,7 +49,7 @@ impl Visit<Pools> for Missing {
     }
 }
 
-// Whether a class and a key are the last pair of the list.
+/// Whether a class and a key are the last pair of the list.
 fn is_last(keys: &[(u64, u64)], class: u64, key: u64) -> bool
     ensures { IsTrue result → Contains keys.now (class, key) }
 {
@@ -90,8 +90,8 @@ pub(crate) fn missing_keys(
     Ok(list.keys)
 }
 
-// If the event with this number is kept, adds the classes and keys to which it refers and that have no entry
-// in force.
+/// If the event with this number is kept, adds the classes and keys to which it refers and that have no entry
+/// in force.
 #[inline(always)]
 fn list_event(list: &mut Missing, chunk: &Chunk<'_>, kept: &Kept, number: usize)
     ensures { Lists chunk.now.entries (all_targets chunk.now (nodes_of (option_to_list (flagged kept.now (events_of chunk.now) number)))) list.old list.new }
@@ -106,8 +106,8 @@ fn list_event(list: &mut Missing, chunk: &Chunk<'_>, kept: &Kept, number: usize)
     }
 }
 
-// If the entry with this number is reached, adds the classes and keys to which it refers and that have no
-// entry in force.
+/// If the entry with this number is reached, adds the classes and keys to which it refers and that have no
+/// entry in force.
 #[inline(never)]
 fn list_entry(list: &mut Missing, chunk: &Chunk<'_>, marks: &Marks, number: usize)
     requires { number < length marks.now }
@@ -122,7 +122,7 @@ fn list_entry(list: &mut Missing, chunk: &Chunk<'_>, marks: &Marks, number: usiz
     }
 }
 
-// Adds the classes and keys to which an inline value refers and that have no entry in force.
+/// Adds the classes and keys to which an inline value refers and that have no entry in force.
 #[inline(always)]
 fn list_value(list: &mut Missing, classes: &Classes, pools: &Pools, node: Node<'_>)
     requires sound { Sound classes.now }
@@ -146,9 +146,9 @@ fn list_value(list: &mut Missing, classes: &Classes, pools: &Pools, node: Node<'
     }
 }
 
-// Adds the classes and keys to which a value of this shape refers and that have no entry in force. Composite
-// values, the usual case, are handled in the caller. Other values are handled here, out of line, so that the
-// compiler keeps the caller's variables in registers.
+/// Adds the classes and keys to which a value of this shape refers and that have no entry in force. Composite
+/// values, the usual case, are handled in the caller. Other values are handled here, out of line, so that the
+/// compiler keeps the caller's variables in registers.
 #[inline(never)]
 fn list_single(list: &mut Missing, walk: Walk<'_, '_, Pools>, shape: Shape, at: usize)
     requires sound { Sound walk.classes.now }

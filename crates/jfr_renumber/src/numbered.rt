@@ -78,13 +78,13 @@ impl NewKeys for NumberedKeys {
         self.get(class, key).unwrap_or(0)
     }
 
-    // The proof gets the invariant of `self` by reading a field.
+    /// The proof gets the invariant of `self` by reading a field.
     fn zero_is_kept(&self) {
         let _pairs = &self.pairs;
     }
 }
 
-// Adds the classes and keys of the entries that are reached.
+/// Adds the classes and keys of the entries that are reached.
 fn push_reached(
     pairs: &mut Vec<(u64, u64)>,
     chunk: &Chunk<'_>,
@@ -100,7 +100,7 @@ fn push_reached(
     Ok(())
 }
 
-// The class and the key of the entry with this number.
+/// The class and the key of the entry with this number.
 fn pair_at(entries: &[EntryAt], at: usize) -> (u64, u64)
     requires { at < length entries.now }
     ensures { IfSome (slice_get entries.now at) (λ e. result ≡ pair_of e) }
@@ -108,7 +108,7 @@ fn pair_at(entries: &[EntryAt], at: usize) -> (u64, u64)
     (entries[at].class, entries[at].key)
 }
 
-// Adds a class and a key if `keep` is true.
+/// Adds a class and a key if `keep` is true.
 fn push_if(pairs: &mut Vec<(u64, u64)>, pair: (u64, u64), keep: bool) -> Result<(), NoMemory>
     ensures ok { OnOk result (pairs.new.items ≡ pairs.old.items ++ (if keep then pair ∷ [] else [])) }
 {

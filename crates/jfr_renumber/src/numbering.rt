@@ -39,14 +39,14 @@ pub(crate) fn number_class<'a>(alloc: Global, keys: &[UsedKey<'a>]) -> Result<Ve
     Ok(numbers)
 }
 
-// The number of a value, if there is a value and it has one.
+/// The number of a value, if there is a value and it has one.
 fn known<'a>(firsts: &BTreeMap<&'a [u8], u64>, value: Option<&'a [u8]>) -> Option<u64>
     ensures { result ≡ option_and_then (λ v. number_under firsts.now v.now) value.entry }
 {
     firsts.get(&value?).copied()
 }
 
-// Gives a number to a value, if there is one.
+/// Gives a number to a value, if there is one.
 fn remember<'a>(
     firsts: &mut BTreeMap<&'a [u8], u64>,
     value: Option<&'a [u8]>,
@@ -78,7 +78,7 @@ pub(crate) fn number_all<'a>(alloc: Global, keys: &[UsedKey<'a>]) -> Result<Vec<
     Ok(numbers)
 }
 
-// The end of the keys of a class, given its first key.
+/// The end of the keys of a class, given its first key.
 fn class_end(keys: &[UsedKey<'_>], from: usize) -> usize
     requires { from < length keys.now }
     ensures range { (from < result) × (result ≤ length keys.now) }

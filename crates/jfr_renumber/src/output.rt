@@ -11,7 +11,7 @@ use jfr_rewrite::{Source, WriteFault, write_chunk};
 use std::alloc::Global;
 
 /// Writes the output chunk in the memory of a vector, whose items are dropped. The new keys aren't larger than the
-/// old ones, so that each size fits in as many bytes as before.
+/// old ones, so that each size keeps its width.
 pub(crate) fn put_chunk(
     alloc: Global,
     memory: Vec<u8>,

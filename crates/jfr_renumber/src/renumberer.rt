@@ -105,7 +105,7 @@ impl Renumberer {
     }
 }
 
-// A chunk, its events that are kept, and the entries that these reach.
+/// A chunk, its events that are kept, and the entries that these reach.
 #[derive(Clone, Copy)]
 struct Chosen<'c> {
     chunk: &'c Chunk<'c>,
@@ -114,7 +114,7 @@ struct Chosen<'c> {
     marks: &'c Marks,
 }
 
-// Writes the output with these new keys.
+/// Writes the output with these new keys.
 fn put_output(
     alloc: Global,
     memory: Vec<u8>,

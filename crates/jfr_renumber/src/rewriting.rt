@@ -48,7 +48,7 @@ pub(crate) fn put_rekeyed<N: NewKeys>(
     Ok(())
 }
 
-// Appends a leaf, with its new key if it has a key.
+/// Appends a leaf, with its new key if it has a key.
 fn put_leaf<N: NewKeys>(out: &mut Vec<u8>, leaf: Leaf<'_>, new: &N) -> Result<(), AllocError>
     requires holds { KeyFollowsKind (leaf_of leaf) }
     ensures ok { OnOk result (out.new.items ≡ out.old.items ++ leaf_with (N.keys new.now) (leaf_of leaf.entry)) }
@@ -60,7 +60,7 @@ fn put_leaf<N: NewKeys>(out: &mut Vec<u8>, leaf: Leaf<'_>, new: &N) -> Result<()
     }
 }
 
-// Appends a string, with its new key if it is a key.
+/// Appends a string, with its new key if it is a key.
 #[tactic(auto, using(crate::proofs::RewritingLaws::string_with, crate::proofs::RewritingLaws::other_with))]
 fn put_string<N: NewKeys>(out: &mut Vec<u8>, leaf: Leaf<'_>, new: &N) -> Result<(), AllocError>
     requires text { leaf.kind ≡ leaf_kinds.Base kinds.Text }

@@ -32,7 +32,7 @@ pub(crate) fn text_end(bytes: &[u8], at: usize, end: usize) -> usize
     long_text_end(bytes, at, end)
 }
 
-// The end of a string of any kind, out of line.
+/// The end of a string of any kind, out of line.
 #[inline(never)]
 fn long_text_end(bytes: &[u8], at: usize, end: usize) -> usize
     requires order { at ≤ end }

@@ -26,7 +26,7 @@ pub(crate) fn with_values<'a>(
     Ok(keys)
 }
 
-// The bytes of the value of the entry in force for a class and a key, if there is one.
+/// The bytes of the value of the entry in force for a class and a key, if there is one.
 fn value_bytes<'a>(chunk: &Chunk<'a>, class: u64, key: u64) -> Option<&'a [u8]>
     ensures { option_map (λ v. v.now) result ≡ value_in_force chunk.now (class, key) }
 {

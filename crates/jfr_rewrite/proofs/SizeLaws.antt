@@ -79,7 +79,7 @@ module _ (w : Rewrite) (r : Framed) (xs : List ℕ) (start : ℕ) (there : start
       let size : length xs - start ≡ width + (length xs - start - room) = omega (arith, there, same) in
       replaced width len after l e some (h ∙ (ap (λ z. take start xs ++ (spell_in width z ++ drop (start + width) xs)) size ∙ ap (λ z. take start xs ++ (spell_in width (width + (length xs - start - room)) ++ drop (start + z) xs)) same))
 
--- The same result, of which less is said.
+-- A result of which more is known is one of which less is.
 pub wrote_weaker : {A : Type 0} (result : Result A WriteFault) {P Q : A → Type 0} {C D : Type 0} → ((x : A) → P x → Q x) → (D → C) → Wrote result P C → Wrote result Q D
 wrote_weaker (Ok x) f g h = f x h
 wrote_weaker (Err faults.Memory) f g h = tt

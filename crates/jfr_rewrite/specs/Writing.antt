@@ -23,7 +23,7 @@ Wrote (Ok x) Written Carried = Written x
 Wrote (Err faults.Memory) Written Carried = ⊤
 Wrote (Err faults.TooLong) Written Carried = Carried → ⊥
 
--- The same way to rewrite with this new metadata record, if there is one.
+-- This way to rewrite, but with this new metadata record, if there is one.
 abbrev pub with_metadata : Rewrite → Option (List ℕ) → Rewrite
 with_metadata w new = record { change = w.change; key = w.key; width = w.width; metadata = new }
 

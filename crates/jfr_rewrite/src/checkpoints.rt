@@ -26,7 +26,7 @@ pub(crate) struct OutputCheckpoint<'e> {
     pub entries: &'e [EntryAt],
 }
 
-// Appends an entry: its new key, and its changed value.
+/// Appends an entry: its new key, and its changed value.
 fn put_entry<R: Rewriter>(
     out: &mut Vec<u8>,
     chunk: &Chunk<'_>,
@@ -47,7 +47,7 @@ fn put_entry<R: Rewriter>(
     rewriting.put_changed(out, chunk, node, node.at, node.end)
 }
 
-// Appends the entries of a pool.
+/// Appends the entries of a pool.
 fn put_entries<R: Rewriter>(
     out: &mut Vec<u8>,
     chunk: &Chunk<'_>,
@@ -64,7 +64,7 @@ fn put_entries<R: Rewriter>(
     Ok(())
 }
 
-// Appends the pools of a checkpoint that have one of these entries.
+/// Appends the pools of a checkpoint that have one of these entries.
 fn put_pools<R: Rewriter>(
     out: &mut Vec<u8>,
     chunk: &Chunk<'_>,
@@ -86,7 +86,7 @@ fn put_pools<R: Rewriter>(
     Ok(())
 }
 
-// Appends a checkpoint up to its delta, its delta, and its entries, after its old size.
+/// Appends a checkpoint up to its delta, its delta, and its entries, after its old size.
 fn put_body<R: Rewriter>(
     out: &mut Vec<u8>,
     chunk: &Chunk<'_>,
@@ -125,7 +125,7 @@ pub(crate) fn put_checkpoint<R: Rewriter>(
     put_size(out, scratch, start, checkpoint.link.frame, rewriting)
 }
 
-// The number of pools that a checkpoint's entries are in.
+/// The number of pools that a checkpoint's entries are in.
 fn pool_count(entries: &[EntryAt]) -> usize
     ensures { result ≡ length (by_pool entries.now) }
 {

@@ -13,7 +13,7 @@ use crate::rewriter::Rewriter;
 use crate::size::put_size;
 use jfr_chunk::{Chunk, Event};
 
-// Appends an event of the chunk, rewritten.
+/// Appends an event of the chunk, rewritten.
 fn put_event<R: Rewriter>(
     out: &mut Vec<u8>,
     scratch: &mut Vec<u8>,

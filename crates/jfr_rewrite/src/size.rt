@@ -10,8 +10,8 @@ use crate::rewriter::Rewriter;
 use jfr_base::{NoMemory, push_in, write_in};
 use jfr_frame::Framed;
 
-/// Puts the size of the record from `start` on in the place of the old size, which is there, in as many bytes as
-/// it is to have. If these are as many as before, no other byte moves; `scratch` is for those that do.
+/// Puts the size of the record from `start` on in place of the old size, in its new width. Where the width stays, no
+/// other byte moves; `scratch` holds the bytes that do.
 #[inline]
 pub(crate) fn put_size<R: Rewriter>(
     out: &mut Vec<u8>,
@@ -39,7 +39,7 @@ pub(crate) fn put_size<R: Rewriter>(
     Ok(())
 }
 
-// Whether the integer can be spelled in this many bytes.
+/// Whether the integer can be spelled in this many bytes.
 #[inline]
 fn fits(value: u64, count: usize) -> bool
     requires { (1 ≤ count) × (count ≤ 9) }
@@ -48,7 +48,7 @@ fn fits(value: u64, count: usize) -> bool
     count == 9 || value >> (7 * count) == 0
 }
 
-// Writes the number of bytes from offset `from` on into the first `count` of them.
+/// Writes the number of bytes from offset `from` on into the first `count` of them.
 #[inline]
 fn put_in_place(out: &mut Vec<u8>, from: usize, count: usize)
     requires count { (1 ≤ count) × (count ≤ 9) }
@@ -65,7 +65,7 @@ fn put_in_place(out: &mut Vec<u8>, from: usize, count: usize)
     out[from..from + count].copy_from_slice(&spelled[..count]);
 }
 
-// Writes the number of bytes of the record from offset `from` on in `width` bytes in the place of the first `room`.
+/// Writes the number of bytes of the record from offset `from` on in `width` bytes in the place of the first `room`.
 #[inline(never)]
 fn replace_size(
     out: &mut Vec<u8>,

@@ -80,7 +80,7 @@ pub fn write_chunk<R: Rewriter>(
     Ok(with_header(output, source.chunk))
 }
 
-// Puts the header in its place.
+/// Puts the header in its place.
 fn with_header(output: Output, chunk: &Chunk<'_>) -> Vec<u8>
     requires { 68 ≤ length output.bytes.items }
     ensures { result.items ≡ header_bytes (record (header_of (take 68 chunk.now.bytes)) { size = length output.bytes.items; pools = unwrap_or output.newest 0; metadata = unwrap_or output.metadata 0 }) ++ drop 68 output.bytes.items }
@@ -96,7 +96,7 @@ fn with_header(output: Output, chunk: &Chunk<'_>) -> Vec<u8>
     bytes
 }
 
-// Writes all output records.
+/// Writes all output records.
 fn put_records<R: Rewriter>(output: &mut Output, source: Source<'_, R>) -> Result<(), WriteFault>
     requires empty { progress_of output.old ≡ record { bytes = replicate 68 0; newest = None; metadata = None } }
     requires suits { R.suits source.rewriting.now source.chunk.now }
@@ -119,7 +119,7 @@ fn put_records<R: Rewriter>(output: &mut Output, source: Source<'_, R>) -> Resul
     Ok(())
 }
 
-// Writes an output record.
+/// Writes an output record.
 fn put_record<R: Rewriter>(
     output: &mut Output,
     source: Source<'_, R>,
@@ -150,7 +150,7 @@ fn put_record<R: Rewriter>(
     }
 }
 
-// Writes the metadata record: the new one, if there is one, or else this record of the chunk.
+/// Writes the metadata record: the new one, if there is one, or else this record of the chunk.
 fn put_metadata(
     output: &mut Output,
     bytes: &[u8],
@@ -167,7 +167,7 @@ fn put_metadata(
     Ok(())
 }
 
-// Writes a chained checkpoint.
+/// Writes a chained checkpoint.
 fn put_chained<R: Rewriter>(
     output: &mut Output,
     source: Source<'_, R>,
@@ -196,7 +196,7 @@ fn put_chained<R: Rewriter>(
     )
 }
 
-// Writes the header into the first 68 bytes.
+/// Writes the header into the first 68 bytes.
 fn put_header(out: &mut Vec<u8>, header: &[u8; 68])
     requires { 68 ≤ length out.old.items }
     ensures { out.new.items ≡ header.now ++ drop 68 out.old.items }

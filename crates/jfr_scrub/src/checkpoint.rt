@@ -45,7 +45,7 @@ pub(crate) fn lay_checkpoint(
     Ok(size as usize)
 }
 
-// Lays out the pools of a checkpoint's entries.
+/// Lays out the pools of a checkpoint's entries.
 fn lay_pools(output: &mut Output, entries: &[EntryAt]) -> Result<(), NoMemory>
     requires { AllByRecursion (HasRange (length output.old.chunk)) entries.now }
     ensures ok { OnOk result (output_so_far output.new ≡ more (output_so_far output.old) (flat_map (group_bytes output.old.chunk) (by_pool entries.now))) }
@@ -63,7 +63,7 @@ fn lay_pools(output: &mut Output, entries: &[EntryAt]) -> Result<(), NoMemory>
     Ok(())
 }
 
-// Lays out the entries of a pool.
+/// Lays out the entries of a pool.
 fn lay_entries(output: &mut Output, entries: &[EntryAt]) -> Result<(), NoMemory>
     requires { AllByRecursion (HasRange (length output.old.chunk)) entries.now }
     ensures ok { OnOk result (output_so_far output.new ≡ more (output_so_far output.old) (flat_map (entry_bytes output.old.chunk) entries.now)) }

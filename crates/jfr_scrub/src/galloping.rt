@@ -18,7 +18,7 @@ pub(crate) fn events_ahead(chunk: &Chunk, cursor: &Cursor) -> usize
     other_by_halving(chunk, cursor, high - high / 2, high)
 }
 
-// An offset at which `is_event_at` is false, though it is true at all offsets below half of this one.
+/// An offset at which `is_event_at` is false, though it is true at all offsets below half of this one.
 fn other_by_doubling(chunk: &Chunk, cursor: &Cursor) -> usize
     requires { IsAtEvents chunk.now cursor.now }
     ensures room { HasRoom cursor.now result }
@@ -34,7 +34,7 @@ fn other_by_doubling(chunk: &Chunk, cursor: &Cursor) -> usize
     high
 }
 
-// The first offset at which `is_event_at` is false. It is at least `low` and at most `high`.
+/// The first offset at which `is_event_at` is false. It is at least `low` and at most `high`.
 fn other_by_halving(chunk: &Chunk, cursor: &Cursor, mut low: usize, mut high: usize) -> usize
     requires at { IsAtEvents chunk.now cursor.now }
     requires room { HasRoom cursor.now high }
@@ -55,7 +55,7 @@ fn other_by_halving(chunk: &Chunk, cursor: &Cursor, mut low: usize, mut high: us
     low
 }
 
-// Whether the record at this offset from the cursor's is the event at the same offset from the cursor's.
+/// Whether the record at this offset from the cursor's is the event at the same offset from the cursor's.
 #[inline(always)]
 fn is_event_at(chunk: &Chunk, cursor: &Cursor, offset: usize) -> bool
     requires parts { AreParts chunk.now }

@@ -99,8 +99,8 @@ impl<'a> LaidOut<'a> {
     }
 }
 
-// Lays out the output of a chunk, given the kept events, the reached entries, and the new metadata record,
-// if there is one.
+/// Lays out the output of a chunk, given the kept events, the reached entries, and the new metadata record,
+/// if there is one.
 fn lay_out<'a>(
     alloc: Global,
     chunk: &Chunk<'a>,

@@ -9,7 +9,7 @@ use jfr_base::var_len;
 use jfr_output::pool_len;
 use jfr_pool::EntryAt;
 
-// The number of bytes of a pool's entries.
+/// The number of bytes of a pool's entries.
 fn entries_len(entries: &[EntryAt]) -> u64
     requires { (n : ℕ) × AllByRecursion (HasRange n) entries.now }
     ensures { result ≡ capped (entries_size entries.now) }
@@ -21,7 +21,7 @@ fn entries_len(entries: &[EntryAt]) -> u64
     len
 }
 
-// The number of bytes of a pool.
+/// The number of bytes of a pool.
 fn pool_size(class: u64, entries: &[EntryAt]) -> u64
     requires { (n : ℕ) × AllByRecursion (HasRange n) entries.now }
     ensures { result ≡ capped (pool_size class entries.now) }

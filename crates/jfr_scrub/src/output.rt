@@ -64,7 +64,7 @@ impl<'a> Output<'a> {
         Ok(())
     }
 
-    // Adds made bytes.
+    /// Adds made bytes.
     fn put(&mut self, part: MadePart, bytes: &[u8]) -> Result<(), NoMemory>
         requires { IsMadeBytes part bytes.now }
         ensures ok { OnOk result (output_so_far self.new ≡ more (output_so_far self.old) bytes.now) }

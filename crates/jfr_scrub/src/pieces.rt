@@ -140,7 +140,7 @@ impl<'a> Pieces<'a> {
     }
 }
 
-// A range as a piece.
+/// A range as a piece.
 fn piece_of<'a>(chunk: &'a [u8], part: Range) -> Piece<'a>
     requires { (m : ℕ) × Lies (length chunk.now) m part }
     ensures exact { range_of result ≡ part }
@@ -155,7 +155,7 @@ fn piece_of<'a>(chunk: &'a [u8], part: Range) -> Piece<'a>
     }
 }
 
-// Appends the bytes of the ranges. The vector must have the capacity.
+/// Appends the bytes of the ranges. The vector must have the capacity.
 fn write_parts(out: &mut Vec<u8>, chunk: &[u8], made: &[u8], parts: &[Range])
     requires lie { AllByRecursion (Lies (length chunk.now) (length made.now)) parts.now }
     requires room { vec_len out.old + length (flat_map (range_bytes chunk.now made.now) parts.now) ≤ vec_capacity out.old }
@@ -166,7 +166,7 @@ fn write_parts(out: &mut Vec<u8>, chunk: &[u8], made: &[u8], parts: &[Range])
     }
 }
 
-// Appends the bytes of a range. The vector must have the capacity.
+/// Appends the bytes of a range. The vector must have the capacity.
 fn write_part(out: &mut Vec<u8>, chunk: &[u8], made: &[u8], part: Range)
     requires lies { Lies (length chunk.now) (length made.now) part }
     requires room { vec_len out.old + length (range_bytes chunk.now made.now part) ≤ vec_capacity out.old }

@@ -33,7 +33,7 @@ pub(crate) fn pass_run(chunk: &Chunk, kept: &Kept, cursor: &mut Cursor) -> Run
     Run { from, to }
 }
 
-// Moves the cursor past the run.
+/// Moves the cursor past the run.
 fn pass_kept(chunk: &Chunk, kept: &Kept, cursor: &mut Cursor)
     requires accepted { IsAccepted chunk.now }
     requires cursor { IsCursor chunk.now kept.now cursor.old }
@@ -49,7 +49,7 @@ fn pass_kept(chunk: &Chunk, kept: &Kept, cursor: &mut Cursor)
     pass_each(chunk, kept, cursor);
 }
 
-// Moves the cursor past the run, one record at a time.
+/// Moves the cursor past the run, one record at a time.
 fn pass_each(chunk: &Chunk, kept: &Kept, cursor: &mut Cursor)
     requires accepted { IsAccepted chunk.now }
     requires cursor { IsCursor chunk.now kept.now cursor.old }
@@ -62,7 +62,7 @@ fn pass_each(chunk: &Chunk, kept: &Kept, cursor: &mut Cursor)
     }
 }
 
-// Whether the cursor's record is that of the cursor's event, and the event is kept.
+/// Whether the cursor's record is that of the cursor's event, and the event is kept.
 #[inline(always)]
 fn is_in_run(chunk: &Chunk, kept: &Kept, cursor: &Cursor) -> bool
     ensures { result ≡ is_in_run chunk.now kept.now cursor.now }
@@ -73,7 +73,7 @@ fn is_in_run(chunk: &Chunk, kept: &Kept, cursor: &Cursor) -> bool
     }
 }
 
-// Whether the event with this number starts at this offset and is kept.
+/// Whether the event with this number starts at this offset and is kept.
 #[inline(always)]
 fn is_kept_at(chunk: &Chunk, kept: &Kept, number: usize, at: usize) -> bool
     ensures { result ≡ is_kept_at (events_of chunk.now) kept.now number at }

@@ -38,7 +38,7 @@ pub(crate) fn add_events(
     add_classes(alloc, chunk, &counted, tallies)
 }
 
-// A tally for each class, in order, of the events of the classes whose leader it is.
+/// A tally for each class, in order, of the events of the classes whose leader it is.
 fn class_tallies(alloc: Global, chunk: &Chunk<'_>) -> Result<Vec<Tally>, NoMemory>
     requires parts { AreParts chunk.now }
     requires small { length chunk.now.bytes < 2 ^ 30 }
@@ -54,7 +54,7 @@ fn class_tallies(alloc: Global, chunk: &Chunk<'_>) -> Result<Vec<Tally>, NoMemor
     Ok(counted)
 }
 
-// Counts a record at the leader of its class, if it is an event.
+/// Counts a record at the leader of its class, if it is an event.
 #[inline(always)]
 fn count_record(classes: &Classes, leaders: &[usize], frame: Framed, counted: &mut [Tally])
     requires led { AreLeaders classes.now leaders.now }
@@ -72,8 +72,8 @@ fn count_record(classes: &Classes, leaders: &[usize], frame: Framed, counted: &m
     }
 }
 
-// Adds the tallies of the classes of a chunk to those of their names. A class that isn't its own leader has
-// an empty tally.
+/// Adds the tallies of the classes of a chunk to those of their names. A class that isn't its own leader has
+/// an empty tally.
 fn add_classes(
     alloc: Global,
     chunk: &Chunk<'_>,

@@ -25,7 +25,7 @@ pub(crate) fn class_leaders(alloc: Global, chunk: &Chunk<'_>) -> Result<Vec<usiz
     Ok(leaders)
 }
 
-// The index of the first class that this string names. It names the class with this index.
+/// The index of the first class that this string names. It names the class with this index.
 fn first_named(
     named: &mut BTreeMap<u64, usize>,
     string: u64,

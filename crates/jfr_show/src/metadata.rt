@@ -38,7 +38,7 @@ pub fn show_metadata(chunk: &Chunk<'_>, number: u64, out: &mut TextBuilder) -> R
     Ok(())
 }
 
-// Adds all lines of a class.
+/// Adds all lines of a class.
 fn show_class(classes: &Classes, class: &ClassInfo, out: &mut TextBuilder) -> Result<(), NoMemory>
     ensures ok { OnOk result (out.new ≡ out.old ++ class_lines classes.now class.now) }
 {
@@ -50,7 +50,7 @@ fn show_class(classes: &Classes, class: &ClassInfo, out: &mut TextBuilder) -> Re
     Ok(())
 }
 
-// Adds the first line of a class.
+/// Adds the first line of a class.
 fn show_class_line(class: &ClassInfo, out: &mut TextBuilder) -> Result<(), NoMemory>
     ensures ok { OnOk result (out.new ≡ out.old ++ class_line class.now) }
 {
@@ -61,7 +61,7 @@ fn show_class_line(class: &ClassInfo, out: &mut TextBuilder) -> Result<(), NoMem
     out.push_ascii("\n")
 }
 
-// Adds the name of a super type, if there is one.
+/// Adds the name of a super type, if there is one.
 fn show_super(name: &Option<Text>, out: &mut TextBuilder) -> Result<(), NoMemory>
     ensures ok { OnOk result (out.new ≡ out.old ++ super_part name.now) }
 {
@@ -74,7 +74,7 @@ fn show_super(name: &Option<Text>, out: &mut TextBuilder) -> Result<(), NoMemory
     }
 }
 
-// Adds the line of a class's categories, if it has any.
+/// Adds the line of a class's categories, if it has any.
 fn show_categories(categories: &Words, out: &mut TextBuilder) -> Result<(), NoMemory>
     ensures ok { OnOk result (out.new ≡ out.old ++ categories_line categories.now) }
 {
@@ -102,7 +102,7 @@ fn show_field(classes: &Classes, field: &FieldInfo, out: &mut TextBuilder) -> Re
     out.push_ascii("\n")
 }
 
-// Adds the name of the class with this id.
+/// Adds the name of the class with this id.
 fn show_class_name(classes: &Classes, id: u64, out: &mut TextBuilder) -> Result<(), NoMemory>
     ensures ok { OnOk result (out.new ≡ out.old ++ class_name classes.now id) }
 {
@@ -112,7 +112,7 @@ fn show_class_name(classes: &Classes, id: u64, out: &mut TextBuilder) -> Result<
     }
 }
 
-// Adds a text if the flag is set.
+/// Adds a text if the flag is set.
 fn push_if(holds: bool, text: &str, out: &mut TextBuilder) -> Result<(), NoMemory>
     requires ascii { IsTrue (is_ascii text.now) }
     ensures ok { OnOk result (out.new ≡ out.old ++ (if holds then text.now else [])) }

@@ -116,7 +116,7 @@ fn show_summary(summary: &Summary, out: &mut TextBuilder) -> Result<(), NoMemory
     }
 }
 
-// Adds the first nine lines.
+/// Adds the first nine lines.
 fn show_numbers(summary: &Summary, first: Beginning, out: &mut TextBuilder) -> Result<(), NoMemory>
     ensures ok { OnOk result (out.new ≡ out.old ++ number_lines summary.now first) }
 {
@@ -139,7 +139,7 @@ fn show_version_line(first: Beginning, out: &mut TextBuilder) -> Result<(), NoMe
     out.push_ascii("\n")
 }
 
-// Adds the version.
+/// Adds the version.
 fn show_version(first: Beginning, out: &mut TextBuilder) -> Result<(), NoMemory>
     ensures ok { OnOk result (out.new ≡ out.old ++ version_shown first) }
 {
@@ -158,7 +158,7 @@ fn push_line(word: &str, number: u128, out: &mut TextBuilder) -> Result<(), NoMe
     out.push_ascii("\n")
 }
 
-// Adds a number that may have more than 64 bits.
+/// Adds a number that may have more than 64 bits.
 fn push_wide(number: u128, out: &mut TextBuilder) -> Result<(), NoMemory>
     ensures ok { OnOk result (out.new ≡ out.old ++ decimal number) }
 {

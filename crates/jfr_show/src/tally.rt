@@ -66,7 +66,7 @@ pub(crate) fn show_tallies(tallies: &TallyMap, out: &mut TextBuilder) -> Result<
     Ok(())
 }
 
-// Adds the line with a name and its tally.
+/// Adds the line with a name and its tally.
 fn show_tally(name: &str, tally: Tally, out: &mut TextBuilder) -> Result<(), NoMemory>
     ensures ok { OnOk result (out.new ≡ out.old ++ tally_line (name.now, tally)) }
 {

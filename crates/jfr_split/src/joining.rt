@@ -18,7 +18,7 @@ use jfr_outside::{Place, Sink};
 use jfr_plan::{Discard, Position, Stage, append_output, create_output, finish_output, run_stage};
 use std::alloc::Global;
 
-// The stage that appends each chunk of a file to the output.
+/// The stage that appends each chunk of a file to the output.
 #[derive(Drop)]
 struct Adding;
 
@@ -48,7 +48,7 @@ impl Stage for Adding {
     }
 }
 
-// Appends the chunks of one file, which come after those of the files before.
+/// Appends the chunks of one file, which come after those of the files before.
 fn join_file<P: Place>(place: &mut P, file: &str, at: &mut Position) -> Ending
     ensures contents { (earlier : List (List ℕ)) → IsAt earlier at.old.start at.old.number
         → After adding earlier file.now (command_end result)
@@ -62,7 +62,7 @@ fn join_file<P: Place>(place: &mut P, file: &str, at: &mut Position) -> Ending
     run_stage(place, &mut Discard, &mut Adding, file, at)
 }
 
-// Appends the chunks of these files, one file after another, and finishes the output.
+/// Appends the chunks of these files, one file after another, and finishes the output.
 fn join_files<P: Place>(alloc: Global, place: &mut P, files: &[String]) -> Ending
     ensures contents { (output : List ℕ) (contents : List (List ℕ))
         → IfSome (P.state place.old).contents (CanJoin output (map (λ f. string_bytes f) files.now) contents)
@@ -84,7 +84,7 @@ fn join_files<P: Place>(alloc: Global, place: &mut P, files: &[String]) -> Endin
     }
 }
 
-// Joins the files. Refused as `NoChunk` if there are none.
+/// Joins the files. Refused as `NoChunk` if there are none.
 fn join_some<P: Place>(alloc: Global, place: &mut P, files: &[String]) -> Ending
     ensures contents { (output : List ℕ) (contents : List (List ℕ))
         → IfSome (P.state place.old).contents (CanJoin output (map (λ f. string_bytes f) files.now) contents)
@@ -103,7 +103,7 @@ fn join_some<P: Place>(alloc: Global, place: &mut P, files: &[String]) -> Ending
     join_files(alloc, place, files)
 }
 
-// The names of the folder's files to join, in order.
+/// The names of the folder's files to join, in order.
 fn list_files<P: Place>(alloc: Global, place: &mut P, folder: &str) -> Result<Vec<String>, Ending>
     ensures contents { OnOk result ((P.state place.new).contents ≡ (P.state place.old).contents) }
     ensures files { IfOk result (λ made. IfSome (P.state place.old).contents

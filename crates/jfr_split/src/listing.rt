@@ -10,7 +10,7 @@ use crate::name::in_folder;
 use jfr_outside::{NoMemory, Words};
 use std::alloc::Global;
 
-// The name with this index in the list.
+/// The name with this index in the list.
 fn name_at(names: &Words, at: usize) -> &str
     requires { at < length names.now }
     ensures { slice_get names.now at ≡ Some (chars result.now) }
@@ -22,7 +22,7 @@ fn name_at(names: &Words, at: usize) -> &str
     }
 }
 
-// Adds the name, with its folder, if it ends in `.jfr`.
+/// Adds the name, with its folder, if it ends in `.jfr`.
 fn push_file(
     alloc: Global,
     files: &mut Vec<String>,

@@ -7,7 +7,7 @@ ghost use Rattle.jfr_split.specs.Names.{base as base_of_name, without_suffix as 
 use jfr_outside::{NoMemory, Text};
 use std::alloc::Global;
 
-// The part of a name after its last slash.
+/// The part of a name after its last slash.
 fn base(name: &str) -> &str
     ensures { result.now ≡ base_of_name name.now }
 {
@@ -17,7 +17,7 @@ fn base(name: &str) -> &str
     }
 }
 
-// The name without a final `.jfr`, if something comes before that.
+/// The name without a final `.jfr`, if something comes before that.
 fn without_suffix(name: &str) -> &str
     ensures { result.now ≡ name_without_suffix name.now }
 {
@@ -27,7 +27,7 @@ fn without_suffix(name: &str) -> &str
     }
 }
 
-// The stem of a file's parts.
+/// The stem of a file's parts.
 #[tactic(auto, unfolding(crate::specs::Names::stem))]
 fn stem(file: &str) -> &str
     ensures { result.now ≡ stem_of_file file.now }
@@ -35,7 +35,7 @@ fn stem(file: &str) -> &str
     without_suffix(base(file))
 }
 
-// A digit as a text.
+/// A digit as a text.
 fn digit(value: u64) -> &'static str
     requires { value < 10 }
     ensures { result.now ≡ (48 + value) ∷ [] }
@@ -54,7 +54,7 @@ fn digit(value: u64) -> &'static str
     }
 }
 
-// Adds the number with six digits.
+/// Adds the number with six digits.
 fn push_digits(text: &mut String, number: u64) -> Result<(), NoMemory>
     requires { number < 10 ^ 6 }
     ensures { OnOk result (string_bytes text.new ≡ string_bytes text.old ++ digits 6 number) }
@@ -82,7 +82,7 @@ pub fn in_folder(alloc: Global, folder: &str, name: &str) -> Result<String, NoMe
     Ok(made)
 }
 
-// The name of a part without its folder.
+/// The name of a part without its folder.
 fn numbered(alloc: Global, file: &str, number: u64) -> Result<String, NoMemory>
     requires { number < 10 ^ 6 }
     ensures { IfOk result (λ made. string_bytes made ≡ stem_of_file file.now ++ 95 ∷ (digits 6 number ++ suffix)) }

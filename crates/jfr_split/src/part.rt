@@ -67,7 +67,7 @@ pub fn starts_part(rule: &SplitRule, part: &Part, chunk: &[u8]) -> bool
         || rule.max_size - size < part.bytes
 }
 
-// The part that the chunk starts.
+/// The part that the chunk starts.
 fn new_part(part: &Part, chunk: &[u8]) -> Part
     requires { part.now.number + 1 < 2 ^ 64 }
     ensures { result ≡ part_by true part.now chunk.now }
@@ -79,7 +79,7 @@ fn new_part(part: &Part, chunk: &[u8]) -> Part
     }
 }
 
-// The part with this chunk added.
+/// The part with this chunk added.
 fn fuller_part(rule: &SplitRule, part: &Part, chunk: &[u8]) -> Part
     requires { begins rule.now part.now chunk.now ≡ false }
     ensures { result ≡ part_by false part.now chunk.now }

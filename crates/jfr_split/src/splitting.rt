@@ -15,7 +15,7 @@ use jfr_outside::{Place, Sink};
 use jfr_plan::{Discard, Position, Stage, run_stage};
 use std::alloc::Global;
 
-// The stage that writes each chunk to its part.
+/// The stage that writes each chunk to its part.
 #[derive(Drop)]
 struct Splitting<'a> {
     split: Split<'a>,

@@ -35,7 +35,7 @@ pub fn close_part<P: Place>(place: &mut P, part: &Part) -> Result<(), Ending>
     finish_output(place)
 }
 
-// Finishes the last part and creates the next one.
+/// Finishes the last part and creates the next one.
 fn open_part<P: Place>(split: Split<'_>, place: &mut P, part: &Part) -> Result<(), Ending>
     requires { part.now.number + 1 ≤ 999999 }
     ensures contents { IsPlaceAfter
@@ -49,7 +49,7 @@ fn open_part<P: Place>(split: Split<'_>, place: &mut P, part: &Part) -> Result<(
     create_output(place, name.as_str())
 }
 
-// Starts a new part with the chunk, if there may be one more.
+/// Starts a new part with the chunk, if there may be one more.
 fn begin_part<P: Place>(
     split: Split<'_>,
     place: &mut P,

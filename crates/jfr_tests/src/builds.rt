@@ -6,14 +6,14 @@ use std::alloc::Global;
 use std::process::Abort;
 use std::test::Fail;
 
-// One event with one field.
+/// One event with one field.
 const TEXT: &str = "class 5 long\nevent 8 t.A\nfield n 5 -\nrecord 8 300\n";
 
-// The event and the checkpoint, at the end of the chunk.
+/// The event and the checkpoint, at the end of the chunk.
 const RECORDS: &[u8] =
     b"\x88\x80\x80\x80\x00\x08\xac\x02\x8b\x80\x80\x80\x00\x01\x00\x00\x00\x00\x00";
 
-// Texts that are refused, and the lines that say so.
+/// Texts that are refused, and the lines that say so.
 static REFUSED: [(&[u8], &str); 12] = [
     (
         b"class 5 long\nevent 8 t.A\nfield n 5 -\nrecord 8 x\n",
@@ -44,10 +44,10 @@ static REFUSED: [(&[u8], &str); 12] = [
     (b"class 9223372036854775808 long", "line 1: LineBad\n"),
 ];
 
-// The command that builds a recording.
+/// The command that builds a recording.
 const BUILD: &[&str] = &["build", "t", "o"];
 
-// What is built, printed and scrubbed, and faults of places.
+/// What is built, printed and scrubbed, and faults of places.
 static BUILDS: [Said<'static>; 6] = [
     (BUILD, 0, "", ""),
     (&["print", "o"], 0, "t.A {\n  n = 300\n}\n", ""),
@@ -57,7 +57,7 @@ static BUILDS: [Said<'static>; 6] = [
     (&["build", "none", "q"], 3, "", "read fault\n"),
 ];
 
-// Compares the output that is there.
+/// Compares the output that is there.
 fn see_built(rt: &impl Abort, place: &MemoryPlace) -> Result<(), Fail> {
     let built = place.file("o").ok_or("no output")?;
     assert!(rt; built.len() == 212 && built.ends_with(RECORDS));
@@ -72,7 +72,7 @@ fn a_text_is_built(rt: HostRuntime) -> Result<(), Fail> {
     see_built(&rt, &place)
 }
 
-// Builds a text that is refused.
+/// Builds a text that is refused.
 fn see_refused(rt: &impl Abort, alloc: Global, text: &[u8], fault: &str) -> Result<(), Fail> {
     let mut place = place_with(alloc, "t", text)?;
     says(rt, alloc, &mut place, (BUILD, 8, "", fault))?;

@@ -11,13 +11,13 @@ use std::alloc::Global;
 use std::process::Abort;
 use std::test::Fail;
 
-// The receipt of the first event of the chunk of rings.
+/// The receipt of the first event of the chunk of rings.
 const RECEIPT: &[u8] = &[2, 0, 0, 0, 1, 1, 0];
 
-// Two entries that refer to each other.
+/// Two entries that refer to each other.
 const IN_A_CIRCLE: &[u8] = &[2, 0, 1, 1, 1, 1, 0];
 
-// The chunk of rings, once and twice, the plain chunk, and a receipt that isn't one.
+/// The chunk of rings, once and twice, the plain chunk, and a receipt that isn't one.
 const FILES: &[(&str, Content)] = &[
     ("in", (&[OF_RINGS], &[])),
     ("twice", (&[OF_RINGS, OF_RINGS], &[])),
@@ -25,7 +25,7 @@ const FILES: &[(&str, Content)] = &[
     ("circle", (&[Bytes(IN_A_CIRCLE)], &[])),
 ];
 
-// The receipt and the scrub of the first event.
+/// The receipt and the scrub of the first event.
 #[rattlefmt::skip]
 static OF_FIRST: Play = Play {
     files: FILES,
@@ -37,7 +37,7 @@ static OF_FIRST: Play = Play {
     left: &[],
 };
 
-// A place with the files, this receipt and this scrub.
+/// A place with the files, this receipt and this scrub.
 fn with_receipt(rt: &impl Abort, alloc: Global) -> Result<MemoryPlace, Fail> {
     let mut place = place_of(alloc, OF_FIRST.files)?;
     say_all(rt, alloc, &mut place, OF_FIRST.commands)?;
@@ -46,7 +46,7 @@ fn with_receipt(rt: &impl Abort, alloc: Global) -> Result<MemoryPlace, Fail> {
 
 const CHECK_OF_FIRST: &[&str] = &["verify", "--include-events", "t.A", "in", "out", "receipt"];
 
-// Checks of outputs by receipts.
+/// Checks of outputs by receipts.
 #[rattlefmt::skip]
 static CHECKS: [Said<'static>; 6] = [
     (CHECK_OF_FIRST, 0, "verified 1\n", ""),
@@ -57,7 +57,7 @@ static CHECKS: [Said<'static>; 6] = [
     (&["verify", "--include-events", "t.A", "in", "out", "none"], 3, "", "read fault\n"),
 ];
 
-// Compares the receipt, and the checks.
+/// Compares the receipt, and the checks.
 fn see_checks(rt: &impl Abort, alloc: Global, place: &mut MemoryPlace) -> Result<(), Fail> {
     assert!(rt; place.file("receipt") == Some(RECEIPT));
     say_all(rt, alloc, place, &CHECKS)
@@ -69,7 +69,7 @@ fn outputs_are_verified_by_receipts(rt: HostRuntime) -> Result<(), Fail> {
     see_checks(&rt, rt.alloc(), &mut place)
 }
 
-// Other filters, and a recording of two chunks.
+/// Other filters, and a recording of two chunks.
 #[rattlefmt::skip]
 static OTHERS: Play = Play {
     files: FILES,
@@ -90,24 +90,24 @@ fn other_outputs_are_verified(rt: HostRuntime) -> Result<(), Fail> {
     see_play(&rt, rt.alloc(), &OTHERS)
 }
 
-// The number of chunks couldn't be written.
+/// The number of chunks couldn't be written.
 #[test]
 fn a_verdict_is_lost(rt: HostRuntime) -> Result<(), Fail> {
     let mut place = with_receipt(&rt, rt.alloc())?;
     says_three_bytes(&rt, rt.alloc(), &mut place, CHECK_OF_FIRST, "ver")
 }
 
-// The second event and its ring.
+/// The second event and its ring.
 const SECOND: &[u8] = &[
     3, 9, 0, 0x13, 1, 0, 0, 0, 0, 1, 7, 2, 0, 1, 3, 1, 0x72, 1, 0, 3, 1, 0x73,
 ];
 
-// Both events and one ring, to which the two are merged.
+/// Both events and one ring, to which the two are merged.
 const MERGED: &[u8] = &[
     5, 8, 0xAC, 2, 0, 3, 9, 0, 0x13, 1, 0, 0, 0, 0, 1, 7, 2, 0, 1, 3, 1, 0x70, 1, 0, 3, 1, 0x71,
 ];
 
-// Scrubs with new keys of the chunk of rings, and of this chunk with two equal strings.
+/// Scrubs with new keys of the chunk of rings, and of this chunk with two equal strings.
 #[rattlefmt::skip]
 static NUMBERED: [Scrub; 2] = [
     (

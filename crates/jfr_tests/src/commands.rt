@@ -13,7 +13,7 @@ use std::alloc::Global;
 use std::process::Abort;
 use std::test::Fail;
 
-// Chunks of rings, of strings that are keys, and with inert records.
+/// Chunks of rings, of strings that are keys, and with inert records.
 #[rattlefmt::skip]
 const SMALL_CHUNKS: &[(&str, Content)] = &[
     ("rings.jfr", (&[OF_RINGS], &[])),
@@ -119,7 +119,7 @@ const CLASSES_JSON: &str =
 {"chunk":1,"name":"t.B","id":9,"super":"jdk.jfr.Event","categories":[],"fields":[{"name":"node","class":"t.Node","class_id":7,"constant":true,"array":false}]}
 "#;
 
-// What the commands that write text write of small chunks.
+/// What the commands that write text write of small chunks.
 #[rattlefmt::skip]
 static TEXTS: Play = Play {
     files: SMALL_CHUNKS,
@@ -166,7 +166,7 @@ fn the_sample_is_counted(rt: HostRuntime) -> Result<(), Fail> {
     see_play(&rt, rt.alloc(), &SAMPLED)
 }
 
-// A place with the recording of a sample.
+/// A place with the recording of a sample.
 fn sample_place(alloc: Global, seed: u32, events: u32) -> Result<MemoryPlace, Fail>
     requires some { 1 ≤ events }
     requires most { events ≤ 1000000 }
@@ -177,13 +177,13 @@ fn sample_place(alloc: Global, seed: u32, events: u32) -> Result<MemoryPlace, Fa
 
 const SCRUB_OF_FIRST: &[&str] = &["scrub", "--include-events", "t.A", "a.jfr", "b.jfr"];
 
-// Scrubs it, and counts the bytes of what is left.
+/// Scrubs it, and counts the bytes of what is left.
 fn scrubbed_size(rt: &impl Abort, alloc: Global, place: &mut MemoryPlace) -> Result<usize, Fail> {
     says(rt, alloc, place, (SCRUB_OF_FIRST, 0, "", ""))?;
     Ok(place.file("b.jfr").ok_or("no output")?.len())
 }
 
-// Runs a command that needs no file, and compares the end of what it writes.
+/// Runs a command that needs no file, and compares the end of what it writes.
 fn see_end(rt: &impl Abort, alloc: Global, words: &Words, end: &[u8]) {
     let mut place = MemoryPlace::new(alloc);
     let mut out = MemorySink::new(alloc);
@@ -192,7 +192,7 @@ fn see_end(rt: &impl Abort, alloc: Global, words: &Words, end: &[u8]) {
     assert!(rt; status == 0 && out.bytes().ends_with(end));
 }
 
-// The last line of the command `sample` reports this number of bytes.
+/// The last line of the command `sample` reports this number of bytes.
 fn see_last_line(rt: &impl Abort, alloc: Global, line: &[&str], size: usize) -> Result<(), Fail> {
     let words = words(alloc, line)?;
     let expected = format!(in alloc; "kept bytes {size}\n")?;
@@ -200,7 +200,7 @@ fn see_last_line(rt: &impl Abort, alloc: Global, line: &[&str], size: usize) -> 
     Ok(())
 }
 
-// What is left of a sample has the number of bytes that the command reports.
+/// What is left of a sample has the number of bytes that the command reports.
 fn see_sample(
     rt: &impl Abort,
     alloc: Global,
@@ -223,7 +223,7 @@ fn the_sample_is_scrubbed_as_a_file(rt: HostRuntime) -> Result<(), Fail> {
     see_sample(&rt, rt.alloc(), 1, 1_000_000, &["sample", "1", "1000000"])
 }
 
-// A stream that fails keeps the text that it took.
+/// A stream that fails keeps the text that it took.
 #[test]
 fn faults_of_streams_are_reported(rt: HostRuntime) -> Result<(), Fail> {
     let mut place = place_of(rt.alloc(), TEXTS.files)?;
@@ -231,7 +231,7 @@ fn faults_of_streams_are_reported(rt: HostRuntime) -> Result<(), Fail> {
     says_three_bytes(&rt, rt.alloc(), &mut place, print, "t.A")
 }
 
-// A line that can't be written changes no status.
+/// A line that can't be written changes no status.
 fn see_cut_line(rt: &impl Abort, alloc: Global, place: &mut MemoryPlace) -> Result<(), Fail> {
     let mut err = failing_sink(alloc, 5)?;
     let mut out = MemorySink::new(alloc);

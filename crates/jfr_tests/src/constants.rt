@@ -11,7 +11,7 @@ use std::alloc::{AllocError, Global};
 use std::process::Abort;
 use std::test::Fail;
 
-// What events reach stays, and nothing else does. With the events of `t.B` its description goes too.
+/// What events reach stays, and nothing else does. With the events of `t.B` its description goes too.
 #[rattlefmt::skip]
 static LEFT: [Scrub; 7] = [
     (SCRUB, (&[OF_RINGS], &[]), 0, "", (&[OF_RINGS], &[])),
@@ -28,7 +28,7 @@ fn constants_that_are_reached_stay(rt: HostRuntime) -> Result<(), Fail> {
     see_scrubs(&rt, rt.alloc(), &LEFT)
 }
 
-// One byte of a chunk is changed, and it is refused for the first flaw.
+/// One byte of a chunk is changed, and it is refused for the first flaw.
 #[rattlefmt::skip]
 static CHANGED: [Refused; 11] = [
     ((&[OF_RINGS], &[(250, 0x09)]), "chunk 1 offset 245: ClassBad\n"),
@@ -49,18 +49,18 @@ fn changed_chunks_with_constants_are_refused(rt: HostRuntime) -> Result<(), Fail
     see_refused(&rt, rt.alloc(), &CHANGED)
 }
 
-// How many nodes a long ring has.
+/// How many nodes a long ring has.
 const NODES: u64 = 200_000;
 
-// How far each of them refers.
+/// How far each of them refers.
 const FAR: u64 = 77_776;
 
-// An event, and a checkpoint of 1,400,013 bytes up to the number of its nodes.
+/// An event, and a checkpoint of 1,400,013 bytes up to the number of its nodes.
 const HEAD: &[u8] = &[
     5, 8, 0xAC, 2, 1, 0xCD, 0xB9, 0x55, 1, 0, 0, 0, 0, 1, 7, 0xC0, 0x9A, 0x0C,
 ];
 
-// An integer of three bytes.
+/// An integer of three bytes.
 fn integer(value: u64) -> [u8; 3] {
     [
         (value % 128 + 128) as u8,
@@ -69,15 +69,15 @@ fn integer(value: u64) -> [u8; 3] {
     ]
 }
 
-// Adds a node that refers to the next one.
+/// Adds a node that refers to the next one.
 fn push_node(records: &mut Vec<u8>, key: u64, next: u64) -> Result<(), AllocError> {
     records.extend_from_slice(&integer(key))?;
     records.extend_from_slice(&integer(next))?;
     records.extend_from_slice(&[0])
 }
 
-// Adds the nodes of a long ring, each of which refers to one far away, so that passes over the entries, one after
-// another, would need tens of thousands of them.
+/// Adds the nodes of a long ring, each of which refers to one far away, so that passes over the entries, one after
+/// another, would need tens of thousands of them.
 fn push_nodes(records: &mut Vec<u8>) -> Result<(), AllocError> {
     for key in 1..=NODES {
         push_node(records, key, (key + FAR) % NODES + 1)?;
@@ -85,21 +85,21 @@ fn push_nodes(records: &mut Vec<u8>) -> Result<(), AllocError> {
     Ok(())
 }
 
-// An event, and a checkpoint with the long ring.
+/// An event, and a checkpoint with the long ring.
 fn long_ring(alloc: Global) -> Result<Vec<u8>, AllocError> {
     let mut records = Vec::from_slice(alloc, HEAD)?;
     push_nodes(&mut records)?;
     Ok(records)
 }
 
-// Compares what is left of a long ring.
+/// Compares what is left of a long ring.
 fn see_ring(rt: &impl Abort, alloc: Global, records: &[u8], expected: &[u8]) -> Result<(), Fail> {
     let recording = with_classes(alloc, records, 330)?;
     let said = (SCRUB, 0, "", "");
     run_in_memory(rt, alloc, &recording, usize::MAX, said, expected)
 }
 
-// A long ring stays whole, by a walk along it.
+/// A long ring stays whole, by a walk along it.
 #[test]
 fn a_long_ring_stays(rt: HostRuntime) -> Result<(), Fail> {
     let records = long_ring(rt.alloc())?;

@@ -46,7 +46,7 @@ pub(crate) const TWO_PLAIN: Content = (&[Part::Plain, Part::Plain], &[]);
 
 pub(crate) const THREE_PLAIN: Content = (&[Part::Plain, Part::Plain, Part::Plain], &[]);
 
-// The bytes of a part.
+/// The bytes of a part.
 fn part_bytes(alloc: Global, part: Part) -> Result<Vec<u8>, AllocError> {
     match part {
         Part::Bytes(bytes) => Vec::from_slice(alloc, bytes),
@@ -61,7 +61,7 @@ fn part_bytes(alloc: Global, part: Part) -> Result<Vec<u8>, AllocError> {
     }
 }
 
-// Adds parts.
+/// Adds parts.
 fn push_parts(bytes: &mut Vec<u8>, alloc: Global, parts: &[Part]) -> Result<(), AllocError> {
     for part in parts {
         bytes.extend_from_slice(&part_bytes(alloc, *part)?)?;
@@ -69,7 +69,7 @@ fn push_parts(bytes: &mut Vec<u8>, alloc: Global, parts: &[Part]) -> Result<(), 
     Ok(())
 }
 
-// Changes bytes.
+/// Changes bytes.
 fn change(bytes: &mut [u8], changes: &[(usize, u8)]) {
     for (at, byte) in changes {
         if let Some(there) = bytes.get_mut(*at) {

@@ -10,8 +10,8 @@ use std::alloc::Global;
 use std::process::Abort;
 use std::test::Fail;
 
-// The class `long` (5) and the event classes `t.A` (8), with an annotation of `t.B`, `t.B` (9), with a
-// field that has one of `t.D`, `t.C` (10), with one of `t.D` too, and `t.D` (11).
+/// The class `long` (5) and the event classes `t.A` (8), with an annotation of `t.B`, `t.B` (9), with a
+/// field that has one of `t.D`, `t.C` (10), with one of `t.D` too, and `t.D` (11).
 const ANNOTATED: &[u8] = b"\
     \xCA\x01\0\0\0\x01\x14\
     \x03\x04root\x03\x08metadata\x03\x05class\x03\x04name\x03\x02id\x03\x09superType\
@@ -22,7 +22,7 @@ const ANNOTATED: &[u8] = b"\
     \x08\x02\x03\x0B\x02\x0A\x01\x07\x01\x02\x13\0\x02\x03\x03\x10\x04\x11\x05\x06\x01\
     \x07\x01\x02\x13\0\x02\x03\x03\x12\x04\x13\x05\x06\0";
 
-// What stays of them with an event of `t.A`: all but `t.C`.
+/// What stays of them with an event of `t.A`: all but `t.C`.
 const NAMED_BY_A: &[u8] = b"\
     \xB6\x81\x80\x80\0\0\0\0\x01\x12\
     \x03\x04root\x03\x08metadata\x03\x05class\x03\x04name\x03\x04long\x03\x02id\x03\x015\
@@ -32,7 +32,7 @@ const NAMED_BY_A: &[u8] = b"\
     \x0B\x01\x02\x0C\0\x02\x03\x03\x0D\x05\x0C\x09\x0A\x01\
     \x0E\x02\x03\x0F\x02\x06\x01\x0B\x01\x02\x10\0\x02\x03\x03\x11\x05\x10\x09\x0A\0";
 
-// And with one of `t.C`: itself, `t.D` and `long`.
+/// And with one of `t.C`: itself, `t.D` and `long`.
 const NAMED_BY_C: &[u8] = b"\
     \x90\x81\x80\x80\0\0\0\0\x01\x0E\
     \x03\x04root\x03\x08metadata\x03\x05class\x03\x04name\x03\x04long\x03\x02id\x03\x015\
@@ -41,7 +41,7 @@ const NAMED_BY_C: &[u8] = b"\
     \0\0\x01\x01\0\x03\x02\x02\x03\x04\x05\x06\0\x02\x03\x03\x07\x05\x08\x09\x0A\x01\
     \x0B\x01\x02\x0C\0\x02\x03\x03\x0D\x05\x0C\x09\x0A\0";
 
-// The class `long` (5), which has a field of its own class, and the event class `t.A` (8), with one too.
+/// The class `long` (5), which has a field of its own class, and the event class `t.A` (8), with one too.
 const LONG_AND_A: &[u8] = b"\
     \x86\x81\x80\0\0\0\0\x01\x0E\
     \x03\x04root\x03\x08metadata\x03\x05class\x03\x04name\x03\x04long\x03\x02id\x03\x015\
@@ -49,21 +49,21 @@ const LONG_AND_A: &[u8] = b"\
     \0\0\x01\x01\0\x02\x02\x02\x03\x04\x05\x06\x01\x07\x02\x03\x08\x02\x06\0\
     \x02\x03\x03\x09\x05\x0A\x0B\x0C\x01\x07\x02\x03\x0D\x02\x06\0";
 
-// Without `t.A`.
+/// Without `t.A`.
 const LONG: &[u8] = b"\
     \xD2\x80\x80\x80\0\0\0\0\x01\x09\
     \x03\x04root\x03\x08metadata\x03\x05class\x03\x04name\x03\x04long\x03\x02id\x03\x015\
     \x03\x05field\x03\x01v\
     \0\0\x01\x01\0\x01\x02\x02\x03\x04\x05\x06\x01\x07\x02\x03\x08\x02\x06\0";
 
-// Scrubs that keep all events, those of `t.A` and those of `t.B`.
+/// Scrubs that keep all events, those of `t.A` and those of `t.B`.
 const ALL: &[&str] = &["scrub", "--include-events", "*", "a.jfr", "b.jfr"];
 
 const ONLY_A: &[&str] = &["scrub", "--include-events", "t.A", "a.jfr", "b.jfr"];
 
 const ONLY_B: &[&str] = &["scrub", "--include-events", "t.B", "a.jfr", "b.jfr"];
 
-// A class stays if a class that stays names it, in an annotation too, and however deep.
+/// A class stays if a class that stays names it, in an annotation too, and however deep.
 #[rattlefmt::skip]
 static NAMED: [Scrub; 4] = [
     (
@@ -89,7 +89,7 @@ fn classes_that_are_named_stay(rt: HostRuntime) -> Result<(), Fail> {
     see_scrubs(&rt, rt.alloc(), &NAMED)
 }
 
-// Whether a text occurs in bytes.
+/// Whether a text occurs in bytes.
 fn occurs(bytes: &[u8], text: &str) -> bool {
     for at in 0..bytes.len() {
         if bytes[at..].starts_with(text.as_bytes()) {
@@ -99,8 +99,8 @@ fn occurs(bytes: &[u8], text: &str) -> bool {
     false
 }
 
-// Whether a text stays of the chunk that is like the JDK's, with the events of `ThreadPark`. With the events of a
-// class go its name, the names of its own fields, and the categories that only it has.
+/// Whether a text stays of the chunk that is like the JDK's, with the events of `ThreadPark`. With the events of a
+/// class go its name, the names of its own fields, and the categories that only it has.
 static STAYS: [(&str, bool); 9] = [
     ("jdk.ThreadPark", true),
     ("parkedClass", true),
@@ -122,7 +122,7 @@ fn see_texts(rt: &impl Abort, output: &[u8]) {
 
 const ONLY_PARK: &[&str] = &["scrub", "--include-events", "ThreadPark", "a.jfr", "b.jfr"];
 
-// Scrubs the chunk, and looks for the texts.
+/// Scrubs the chunk, and looks for the texts.
 fn see_scrubbed(rt: &impl Abort, alloc: Global, place: &mut MemoryPlace) -> Result<(), Fail> {
     says(rt, alloc, place, (ONLY_PARK, 0, "", ""))?;
     see_texts(rt, place.file("b.jfr").ok_or("no output")?);

@@ -11,8 +11,8 @@ use std::alloc::Global;
 use std::process::Abort;
 use std::test::Fail;
 
-// What remains of the first checkpoint of the chunk that is like the JDK's: a thread and three symbols;
-// the symbols; and nothing.
+/// What remains of the first checkpoint of the chunk that is like the JDK's: a thread and three symbols;
+/// the symbols; and nothing.
 const THREAD_AND_SYMBOLS: &[u8] = &[
     0xBD, 0x80, 0x80, 0, 1, 0, 0, 0, 0, 2, 0x1E, 1, 1, 3, 4, 0x6D, 0x61, 0x69, 0x6E, 0x64, 3, 4,
     0x6D, 0x61, 0x69, 0x6E, 1, 0x20, 3, 1, 3, 0x10, 0x6A, 0x61, 0x76, 0x61, 0x2F, 0x6C, 0x61, 0x6E,
@@ -28,8 +28,8 @@ const SYMBOLS: &[u8] = &[
 
 const NOTHING: &[u8] = &[0x8A, 0x80, 0x80, 0, 1, 0, 0, 0, 0, 0];
 
-// What remains of its last checkpoint: a class, a method and a stack trace; the later thread of key 2
-// with its stack trace and all that this leads to; nothing; and all.
+/// What remains of its last checkpoint: a class, a method and a stack trace; the later thread of key 2
+/// with its stack trace and all that this leads to; nothing; and all.
 const ONE_TRACE: &[u8] = &[
     0xA7, 0x80, 0x80, 0, 1, 0, 0, 0xF5, 0xF6, 0xFF, 0xFF, 0xFF, 0xFF, 0xFF, 0xFF, 0xFF, 0, 3, 0x1F,
     1, 1, 1, 1, 0x21, 1, 1, 1, 2, 3, 1, 0, 0x23, 1, 1, 0, 1, 1, 0x0A, 2,
@@ -55,7 +55,7 @@ const ALL_LATER: &[u8] = &[
     0x23, 2, 1, 0, 1, 1, 0x0A, 2, 2, 0, 2, 2, 0x14, 4, 1, 0x0A, 2,
 ];
 
-// The later thread of key 2 and what it leads to, where this thread has the system name `w` and no Java name.
+/// The later thread of key 2 and what it leads to, where this thread has the system name `w` and no Java name.
 const UNNAMED: &[u8] = &[
     0xCF, 0x80, 0x80, 0, 1, 0, 0, 0xC6, 0xF8, 0xFF, 0xFF, 0xFF, 0xFF, 0xFF, 0xFF, 0xFF, 0, 5, 0x1E,
     1, 2, 3, 1, 0x77, 0x65, 0, 2, 0x1F, 2, 1, 1, 1, 2, 4, 1, 0x20, 2, 4, 3, 8, 0x61, 0x70, 0x70,
@@ -63,15 +63,15 @@ const UNNAMED: &[u8] = &[
     1, 0, 0x23, 1, 2, 0, 2, 2, 0x14, 4, 1, 0x0A, 2,
 ];
 
-// The three events of the chunk that is like the JDK's.
+/// The three events of the chunk that is like the JDK's.
 const PARK: &[u8] = &[0x8B, 0x80, 0x80, 0, 0x65, 0xE8, 7, 0x32, 1, 1, 1];
 
 const ENTER: &[u8] = &[0x8B, 0x80, 0x80, 0, 0x66, 0xCC, 8, 0x3C, 2, 2, 2];
 
 const LOAD: &[u8] = &[0x8B, 0x80, 0x80, 0, 0x67, 0xB0, 9, 0x3E, 0x80, 0, 0];
 
-// What stays of it if no event is kept, and if the second is and the later thread of key 2 has no Java name. The
-// bytes that are changed are the first two of the delta of the last checkpoint.
+/// What stays of it if no event is kept, and if the second is and the later thread of key 2 has no Java name. The
+/// bytes that are changed are the first two of the delta of the last checkpoint.
 const NOTHING_LEFT: Content = (
     &[Chunk(&[NOTHING, NO_JDK_EVENT_CLASSES, NOTHING_LATER], 768, 78)],
     &[(775, 0xC4), (776, 0xFA)],
@@ -82,7 +82,7 @@ const UNNAMED_LEFT: Content = (
     &[(1029, 0xC6), (1030, 0xF8)],
 );
 
-// Events go with the constants and the classes that only they need. These are chosen by their names.
+/// Events go with the constants and the classes that only they need. These are chosen by their names.
 #[rattlefmt::skip]
 static BY_EVENTS: [Scrub; 3] = [
     (
@@ -99,7 +99,7 @@ static BY_EVENTS: [Scrub; 3] = [
     ),
 ];
 
-// These are chosen by their threads.
+/// These are chosen by their threads.
 #[rattlefmt::skip]
 static BY_THREADS: [Scrub; 3] = [
     (
@@ -116,7 +116,7 @@ static BY_THREADS: [Scrub; 3] = [
     ),
 ];
 
-// This one is chosen by its categories.
+/// This one is chosen by its categories.
 #[rattlefmt::skip]
 static BY_CATEGORIES: [Scrub; 1] = [
     (
@@ -125,9 +125,9 @@ static BY_CATEGORIES: [Scrub; 1] = [
     ),
 ];
 
-// These are chosen by their times. A tick is a nanosecond, and tick 0 nanosecond 1000. So the first event is from
-// 2000 to 2050, the second from 2100 to 2160, and the third at 2200. The last row keeps no other event than the
-// first, and describes the second's class.
+/// These are chosen by their times. A tick is a nanosecond, and tick 0 nanosecond 1000. So the first event is from
+/// 2000 to 2050, the second from 2100 to 2160, and the third at 2200. The last row keeps no other event than the
+/// first, and describes the second's class.
 #[rattlefmt::skip]
 static BY_TIMES: [Scrub; 4] = [
     (
@@ -148,7 +148,7 @@ static BY_TIMES: [Scrub; 4] = [
     ),
 ];
 
-// Compares what each scrub leaves, and that a second one changes nothing.
+/// Compares what each scrub leaves, and that a second one changes nothing.
 fn see_lasting(rt: &impl Abort, alloc: Global, rows: &[Scrub]) -> Result<(), Fail> {
     for (command, input, status, line, output) in rows {
         see_scrub(rt, alloc, (*command, *input, *status, *line, *output))?;
@@ -169,7 +169,7 @@ fn times_choose_and_classes_are_described(rt: HostRuntime) -> Result<(), Fail> {
     see_lasting(&rt, rt.alloc(), &BY_TIMES)
 }
 
-// A thread without a Java name goes by its system name. The empty text is a name.
+/// A thread without a Java name goes by its system name. The empty text is a name.
 #[rattlefmt::skip]
 static THREADS: [Scrub; 3] = [
     (&["scrub", "--include-threads", "w", "a.jfr", "b.jfr"], (&[JdkUnnamed(0)], &[]), 0, "", UNNAMED_LEFT),
@@ -182,8 +182,8 @@ fn threads_without_java_names_go_by_system_names(rt: HostRuntime) -> Result<(), 
     see_scrubs(&rt, rt.alloc(), &THREADS)
 }
 
-// What stays of the rings of constants: the first event with the first ring, the second with the
-// second, and neither.
+/// What stays of the rings of constants: the first event with the first ring, the second with the
+/// second, and neither.
 const FIRST_RING: &[u8] = &[
     5, 8, 0xAC, 2, 1, 0x13, 1, 0, 0, 0, 0, 1, 7, 2, 1, 2, 3, 1, 0x70, 2, 1, 3, 1, 0x71,
 ];
@@ -196,7 +196,7 @@ const SECOND_WITH_A_BYTE_LEFT: &[u8] = &[
     4, 9, 3, 0xFF, 0x13, 1, 0, 0, 0, 0, 1, 7, 2, 3, 4, 3, 1, 0x72, 4, 3, 3, 1, 0x73,
 ];
 
-// A ring of constants stays whole, or goes whole.
+/// A ring of constants stays whole, or goes whole.
 #[rattlefmt::skip]
 static RINGS_LEFT: [Scrub; 4] = [
     (

@@ -7,7 +7,7 @@ use std::alloc::Global;
 use std::process::Abort;
 use std::test::Fail;
 
-// Compares b.jfr.
+/// Compares b.jfr.
 fn see_bytes(
     rt: &impl Abort,
     (command, _, _, line): Said<'_>,
@@ -30,7 +30,7 @@ pub(crate) fn see_output(
     Ok(())
 }
 
-// Runs a command over a steady place and with steady streams, and compares what it says and b.jfr.
+/// Runs a command over a steady place and with steady streams, and compares what it says and b.jfr.
 fn see_steady_output(
     rt: &impl Abort,
     alloc: Global,
@@ -72,7 +72,7 @@ pub(crate) fn run_steadily(
     see_steady_output(rt, alloc, &mut place, said, output)
 }
 
-// Runs a command over both places, with reads of one byte, of a header and of all.
+/// Runs a command over both places, with reads of one byte, of a header and of all.
 fn run_over_places(
     rt: &impl Abort,
     alloc: Global,

@@ -5,10 +5,10 @@ use crate::plays::{Play, see_play, see_plays};
 use jfr_outside::Call;
 use std::test::Fail;
 
-// A recording of three plain chunks.
+/// A recording of three plain chunks.
 const RECORDING: &[(&str, Content)] = &[("r.jfr", THREE_PLAIN)];
 
-// It is cut into parts, which are joined again.
+/// It is cut into parts, which are joined again.
 #[rattlefmt::skip]
 static CUTS: [Play; 3] = [
     Play {
@@ -45,12 +45,12 @@ fn parts_come_back(rt: HostRuntime) -> Result<(), Fail> {
     see_plays(&rt, rt.alloc(), &CUTS)
 }
 
-// The plain chunk with another start, and this chunk before the plain one.
+/// The plain chunk with another start, and this chunk before the plain one.
 const OTHER: Content = (&[Plain], &[(39, 7)]);
 
 const JOINED: Content = (&[Plain, Plain], &[(39, 7)]);
 
-// Files are joined by their names, but for those of other kinds; and then with an empty one.
+/// Files are joined by their names, but for those of other kinds; and then with an empty one.
 #[rattlefmt::skip]
 static JOINS: [Play; 2] = [
     Play {
@@ -72,7 +72,7 @@ fn files_are_joined_in_order(rt: HostRuntime) -> Result<(), Fail> {
     see_plays(&rt, rt.alloc(), &JOINS)
 }
 
-// A folder without recordings has no chunk.
+/// A folder without recordings has no chunk.
 static NO_FILES: Play = Play {
     files: &[],
     faults: &[],
@@ -90,8 +90,8 @@ fn an_empty_folder_is_refused(rt: HostRuntime) -> Result<(), Fail> {
     see_play(&rt, rt.alloc(), &NO_FILES)
 }
 
-// Calls of the outside that fail, and what is left. If the second part can't be created, the first one is whole and
-// was finished, so that the next output that is finished is the second.
+/// Calls of the outside that fail, and what is left. If the second part can't be created, the first one is whole and
+/// was finished, so that the next output that is finished is the second.
 #[rattlefmt::skip]
 static FAULTS: [Play; 4] = [
     Play {

@@ -17,7 +17,7 @@ pub(crate) fn steady_place(alloc: Global, recording: &[u8]) -> Result<SteadyPlac
     Ok(place)
 }
 
-// Puts a file.
+/// Puts a file.
 fn put_file(
     place: &mut MemoryPlace,
     alloc: Global,
@@ -28,7 +28,7 @@ fn put_file(
     place.put(name, &bytes)
 }
 
-// Puts files.
+/// Puts files.
 fn put_files(
     place: &mut MemoryPlace,
     alloc: Global,

@@ -17,7 +17,7 @@ pub(crate) struct Play {
     pub(crate) left: &'static [(&'static str, Option<Content>)],
 }
 
-// Makes calls fail.
+/// Makes calls fail.
 fn make_fail(place: &mut MemoryPlace, faults: &[(Call, u64, usize)]) -> Result<(), NoMemory> {
     for (call, nth, keep) in faults {
         place.fail(*call, *nth, *keep)?;
@@ -25,7 +25,7 @@ fn make_fail(place: &mut MemoryPlace, faults: &[(Call, u64, usize)]) -> Result<(
     Ok(())
 }
 
-// Compares a file.
+/// Compares a file.
 fn see_file(
     rt: &impl Abort,
     alloc: Global,
@@ -38,7 +38,7 @@ fn see_file(
     Ok(())
 }
 
-// Compares files.
+/// Compares files.
 fn see_files(
     rt: &impl Abort,
     alloc: Global,
@@ -54,7 +54,7 @@ fn see_files(
     Ok(())
 }
 
-// Does what is done over a place.
+/// Does what is done over a place.
 fn see_play_in(
     rt: &impl Abort,
     alloc: Global,

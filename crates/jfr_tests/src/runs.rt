@@ -11,7 +11,7 @@ pub(crate) type Said<'s> = (&'s [&'s str], u8, &'s str, &'s str);
 /// The scrub of a.jfr to b.jfr.
 pub(crate) const SCRUB: &[&str] = &["scrub", "a.jfr", "b.jfr"];
 
-// Adds words.
+/// Adds words.
 fn push_words(words: &mut Words, line: &[&str]) -> Result<(), NoMemory> {
     for word in line {
         words.push(word)?;
@@ -38,7 +38,7 @@ pub(crate) fn status_of<P: Place, O: Sink, E: Sink>(
     run(alloc, words, place, out, err)
 }
 
-// Compares a status and what both streams have.
+/// Compares a status and what both streams have.
 fn see_answer(rt: &impl Abort, (line, status, text, fault): Said<'_>, found: (u8, &[u8], &[u8])) {
     let expected = (status, text.as_bytes(), fault.as_bytes());
     assert_eq!(rt; found, expected, "{line:?}");

@@ -13,7 +13,7 @@ use std::alloc::Global;
 use std::process::Abort;
 use std::test::Fail;
 
-// Two chunks come out as they are, however reads are cut.
+/// Two chunks come out as they are, however reads are cut.
 #[test]
 fn plain_chunks_stay(rt: HostRuntime) -> Result<(), Fail> {
     let bytes = bytes_of(rt.alloc(), TWO_PLAIN)?;
@@ -23,7 +23,7 @@ fn plain_chunks_stay(rt: HostRuntime) -> Result<(), Fail> {
     Ok(())
 }
 
-// Over a steady place too.
+/// Over a steady place too.
 #[test]
 fn plain_chunks_stay_over_a_steady_place(rt: HostRuntime) -> Result<(), Fail> {
     let bytes = bytes_of(rt.alloc(), TWO_PLAIN)?;
@@ -31,7 +31,7 @@ fn plain_chunks_stay_over_a_steady_place(rt: HostRuntime) -> Result<(), Fail> {
     run_steadily(&rt, rt.alloc(), &bytes, usize::MAX, said, &bytes)
 }
 
-// Records that belong to nothing go.
+/// Records that belong to nothing go.
 static WITHOUT_INERT: [Scrub; 1] = [(SCRUB, (&[INERT], &[]), 0, "", ONE_PLAIN)];
 
 #[test]
@@ -39,7 +39,7 @@ fn inert_records_go(rt: HostRuntime) -> Result<(), Fail> {
     see_scrubs(&rt, rt.alloc(), &WITHOUT_INERT)
 }
 
-// Bytes of the plain chunk are changed, and it is refused for the first flaw.
+/// Bytes of the plain chunk are changed, and it is refused for the first flaw.
 #[rattlefmt::skip]
 static CHANGED: [Refused; 17] = [
     ((&[Plain], &[(0, 0x47)]), "chunk 1 offset 0: Magic\n"),
@@ -66,7 +66,7 @@ fn changed_chunks_are_refused(rt: HostRuntime) -> Result<(), Fail> {
     see_refused(&rt, rt.alloc(), &CHANGED)
 }
 
-// Metadata records with trees of 16 and of 17 levels, each after its strings.
+/// Metadata records with trees of 16 and of 17 levels, each after its strings.
 const SIXTEEN_LEVELS: &[u8] = &[
     0x46, 0, 0, 0, 1, 2, 3, 4, 0x72, 0x6F, 0x6F, 0x74, 3, 8, 0x6D, 0x65, 0x74, 0x61, 0x64, 0x61,
     0x74, 0x61, 1, 0, 1, 1, 0, 1, 1, 0, 1, 1, 0, 1, 1, 0, 1, 1, 0, 1, 1, 0, 1, 1, 0, 1, 1, 0, 1, 1,
@@ -79,11 +79,11 @@ const SEVENTEEN_LEVELS: &[u8] = &[
     0, 1, 1, 0, 1, 1, 0, 1, 1, 0, 1, 1, 0, 1, 1, 0, 1, 1, 0, 1, 1, 0, 0,
 ];
 
-// The plain chunk made of its records.
+/// The plain chunk made of its records.
 const OF_RECORDS: Content = (&[Chunk(&[NO_CLASSES, NO_POOLS], 96, 68)], &[]);
 
-// Records of the plain chunk are its own, and it stays, or others, and it is refused for the first flaw: checkpoints
-// that end too early and too late, and a tree that is too deep.
+/// Records of the plain chunk are its own, and it stays, or others, and it is refused for the first flaw: checkpoints
+/// that end too early and too late, and a tree that is too deep.
 #[rattlefmt::skip]
 static OTHER_RECORDS: [Scrub; 4] = [
     (SCRUB, OF_RECORDS, 0, "", OF_RECORDS),
@@ -97,7 +97,7 @@ fn other_records_are_refused(rt: HostRuntime) -> Result<(), Fail> {
     see_scrubs(&rt, rt.alloc(), &OTHER_RECORDS)
 }
 
-// The tree of 16 levels without the text that it doesn't use.
+/// The tree of 16 levels without the text that it doesn't use.
 const SIXTEEN_LEVELS_SLIM: &[u8] = &[
     0xC4, 0x80, 0x80, 0x80, 0, 0, 0, 0, 1, 1, 3, 8, 0x6D, 0x65, 0x74, 0x61, 0x64, 0x61, 0x74, 0x61,
     0, 0, 1, 0, 0, 1, 0, 0, 1, 0, 0, 1, 0, 0, 1, 0, 0, 1, 0, 0, 1, 0, 0, 1, 0, 0, 1, 0, 0, 1, 0, 0,
@@ -114,7 +114,7 @@ fn sixteen_levels_are_scrubbed(rt: HostRuntime) -> Result<(), Fail> {
     see_scrubs(&rt, rt.alloc(), &SIXTEEN)
 }
 
-// A recording that ends early is refused at its end, and the chunks before stay.
+/// A recording that ends early is refused at its end, and the chunks before stay.
 #[rattlefmt::skip]
 static CUT: [Scrub; 5] = [
     (SCRUB, EMPTY, 2, "chunk 1 offset 0: NoChunk\n", EMPTY),
@@ -129,14 +129,14 @@ fn cut_recordings_are_refused(rt: HostRuntime) -> Result<(), Fail> {
     see_scrubs(&rt, rt.alloc(), &CUT)
 }
 
-// A recording of two chunks.
+/// A recording of two chunks.
 const RECORDING: &[(&str, Content)] = &[("a.jfr", TWO_PLAIN)];
 
 const READ_FAULT: &[Said<'static>] = &[(SCRUB, 3, "", "read fault\n")];
 
 const WRITE_FAULT: &[Said<'static>] = &[(SCRUB, 4, "", "write fault\n")];
 
-// Calls of the outside that fail, an input that isn't there, and an output that is there already.
+/// Calls of the outside that fail, an input that isn't there, and an output that is there already.
 #[rattlefmt::skip]
 static FAULTS: [Play; 7] = [
     Play { files: RECORDING, faults: &[(Call::Open, 1, 10)], commands: READ_FAULT, left: &[("b.jfr", None)] },
@@ -153,20 +153,20 @@ fn faults_are_reported(rt: HostRuntime) -> Result<(), Fail> {
     see_plays(&rt, rt.alloc(), &FAULTS)
 }
 
-// A recording, how many bytes a read gives at most, which read fails, and what is said.
+/// A recording, how many bytes a read gives at most, which read fails, and what is said.
 type Failing = (Content, usize, u64, Said<'static>);
 
-// The plain chunk as a file.
+/// The plain chunk as a file.
 static PLAIN_FILE: [(&str, Content); 1] = [("a.jfr", ONE_PLAIN)];
 
-// A read fails in mid-header, and where the header was refused already.
+/// A read fails in mid-header, and where the header was refused already.
 #[rattlefmt::skip]
 static IN_HEADER: [Failing; 2] = [
     (ONE_PLAIN, 40, 2, (SCRUB, 3, "", "read fault\n")),
     ((&[Plain], &[(0, 0x47)]), 34, 3, (SCRUB, 2, "", "chunk 1 offset 0: Magic\n")),
 ];
 
-// Makes a read fail, and compares what is said; the output is empty.
+/// Makes a read fail, and compares what is said; the output is empty.
 fn see_failing_in(
     rt: &impl Abort,
     alloc: Global,
@@ -178,18 +178,18 @@ fn see_failing_in(
     see_output(rt, alloc, place, said, &[])
 }
 
-// Does so over a place with the recording.
+/// Does so over a place with the recording.
 fn see_failing(rt: &impl Abort, alloc: Global, failing: Failing) -> Result<(), Fail> {
     let mut place = place_of(alloc, &[("a.jfr", failing.0)])?;
     see_failing_in(rt, alloc, &mut place, failing)
 }
 
-// Creates an output, which stays open.
+/// Creates an output, which stays open.
 fn open_output(place: &mut MemoryPlace) -> bool {
     place.create_output("c.jfr").is_ok()
 }
 
-// An output is open already.
+/// An output is open already.
 fn see_open_output(rt: &impl Abort, alloc: Global, place: &mut MemoryPlace) -> Result<(), Fail> {
     assert!(rt; open_output(place));
     say_all(rt, alloc, place, WRITE_FAULT)?;
@@ -209,8 +209,8 @@ fn the_first_event_decides(rt: HostRuntime) -> Result<(), Fail> {
 const USAGE: &str =
     "usage: jfr print|summary|metadata|scrub|disassemble|assemble|sample|receipt|verify|build|stacks\n";
 
-// Every other list of words is a usage fault, and nothing is asked of the place: calls that would fail do so
-// after it.
+/// Every other list of words is a usage fault, and nothing is asked of the place: calls that would fail do so
+/// after it.
 static OTHER_WORDS: [&[&str]; 21] = [
     &[],
     &["--help"],
@@ -243,14 +243,14 @@ static OTHER_WORDS: [&[&str]; 21] = [
     &["scrub", "--include-events", "A", "a.jfr", "b.jfr", "c.jfr"],
 ];
 
-// What a place says then whose next open and whose next create fail.
+/// What a place says then whose next open and whose next create fail.
 static NEXT: [Said<'static>; 2] = [
     (SCRUB, 3, "", "read fault\n"),
     (SCRUB, 4, "", "write fault\n"),
 ];
 
-// Makes the next open and the next create fail, runs a command that is a usage fault, and compares that both are still
-// to fail.
+/// Makes the next open and the next create fail, runs a command that is a usage fault, and compares that both are still
+/// to fail.
 fn misuse(
     rt: &impl Abort,
     alloc: Global,
@@ -276,7 +276,7 @@ fn other_words_are_a_usage_fault(rt: HostRuntime) -> Result<(), Fail> {
     Ok(())
 }
 
-// Options in any order, whatever their values are.
+/// Options in any order, whatever their values are.
 static OPTIONS: [&[&str]; 4] = [
     &["scrub", "--include-events", "A,B", "a.jfr", "b.jfr"],
     &["scrub", "--exclude-categories", "-", "a.jfr", "b.jfr"],
@@ -308,7 +308,7 @@ static OPTIONS: [&[&str]; 4] = [
     ],
 ];
 
-// Their input isn't there.
+/// Their input isn't there.
 fn see_options(rt: &impl Abort, alloc: Global, line: &[&str]) -> Result<(), Fail> {
     let mut place = SteadyPlace::new(alloc);
     says_steadily(rt, alloc, &mut place, (line, 3, "", "read fault\n"))

@@ -4,8 +4,8 @@ use crate::contents::{Content, OF_RINGS};
 use crate::plays::{Play, see_play};
 use std::test::Fail;
 
-// A chunk like the JDK's by itself, twice, with characters that are escaped in the method's name `wait`, and before a
-// chunk that is refused; and a chunk whose events have no stacks.
+/// A chunk like the JDK's by itself, twice, with characters that are escaped in the method's name `wait`, and before a
+/// chunk that is refused; and a chunk whose events have no stacks.
 #[rattlefmt::skip]
 const FILES: &[(&str, Content)] = &[
     ("jdk.jfr", (&[JdkLike], &[])),

@@ -4,10 +4,10 @@ use std::alloc::Global;
 use std::process::Abort;
 use std::test::Fail;
 
-// A text, the length of its chunk, and the last bytes.
+/// A text, the length of its chunk, and the last bytes.
 type Row = (&'static str, usize, &'static [u8]);
 
-// Events of a class with one field, and the checkpoint without pools.
+/// Events of a class with one field, and the checkpoint without pools.
 const EVENTS: [Row; 6] = [
     ("", 111, b"\x8b\x80\x80\x80\x00\x01\x00\x00\x00\x00\x00"),
     (
@@ -37,7 +37,7 @@ const EVENTS: [Row; 6] = [
     ),
 ];
 
-// Constants of each kind, in the checkpoint.
+/// Constants of each kind, in the checkpoint.
 const CONSTANTS: [Row; 10] = [
     (
         "class 7 x\nconstant 7 1\nconstant 7 1\n",
@@ -91,15 +91,15 @@ const CONSTANTS: [Row; 10] = [
     ),
 ];
 
-// Strings of an event: a text with a space, null, the empty text and a key.
+/// Strings of an event: a text with a space, null, the empty text and a key.
 const STRINGS: &str =
     "class 6 java.lang.String\nevent 8 t.A\nfield n 6 -\nrecord 8 \"a\\u0020b\"\nrecord 8 null\nrecord 8 \"\"\nrecord 8 #7\n";
 
-// Their records.
+/// Their records.
 const STRING_EVENTS: &[u8] =
     b"\x8b\x80\x80\x80\x00\x08\x03\x03\x61\x20\x62\x87\x80\x80\x80\x00\x08\x00\x87\x80\x80\x80\x00\x08\x01\x88\x80\x80\x80\x00\x08\x02\x07\x8b\x80\x80\x80\x00\x01\x00\x00\x00\x00\x00";
 
-// Texts with a region: the end of the strings, the tree, and what follows.
+/// Texts with a region: the end of the strings, the tree, and what follows.
 const REGIONS: [Row; 3] = [
     (
         "region en 3600000\nclass 5 long\nevent 8 t.A\nfield n 5 -\nrecord 8 300",
@@ -120,7 +120,7 @@ const REGIONS: [Row; 3] = [
     ),
 ];
 
-// Compares the chunk of a text with its length and its last bytes.
+/// Compares the chunk of a text with its length and its last bytes.
 fn compare(rt: &impl Abort, alloc: Global, row: Row) -> Result<(), Fail> {
     let (text, len, end) = row;
     let chunk = build(alloc, text.as_bytes()).ok().ok_or("refused")?;

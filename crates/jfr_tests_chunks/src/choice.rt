@@ -8,7 +8,7 @@ use std::alloc::Global;
 use std::process::Abort;
 use std::test::Fail;
 
-// Which of the events of the chunk that is like the JDK's are kept.
+/// Which of the events of the chunk that is like the JDK's are kept.
 const PARK: &[bool] = &[true, false, false];
 
 const ENTER: &[bool] = &[false, true, false];
@@ -21,7 +21,7 @@ const ENTER_AND_LOAD: &[bool] = &[false, true, true];
 
 const NONE: &[bool] = &[false, false, false];
 
-// Gives an option to a filter that lacks it.
+/// Gives an option to a filter that lacks it.
 fn give(filter: &mut Filter, side: Side, list: &str) -> Result<(), Fail> {
     if filter.has(side) {
         Err("the option is given already")?;
@@ -37,7 +37,7 @@ pub(crate) fn filter_of(alloc: Global, side: Side, list: &str) -> Result<Filter,
     Ok(filter)
 }
 
-// Whether these are the flags of all events.
+/// Whether these are the flags of all events.
 fn has_flags(kept: &Kept, flags: &[bool]) -> bool {
     for (number, flag) in flags.iter().enumerate() {
         if kept.get(number) != Some(*flag) {
@@ -47,10 +47,10 @@ fn has_flags(kept: &Kept, flags: &[bool]) -> bool {
     kept.len() == flags.len()
 }
 
-// An option, its list, and the events that it keeps.
+/// An option, its list, and the events that it keeps.
 type Choice = (Side, &'static str, &'static [bool]);
 
-// Compares which events of a chunk an option keeps.
+/// Compares which events of a chunk an option keeps.
 fn compare_choice(
     rt: &impl Abort,
     alloc: Global,
@@ -63,7 +63,7 @@ fn compare_choice(
     Ok(())
 }
 
-// By class, by the name in force of the thread, and by category.
+/// By class, by the name in force of the thread, and by category.
 const CHOICES: [Choice; 8] = [
     (Side::IncludeEvents, "ThreadPark", PARK),
     (Side::ExcludeEvents, "jdk.*Park,CPULoad", ENTER),
@@ -75,7 +75,7 @@ const CHOICES: [Choice; 8] = [
     (Side::ExcludeCategories, "Processor", PARK_AND_ENTER),
 ];
 
-// Compares which events of a chunk each option keeps.
+/// Compares which events of a chunk each option keeps.
 fn compare_choices(rt: &impl Abort, alloc: Global, chunk: &Chunk<'_>) -> Result<(), Fail> {
     for choice in CHOICES.iter() {
         compare_choice(rt, alloc, chunk, *choice)?;
@@ -91,7 +91,7 @@ fn events_are_chosen(rt: HostRuntime) -> Result<(), Fail> {
     })
 }
 
-// A kind of Java name, a list of threads, and the events that it keeps.
+/// A kind of Java name, a list of threads, and the events that it keeps.
 type Threads = (u8, &'static str, &'static [bool]);
 
 const THREADS: [Threads; 7] = [
@@ -104,8 +104,8 @@ const THREADS: [Threads; 7] = [
     (1, "*", PARK_AND_ENTER),
 ];
 
-// Compares which events a list of threads keeps of the chunk whose thread of key 2 has the system name `w`
-// and a Java name of this kind.
+/// Compares which events a list of threads keeps of the chunk whose thread of key 2 has the system name `w`
+/// and a Java name of this kind.
 fn compare_threads(
     rt: &impl Abort,
     alloc: Global,
@@ -117,7 +117,7 @@ fn compare_threads(
     })
 }
 
-// A thread without a Java name goes by its system name. The empty text is a name.
+/// A thread without a Java name goes by its system name. The empty text is a name.
 #[test]
 fn threads_go_by_their_system_names(rt: HostRuntime) -> Result<(), Fail> {
     for threads in THREADS.iter() {

@@ -7,28 +7,28 @@ use std::alloc::Global;
 use std::process::Abort;
 use std::test::Fail;
 
-// The name of a class and its categories.
+/// The name of a class and its categories.
 type Named = (&'static str, &'static [&'static str]);
 
-// The last classes of the chunk that is like the JDK's.
+/// The last classes of the chunk that is like the JDK's.
 const LAST_CLASSES: [Named; 3] = [
     ("jdk.ThreadPark", &["Java Application"]),
     ("jdk.JavaMonitorEnter", &["Java Application"]),
     ("jdk.CPULoad", &["Operating System", "Processor"]),
 ];
 
-// The name of a class.
+/// The name of a class.
 fn name_of<'c>(chunk: &'c Chunk<'_>, names: &ClassNames) -> Option<&'c str> {
     chunk.strings().get(names.name as usize)
 }
 
-// The category of a class with this number, from 0.
+/// The category of a class with this number, from 0.
 fn category<'c>(chunk: &'c Chunk<'_>, names: &ClassNames, number: usize) -> Option<&'c str> {
     let index = names.categories.get(number)?;
     chunk.strings().get(*index as usize)
 }
 
-// Compares the texts of the strings that name a class.
+/// Compares the texts of the strings that name a class.
 fn compare_names(
     rt: &impl Abort,
     chunk: &Chunk<'_>,
@@ -42,7 +42,7 @@ fn compare_names(
     }
 }
 
-// Compares those of the last classes.
+/// Compares those of the last classes.
 fn compare_last(rt: &impl Abort, chunk: &Chunk<'_>, names: &[ClassNames]) -> Result<(), Fail> {
     let first = names.len().saturating_sub(LAST_CLASSES.len());
     for (number, named) in LAST_CLASSES.iter().enumerate() {
@@ -54,7 +54,7 @@ fn compare_last(rt: &impl Abort, chunk: &Chunk<'_>, names: &[ClassNames]) -> Res
     Ok(())
 }
 
-// Each class of a chunk has its names.
+/// Each class of a chunk has its names.
 fn compare_all(rt: &impl Abort, alloc: Global, chunk: &Chunk<'_>) -> Result<(), Fail> {
     let names = chunk.class_names(alloc)?;
     assert_eq!(rt; names.len(), chunk.classes().len());

@@ -18,7 +18,7 @@ use std::test::Fail;
 // recording from any place, here from one in memory (jfr_system has one over files), and each function
 // calls the ones after it.
 
-// The Java names of the threads of a recording's events, in order. The recording is the place's open input.
+/// The Java names of the threads of a recording's events, in order. The recording is the place's open input.
 fn thread_names<P: Place>(alloc: Global, place: &mut P) -> Result<Words, Ending> {
     let names = field_names(alloc)?;
     let mut texts = Words::new(alloc);
@@ -26,7 +26,7 @@ fn thread_names<P: Place>(alloc: Global, place: &mut P) -> Result<Words, Ending>
     Ok(texts)
 }
 
-// Reads each chunk of a recording, and adds the texts to which the names lead from its events.
+/// Reads each chunk of a recording, and adds the texts to which the names lead from its events.
 fn read_chunks<P: Place>(
     alloc: Global,
     place: &mut P,
@@ -49,7 +49,7 @@ fn read_chunks<P: Place>(
     }
 }
 
-// The names of the fields that lead from an event to the Java name of its thread.
+/// The names of the fields that lead from an event to the Java name of its thread.
 fn field_names(alloc: Global) -> Result<Words, NoMemory> {
     let mut names = Words::new(alloc);
     names.push("eventThread")?;
@@ -57,7 +57,7 @@ fn field_names(alloc: Global) -> Result<Words, NoMemory> {
     Ok(names)
 }
 
-// Reads a chunk, and adds the texts of its events.
+/// Reads a chunk, and adds the texts of its events.
 fn read_chunk(
     alloc: Global,
     bytes: &[u8],
@@ -70,7 +70,7 @@ fn read_chunk(
     add_texts(alloc, &chunk, names, texts)
 }
 
-// Adds the text to which the names lead from each event that has one.
+/// Adds the text to which the names lead from each event that has one.
 fn add_texts(
     alloc: Global,
     chunk: &Chunk<'_>,
@@ -83,7 +83,7 @@ fn add_texts(
     Ok(())
 }
 
-// Adds the text of an event, if it has one.
+/// Adds the text of an event, if it has one.
 fn add_text(
     alloc: Global,
     chunk: &Chunk<'_>,
@@ -99,30 +99,30 @@ fn add_text(
     Ok(())
 }
 
-// Adds a chunk twice.
+/// Adds a chunk twice.
 fn push_twice(bytes: &mut Vec<u8>, chunk: &[u8]) -> Result<(), AllocError> {
     bytes.extend_from_slice(chunk)?;
     bytes.extend_from_slice(chunk)
 }
 
-// A recording of two chunks, the same chunk twice.
+/// A recording of two chunks, the same chunk twice.
 fn two_chunks(alloc: Global) -> Result<Vec<u8>, AllocError> {
     let mut bytes = Vec::new(alloc);
     push_twice(&mut bytes, &jdk_like(alloc)?)?;
     Ok(bytes)
 }
 
-// The names of the threads of the two chunks. The last of a chunk's three events has no thread.
+/// The names of the threads of the two chunks. The last of a chunk's three events has no thread.
 const THREADS: &[&str] = &["main", "worker-renamed", "main", "worker-renamed"];
 
-// Puts a recording into a place, and opens it.
+/// Puts a recording into a place, and opens it.
 fn open_recording(place: &mut MemoryPlace, recording: &[u8]) -> Result<(), Fail> {
     place.put("a.jfr", recording)?;
     place.open_input("a.jfr")?;
     Ok(())
 }
 
-// Compares the names of threads of the recording that is open.
+/// Compares the names of threads of the recording that is open.
 fn compare_thread_names(
     rt: &impl Abort,
     alloc: Global,
@@ -140,7 +140,7 @@ fn a_program_reads_names_of_threads(rt: HostRuntime) -> Result<(), Fail> {
     compare_thread_names(&rt, rt.alloc(), &mut place)
 }
 
-// Compares words with these.
+/// Compares words with these.
 fn compare_words(rt: &impl Abort, words: &Words, expected: &[&str]) {
     assert_eq!(rt; words.len(), expected.len());
     for (number, word) in expected.iter().enumerate() {
@@ -150,7 +150,7 @@ fn compare_words(rt: &impl Abort, words: &Words, expected: &[&str]) {
 
 // Fields of constants, from events.
 
-// An event, its field, a field of the constant to which that refers, and the bytes that are found.
+/// An event, its field, a field of the constant to which that refers, and the bytes that are found.
 type Row = (usize, usize, usize, Option<&'static [u8]>);
 
 #[rattlefmt::skip]
@@ -163,7 +163,7 @@ static ROWS: [Row; 6] = [
     (2, 0, 0, None),
 ];
 
-// Compares what is found for a row.
+/// Compares what is found for a row.
 fn compare(rt: &impl Abort, chunk: &Chunk<'_>, row: &Row) {
     let (event, field, part, expected) = *row;
     match constant_field(chunk, event, field, part) {
@@ -172,7 +172,7 @@ fn compare(rt: &impl Abort, chunk: &Chunk<'_>, row: &Row) {
     }
 }
 
-// Compares what is found for each row.
+/// Compares what is found for each row.
 fn compare_all(rt: &impl Abort, chunk: &Chunk<'_>) -> Result<(), Fail> {
     for row in ROWS.iter() {
         compare(rt, chunk, row);
@@ -188,7 +188,7 @@ fn fields_of_constants_are_found(rt: HostRuntime) -> Result<(), Fail> {
 
 // Texts of all events.
 
-// Compares the texts to which names lead from the events of a chunk.
+/// Compares the texts to which names lead from the events of a chunk.
 fn compare_texts_in(
     rt: &impl Abort,
     alloc: Global,
@@ -202,15 +202,15 @@ fn compare_texts_in(
     Ok(())
 }
 
-// Records, names, and the texts to which they lead from the events.
+/// Records, names, and the texts to which they lead from the events.
 type Texts = (
     &'static [u8],
     &'static [&'static str],
     &'static [&'static str],
 );
 
-// Events from which names lead to no text have none: a field that isn't there, and a string that is no text in
-// the end.
+/// Events from which names lead to no text have none: a field that isn't there, and a string that is no text in
+/// the end.
 const TEXTS: [Texts; 4] = [
     (RINGS, &["node", "text"], &["p", "r"]),
     (RINGS, &["node", "next", "text"], &["q", "s"]),
@@ -218,7 +218,7 @@ const TEXTS: [Texts; 4] = [
     (KEYS, &["node", "text"], &["x"]),
 ];
 
-// Compares them in the chunk of the records.
+/// Compares them in the chunk of the records.
 fn compare_texts(
     rt: &impl Abort,
     alloc: Global,

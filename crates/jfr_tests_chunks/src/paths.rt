@@ -9,7 +9,7 @@ use std::alloc::Global;
 use std::process::Abort;
 use std::test::Fail;
 
-// Adds steps to a path.
+/// Adds steps to a path.
 fn push_steps(path: &mut Path, steps: &[Step]) -> Result<(), NoMemory> {
     for step in steps {
         path.push(*step)?;
@@ -17,14 +17,14 @@ fn push_steps(path: &mut Path, steps: &[Step]) -> Result<(), NoMemory> {
     Ok(())
 }
 
-// The path of these steps.
+/// The path of these steps.
 fn path_of(alloc: Global, steps: &[Step]) -> Result<Path, NoMemory> {
     let mut path = Path::new(alloc);
     push_steps(&mut path, steps)?;
     Ok(path)
 }
 
-// Where a path leads from the fields of the first event.
+/// Where a path leads from the fields of the first event.
 fn place_at(
     alloc: Global,
     chunk: &Chunk<'_>,
@@ -39,7 +39,7 @@ fn place_at(
     }
 }
 
-// A reference of the first event, and from node to node of its ring.
+/// A reference of the first event, and from node to node of its ring.
 const NODE: Step = Step::Field(1);
 
 const NEXT: Step = Step::Field(0);
@@ -48,20 +48,20 @@ const TEXT: Step = Step::Field(1);
 
 const FOLLOW: Step = Step::Follow;
 
-// Around a ring of two nodes.
+/// Around a ring of two nodes.
 const SECOND: &[Step] = &[NODE, FOLLOW, NEXT, FOLLOW];
 
 const BACK_TO_THE_FIRST: &[Step] = &[NODE, FOLLOW, NEXT, FOLLOW, NEXT, FOLLOW];
 
-// Through a string that is a key, and around a ring of them.
+/// Through a string that is a key, and around a ring of them.
 const KEY: &[Step] = &[NODE, FOLLOW, TEXT, FOLLOW];
 
 const KEY_OF_A_KEY: &[Step] = &[NODE, FOLLOW, TEXT, FOLLOW, FOLLOW, FOLLOW];
 
-// Steps, and where they lead.
+/// Steps, and where they lead.
 type Led = (&'static [Step], Option<(usize, usize)>);
 
-// Compares where a path leads.
+/// Compares where a path leads.
 fn compare_path(
     rt: &impl Abort,
     alloc: Global,
@@ -72,7 +72,7 @@ fn compare_path(
     Ok(())
 }
 
-// Compares where paths lead in a chunk.
+/// Compares where paths lead in a chunk.
 fn compare_paths_in(
     rt: &impl Abort,
     alloc: Global,
@@ -85,7 +85,7 @@ fn compare_paths_in(
     Ok(())
 }
 
-// Compares where paths lead in the chunk of these records.
+/// Compares where paths lead in the chunk of these records.
 fn compare_paths(
     rt: &impl Abort,
     alloc: Global,
@@ -99,7 +99,7 @@ fn compare_paths(
     })
 }
 
-// Through fields and constants, around a ring and back to where it began.
+/// Through fields and constants, around a ring and back to where it began.
 const AROUND_A_RING: [Led; 5] = [
     (&[], Some((327, 330))),
     (&[NODE], Some((329, 330))),
@@ -108,7 +108,7 @@ const AROUND_A_RING: [Led; 5] = [
     (BACK_TO_THE_FIRST, Some((343, 347))),
 ];
 
-// Where there is no such field, item or constant.
+/// Where there is no such field, item or constant.
 const NOWHERE: [Led; 5] = [
     (&[FOLLOW], None),
     (&[Step::Field(2)], None),
@@ -117,14 +117,14 @@ const NOWHERE: [Led; 5] = [
     (&[NODE, FOLLOW, TEXT, FOLLOW], None),
 ];
 
-// In the chunk of rings, paths lead around a ring, or nowhere.
+/// In the chunk of rings, paths lead around a ring, or nowhere.
 #[test]
 fn paths_lead_around_a_ring(rt: HostRuntime) -> Result<(), Fail> {
     compare_paths(&rt, rt.alloc(), RINGS, 333, &AROUND_A_RING)?;
     compare_paths(&rt, rt.alloc(), RINGS, 333, &NOWHERE)
 }
 
-// Through strings that are keys, also of themselves.
+/// Through strings that are keys, also of themselves.
 const THROUGH_STRINGS: [Led; 4] = [
     (&[NODE, FOLLOW, TEXT], Some((341, 343))),
     (KEY, Some((346, 348))),
@@ -132,13 +132,13 @@ const THROUGH_STRINGS: [Led; 4] = [
     (&[NODE, FOLLOW, NEXT, FOLLOW], None),
 ];
 
-// In the chunk of strings, paths lead through strings.
+/// In the chunk of strings, paths lead through strings.
 #[test]
 fn paths_lead_through_strings(rt: HostRuntime) -> Result<(), Fail> {
     compare_paths(&rt, rt.alloc(), STRINGS, 330, &THROUGH_STRINGS)
 }
 
-// Adds names to words.
+/// Adds names to words.
 fn push_names(words: &mut Words, names: &[&str]) -> Result<(), NoMemory> {
     for name in names {
         words.push(name)?;
@@ -153,7 +153,7 @@ pub(crate) fn words_of(alloc: Global, names: &[&str]) -> Result<Words, NoMemory>
     Ok(words)
 }
 
-// The text to which names lead from an event.
+/// The text to which names lead from an event.
 fn text_of(
     alloc: Global,
     chunk: &Chunk<'_>,
@@ -165,10 +165,10 @@ fn text_of(
     Ok(named(alloc, chunk, &event, &words)?)
 }
 
-// The number of an event, names, and the text to which they lead from it.
+/// The number of an event, names, and the text to which they lead from it.
 type Named = (usize, &'static [&'static str], Option<&'static str>);
 
-// Compares a text to which names lead.
+/// Compares a text to which names lead.
 fn compare_text(
     rt: &impl Abort,
     alloc: Global,
@@ -180,7 +180,7 @@ fn compare_text(
     Ok(())
 }
 
-// Compares the texts to which names lead in a chunk.
+/// Compares the texts to which names lead in a chunk.
 fn compare_texts_in(
     rt: &impl Abort,
     alloc: Global,
@@ -193,7 +193,7 @@ fn compare_texts_in(
     Ok(())
 }
 
-// Compares the texts to which names lead in the chunk of these records.
+/// Compares the texts to which names lead in the chunk of these records.
 fn compare_texts(
     rt: &impl Abort,
     alloc: Global,
@@ -206,8 +206,8 @@ fn compare_texts(
     compare_texts_in(rt, alloc, &chunk, texts)
 }
 
-// Names lead through references to texts, and through strings that are keys. A string that is no text
-// in the end, and a field that isn't there, have none.
+/// Names lead through references to texts, and through strings that are keys. A string that is no text
+/// in the end, and a field that isn't there, have none.
 const OF_RINGS: &[Named] = &[
     (0, &["node", "text"], Some("p")),
     (0, &["node", "next", "text"], Some("q")),

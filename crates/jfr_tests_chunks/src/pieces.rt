@@ -12,7 +12,7 @@ use std::alloc::Global;
 use std::process::Abort;
 use std::test::Fail;
 
-// The bytes of a piece.
+/// The bytes of a piece.
 fn bytes_of<'s>(scrubber: &'s Scrubber<'_>, number: usize) -> Option<&'s [u8]> {
     match scrubber.piece(number)? {
         Piece::Copied { bytes, .. } => Some(bytes),
@@ -20,14 +20,14 @@ fn bytes_of<'s>(scrubber: &'s Scrubber<'_>, number: usize) -> Option<&'s [u8]> {
     }
 }
 
-// Adds a piece.
+/// Adds a piece.
 fn push_piece(bytes: &mut Vec<u8>, scrubber: &Scrubber<'_>, number: usize) -> Result<(), Fail> {
     let piece = bytes_of(scrubber, number).ok_or("no such piece")?;
     bytes.extend_from_slice(piece)?;
     Ok(())
 }
 
-// Adds the pieces.
+/// Adds the pieces.
 fn push_pieces(bytes: &mut Vec<u8>, scrubber: &Scrubber<'_>) -> Result<(), Fail> {
     for number in 0..scrubber.piece_count() {
         push_piece(bytes, scrubber, number)?;
@@ -35,7 +35,7 @@ fn push_pieces(bytes: &mut Vec<u8>, scrubber: &Scrubber<'_>) -> Result<(), Fail>
     Ok(())
 }
 
-// Compares the pieces joined.
+/// Compares the pieces joined.
 fn compare_joined(
     rt: &impl Abort,
     alloc: Global,
@@ -48,7 +48,7 @@ fn compare_joined(
     Ok(())
 }
 
-// Compares what is made of a chunk, before and after it is written.
+/// Compares what is made of a chunk, before and after it is written.
 fn compare_pieces(
     rt: &impl Abort,
     alloc: Global,
@@ -65,7 +65,7 @@ fn compare_pieces(
     Ok(())
 }
 
-// Compares what a chunk becomes without a filter.
+/// Compares what a chunk becomes without a filter.
 fn compare_chunk(
     rt: &impl Abort,
     alloc: Global,
@@ -78,7 +78,7 @@ fn compare_chunk(
     compare_pieces(rt, alloc, &mut scrubber, expected, kept)
 }
 
-// Reads a chunk, and compares what it becomes.
+/// Reads a chunk, and compares what it becomes.
 fn compare_scrub(
     rt: &impl Abort,
     alloc: Global,
@@ -91,8 +91,8 @@ fn compare_scrub(
     })
 }
 
-// Records, and the metadata record and records that are left of them, each with the place of the last
-// checkpoint; and how many events and entries are kept.
+/// Records, and the metadata record and records that are left of them, each with the place of the last
+/// checkpoint; and how many events and entries are kept.
 type Left = (
     (&'static [u8], u64),
     (&'static [u8], &'static [u8], u64),
@@ -111,7 +111,7 @@ const LEFT: [Left; 5] = [
     ((WIDE, 352), (CLASSES_OF_A, WIDE_SCRUBBED, 322), (1, 1)),
 ];
 
-// Compares what is left of records.
+/// Compares what is left of records.
 fn compare_left(rt: &impl Abort, alloc: Global, left: &Left) -> Result<(), Fail> {
     let ((records, last), (metadata, scrubbed, scrubbed_last), kept) = *left;
     let bytes = with_classes(alloc, records, last)?;
@@ -119,15 +119,15 @@ fn compare_left(rt: &impl Abort, alloc: Global, left: &Left) -> Result<(), Fail>
     compare_scrub(rt, alloc, &bytes, &expected, kept)
 }
 
-// A chunk of two checkpoints without pools stays as it is.
+/// A chunk of two checkpoints without pools stays as it is.
 fn compare_chained(rt: &impl Abort, alloc: Global) -> Result<(), Fail> {
     let (records, last) = CHAINED;
     let bytes = chunk_of(alloc, records, last, 68)?;
     compare_scrub(rt, alloc, &bytes, &bytes, (0, 0))
 }
 
-// Without a filter a chunk keeps its events and what they reach, without the descriptions of event classes
-// that have no events, and nothing else. Inert records go.
+/// Without a filter a chunk keeps its events and what they reach, without the descriptions of event classes
+/// that have no events, and nothing else. Inert records go.
 #[test]
 fn chunks_become_what_is_reached(rt: HostRuntime) -> Result<(), Fail> {
     for left in LEFT.iter() {
@@ -137,7 +137,7 @@ fn chunks_become_what_is_reached(rt: HostRuntime) -> Result<(), Fail> {
     compare_chained(&rt, rt.alloc())
 }
 
-// The bytes of a range of the chunk, where one piece copies the whole of it.
+/// The bytes of a range of the chunk, where one piece copies the whole of it.
 fn copied<'a>(scrubber: &Scrubber<'a>, from: usize, to: usize) -> Option<&'a [u8]> {
     for number in 0..scrubber.piece_count() {
         if let Some(Piece::Copied { at, bytes }) = scrubber.piece(number) {
@@ -150,7 +150,7 @@ fn copied<'a>(scrubber: &Scrubber<'a>, from: usize, to: usize) -> Option<&'a [u8
     None
 }
 
-// Compares what one piece copies of a range.
+/// Compares what one piece copies of a range.
 fn compare_copied(
     rt: &impl Abort,
     alloc: Global,
@@ -164,7 +164,7 @@ fn compare_copied(
     Ok(())
 }
 
-// Compares what is copied of the two events of a chunk, of which the filter keeps the first.
+/// Compares what is copied of the two events of a chunk, of which the filter keeps the first.
 fn compare_events(
     rt: &impl Abort,
     alloc: Global,
@@ -176,7 +176,7 @@ fn compare_events(
     compare_copied(rt, alloc, chunk, filter, (330, 333), None)
 }
 
-// A kept event lies in one piece that is copied from its place, and one that goes in none.
+/// A kept event lies in one piece that is copied from its place, and one that goes in none.
 fn compare_first_event(rt: &impl Abort, alloc: Global, chunk: &Chunk<'_>) -> Result<(), Fail> {
     let filter = filter_of(alloc, Side::IncludeEvents, "t.A")?;
     compare_events(rt, alloc, chunk, &filter)

@@ -13,7 +13,7 @@ use std::process::Abort;
 use std::sync::ledger::{Blank, Ledger};
 use std::test::Fail;
 
-// Keeps the events of these flags.
+/// Keeps the events of these flags.
 fn set_flags(kept: &mut Kept, flags: &[bool]) {
     for (number, flag) in flags.iter().enumerate() {
         if number < kept.len() {
@@ -22,7 +22,7 @@ fn set_flags(kept: &mut Kept, flags: &[bool]) {
     }
 }
 
-// The events of these flags are kept.
+/// The events of these flags are kept.
 fn kept_by(alloc: Global, chunk: &Chunk<'_>, flags: &[bool]) -> Result<Kept, Fail>
     ensures { IfOk result (λ kept. length kept ≡ length (events_of chunk.now)) }
 {
@@ -34,7 +34,7 @@ fn kept_by(alloc: Global, chunk: &Chunk<'_>, flags: &[bool]) -> Result<Kept, Fai
     Ok(kept)
 }
 
-// Which entries the events of these flags reach.
+/// Which entries the events of these flags reach.
 fn marks_of<L: Ledger>(
     alloc: Global,
     blank: Blank,
@@ -53,7 +53,7 @@ fn marks_of<L: Ledger>(
     Ok(marks)
 }
 
-// Compares which entries the events of these flags reach.
+/// Compares which entries the events of these flags reach.
 fn compare_marks(
     rt: &impl Abort,
     alloc: Global,
@@ -69,10 +69,10 @@ fn compare_marks(
     Ok(())
 }
 
-// Records, the place of their last checkpoint, which events are kept, and which entries they reach.
+/// Records, the place of their last checkpoint, which events are kept, and which entries they reach.
 type Reached = (&'static [u8], u64, &'static [bool], &'static [bool]);
 
-// Compares which entries events reach in the chunk of these records.
+/// Compares which entries events reach in the chunk of these records.
 fn compare_reached(
     rt: &impl Abort,
     alloc: Global,
@@ -84,8 +84,8 @@ fn compare_reached(
     })
 }
 
-// An event reaches its own ring and no other, through strings too. Of two entries of a key it reaches
-// the last.
+/// An event reaches its own ring and no other, through strings too. Of two entries of a key it reaches
+/// the last.
 const REACHED: [Reached; 6] = [
     (RINGS, 333, &[true, false], &[true, true, false, false]),
     (RINGS, 333, &[false, true], &[false, false, true, true]),

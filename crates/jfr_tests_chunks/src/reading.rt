@@ -33,16 +33,16 @@ pub(crate) fn with_chunk<F: FnOnce(&Chunk<'_>) -> Result<(), Fail> + Drop>(
 /// The records of a chunk, and the place of its last checkpoint.
 pub(crate) type Records = (&'static [&'static [u8]], u64);
 
-// The plain chunk.
+/// The plain chunk.
 const PLAIN: Records = (&[NO_CLASSES, NO_POOLS], 96);
 
-// Two events, and the nodes to which they refer.
+/// Two events, and the nodes to which they refer.
 const EVENTS_AND_NODES: Records = (&[CLASSES, RINGS], 333);
 
-// Only the events.
+/// Only the events.
 const EVENTS: Records = (&[CLASSES, NO_NODES], 333);
 
-// A checkpoint that refers to the one before.
+/// A checkpoint that refers to the one before.
 const OLDER: &[u8] = &[
     15, 1, 0, 0, 0xf9, 0xff, 0xff, 0xff, 0xff, 0xff, 0xff, 0xff, 0xff, 0, 0,
 ];
@@ -50,7 +50,7 @@ const OLDER: &[u8] = &[
 /// The plain chunk with it.
 pub(crate) const CHAINED: Records = (&[NO_CLASSES, NO_POOLS, OLDER], 103);
 
-// How many events, chained checkpoints, entries and inert records a chunk has.
+/// How many events, chained checkpoints, entries and inert records a chunk has.
 type Counts = (usize, usize, usize, u64);
 
 fn counts_of(chunk: &Chunk<'_>) -> Counts {
@@ -62,7 +62,7 @@ fn counts_of(chunk: &Chunk<'_>) -> Counts {
     )
 }
 
-// Compares how many a chunk has.
+/// Compares how many a chunk has.
 fn compare_counts(
     rt: &impl Abort,
     alloc: Global,
@@ -75,7 +75,7 @@ fn compare_counts(
     })
 }
 
-// Compares how many the chunk of these records has.
+/// Compares how many the chunk of these records has.
 fn compare_counted(
     rt: &impl Abort,
     alloc: Global,
@@ -101,7 +101,7 @@ fn counts_what_a_chunk_has(rt: HostRuntime) -> Result<(), Fail> {
     compare_counts(&rt, rt.alloc(), &inert(rt.alloc())?, (0, 1, 0, 3))
 }
 
-// Compares the second of two events, whose last field isn't the end of its record.
+/// Compares the second of two events, whose last field isn't the end of its record.
 fn compare_last_event(rt: &impl Abort, chunk: &Chunk<'_>) -> Result<(), Fail> {
     assert_eq!(rt; chunk.event_count(), 2);
     let event = chunk.event(1).ok_or("no second event")?;
@@ -124,7 +124,7 @@ fn events_end_with_their_last_field(rt: HostRuntime) -> Result<(), Fail> {
     with_chunk(rt.alloc(), &bytes, |chunk| compare_last_event(&rt, chunk))
 }
 
-// The places of bytes and what they become, and the flaw.
+/// The places of bytes and what they become, and the flaw.
 type Edit = (&'static [(usize, u8)], u64, Reason);
 
 const EDITS_OF_PLAIN: [Edit; 14] = [
@@ -168,17 +168,17 @@ const EDITED: [(Records, &[Edit]); 3] = [
     (EVENTS, &EDITS_OF_EVENTS),
 ];
 
-// The fault of a flaw.
+/// The fault of a flaw.
 fn flawed(offset: u64, reason: Reason) -> Option<ReadFault> {
     Some(ReadFault::Flawed(Flaw { offset, reason }))
 }
 
-// Compares why a chunk isn't read. If it is, there is no fault.
+/// Compares why a chunk isn't read. If it is, there is no fault.
 fn compare_fault(rt: &impl Abort, alloc: Global, bytes: &[u8], fault: Option<ReadFault>) {
     assert_eq!(rt; read(alloc, bytes).err(), fault);
 }
 
-// Edits some bytes.
+/// Edits some bytes.
 fn edit(bytes: &mut [u8], edits: &[(usize, u8)]) {
     for (at, byte) in edits {
         if let Some(edited) = bytes.get_mut(*at) {
@@ -187,7 +187,7 @@ fn edit(bytes: &mut [u8], edits: &[(usize, u8)]) {
     }
 }
 
-// Compares the flaw of a chunk with some bytes edited.
+/// Compares the flaw of a chunk with some bytes edited.
 fn compare_edit(
     rt: &impl Abort,
     alloc: Global,
@@ -200,7 +200,7 @@ fn compare_edit(
     Ok(())
 }
 
-// Compares the flaw of each edit of a chunk.
+/// Compares the flaw of each edit of a chunk.
 fn compare_edits(
     rt: &impl Abort,
     alloc: Global,
@@ -221,7 +221,7 @@ fn the_first_flaw_is_reported(rt: HostRuntime) -> Result<(), Fail> {
     Ok(())
 }
 
-// Compares the flaw of the plain chunk with another checkpoint.
+/// Compares the flaw of the plain chunk with another checkpoint.
 fn compare_checkpoint(
     rt: &impl Abort,
     alloc: Global,
@@ -241,7 +241,7 @@ fn checkpoints_end_with_their_last_pool(rt: HostRuntime) -> Result<(), Fail> {
     compare_checkpoint(&rt, rt.alloc(), byte_left, 103, Reason::Trailing)
 }
 
-// Adds elements, each of which is a child of the one before.
+/// Adds elements, each of which is a child of the one before.
 fn push_levels(metadata: &mut Vec<u8>, levels: u8) -> Result<(), AllocError> {
     for _ in 1..levels {
         metadata.extend_from_slice(&[1, 0, 1])?;
@@ -249,7 +249,7 @@ fn push_levels(metadata: &mut Vec<u8>, levels: u8) -> Result<(), AllocError> {
     metadata.extend_from_slice(&[1, 0, 0])
 }
 
-// A chunk whose elements are this many levels deep.
+/// A chunk whose elements are this many levels deep.
 fn chunk_of_levels(alloc: Global, levels: u8) -> Result<Vec<u8>, AllocError> {
     let (head, _) = NO_CLASSES.split_at(22);
     let mut metadata = Vec::from_slice(alloc, head)?;
@@ -260,7 +260,7 @@ fn chunk_of_levels(alloc: Global, levels: u8) -> Result<Vec<u8>, AllocError> {
     plain_with(alloc, &metadata, NO_POOLS)
 }
 
-// Compares why it isn't read.
+/// Compares why it isn't read.
 fn compare_levels(
     rt: &impl Abort,
     alloc: Global,

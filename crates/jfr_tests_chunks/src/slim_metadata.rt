@@ -8,7 +8,7 @@ use std::alloc::Global;
 use std::process::Abort;
 use std::test::Fail;
 
-// The set of these ids.
+/// The set of these ids.
 fn ids_of(alloc: Global, members: &[u64]) -> Result<Ids, NoMemory> {
     let mut ids = Ids::new(alloc);
     for id in members {
@@ -17,7 +17,7 @@ fn ids_of(alloc: Global, members: &[u64]) -> Result<Ids, NoMemory> {
     Ok(ids)
 }
 
-// The metadata record of a chunk where these event classes are used, if there is room for it.
+/// The metadata record of a chunk where these event classes are used, if there is room for it.
 fn slimmed(
     alloc: Global,
     chunk: &Chunk<'_>,
@@ -30,7 +30,7 @@ fn slimmed(
     slim(alloc, metadata, &stay, room)
 }
 
-// The event classes that are used, how much room there is, and the record.
+/// The event classes that are used, how much room there is, and the record.
 type Row = (&'static [u64], usize, Option<&'static [u8]>);
 
 const ROWS: [Row; 6] = [
@@ -42,7 +42,7 @@ const ROWS: [Row; 6] = [
     (&[8, 9], 257, None),
 ];
 
-// Compares the record.
+/// Compares the record.
 fn compare_slim(
     rt: &impl Abort,
     alloc: Global,
@@ -54,7 +54,7 @@ fn compare_slim(
     Ok(())
 }
 
-// Compares each record.
+/// Compares each record.
 fn compare_all(rt: &impl Abort, alloc: Global, chunk: &Chunk<'_>) -> Result<(), Fail> {
     for row in ROWS.iter() {
         compare_slim(rt, alloc, chunk, *row)?;
@@ -62,7 +62,7 @@ fn compare_all(rt: &impl Abort, alloc: Global, chunk: &Chunk<'_>) -> Result<(), 
     Ok(())
 }
 
-// They are those of the chunk of rings.
+/// They are those of the chunk of rings.
 #[test]
 fn event_classes_that_are_not_used_go(rt: HostRuntime) -> Result<(), Fail> {
     let bytes = with_classes(rt.alloc(), RINGS, 333)?;

@@ -9,44 +9,44 @@ use std::alloc::Global;
 use std::process::Abort;
 use std::test::Fail;
 
-// A tick for each nanosecond, from 1000 on: the events 0, 1 and 2 start at 1100, and event 0 ends at 1150; event 7
-// is at 850. The others have no start that counts.
+/// A tick for each nanosecond, from 1000 on: the events 0, 1 and 2 start at 1100, and event 0 ends at 1150; event 7
+/// is at 850. The others have no start that counts.
 const USUAL: Clock = Clock {
     nanos: 1000,
     ticks: 100,
     rate: 1_000_000_000,
 };
 
-// The ticks stand still.
+/// The ticks stand still.
 const STILL: Clock = Clock {
     nanos: 1000,
     ticks: 100,
     rate: 0,
 };
 
-// The ticks run backwards.
+/// The ticks run backwards.
 const BACKWARDS: Clock = Clock {
     nanos: 1000,
     ticks: 100,
     rate: -1_000_000_000,
 };
 
-// Three ticks in a second: the events 0, 1 and 2 start at 66 seconds and two thirds, and event 0 ends at 83 seconds
-// and a third; event 7 is at minus 16 seconds and two thirds.
+/// Three ticks in a second: the events 0, 1 and 2 start at 66 seconds and two thirds, and event 0 ends at 83 seconds
+/// and a third; event 7 is at minus 16 seconds and two thirds.
 const THIRDS: Clock = Clock {
     nanos: 0,
     ticks: 0,
     rate: 3,
 };
 
-// The earliest start of a chunk, and the most ticks in a second.
+/// The earliest start of a chunk, and the most ticks in a second.
 const FIRST: Clock = Clock {
     nanos: i64::MIN,
     ticks: i64::MIN,
     rate: i64::MAX,
 };
 
-// The latest start.
+/// The latest start.
 const LAST: Clock = Clock {
     nanos: i64::MAX,
     ticks: i64::MAX,
@@ -59,7 +59,7 @@ const TIMED: &[usize] = &[0, 1, 2, 7];
 
 const NONE: &[usize] = &[];
 
-// A clock, the first moment of a window and the first one after it, and which events are kept.
+/// A clock, the first moment of a window and the first one after it, and which events are kept.
 type Row = (Clock, Option<i64>, Option<i64>, &'static [usize]);
 
 static WINDOWS: [Row; 39] = [
@@ -104,7 +104,7 @@ static WINDOWS: [Row; 39] = [
     (LAST, None, Some(i64::MAX), TIMED),
 ];
 
-// Whether the events with these numbers are kept, and no others.
+/// Whether the events with these numbers are kept, and no others.
 fn are_kept(kept: &Kept, numbers: &[usize]) -> bool {
     for number in 0..kept.len() {
         if kept.get(number) != Some(numbers.contains(&number)) {
@@ -114,7 +114,7 @@ fn are_kept(kept: &Kept, numbers: &[usize]) -> bool {
     kept.len() == ALL.len()
 }
 
-// Sets the window of a filter.
+/// Sets the window of a filter.
 fn set_window(filter: &mut Filter, from: Option<i64>, to: Option<i64>) {
     if let Some(from) = from {
         filter.set_from(from);
@@ -124,7 +124,7 @@ fn set_window(filter: &mut Filter, from: Option<i64>, to: Option<i64>) {
     }
 }
 
-// Compares which events of a chunk a filter keeps.
+/// Compares which events of a chunk a filter keeps.
 fn compare_kept(
     rt: &impl Abort,
     alloc: Global,
@@ -142,7 +142,7 @@ fn compare_kept(
     Ok(())
 }
 
-// Compares which events of the chunk with a clock a filter keeps.
+/// Compares which events of the chunk with a clock a filter keeps.
 fn compare_filter(
     rt: &impl Abort,
     alloc: Global,
@@ -156,7 +156,7 @@ fn compare_filter(
     })
 }
 
-// Compares which events a window keeps.
+/// Compares which events a window keeps.
 fn compare_window(
     rt: &impl Abort,
     alloc: Global,
@@ -175,7 +175,7 @@ fn windows_keep_events(rt: HostRuntime) -> Result<(), Fail> {
     Ok(())
 }
 
-// An option and its list, a window over a clock, and which events are kept.
+/// An option and its list, a window over a clock, and which events are kept.
 type WithOption = (Side, &'static str, Row);
 
 static OPTIONS: [WithOption; 14] = [
@@ -219,7 +219,7 @@ static OPTIONS: [WithOption; 14] = [
     ),
 ];
 
-// Compares which events a window and another option keep.
+/// Compares which events a window and another option keep.
 fn compare_option(
     rt: &impl Abort,
     alloc: Global,

@@ -2,7 +2,7 @@
 use jfr_base::{Short, Var, read_var, signed, var_len, write_in, write_var};
 use std::process::Abort;
 
-// The bytes of an integer, and what is read.
+/// The bytes of an integer, and what is read.
 type Read = (&'static [u8], Result<Var, Short>);
 
 static READS: [Read; 6] = [
@@ -32,12 +32,12 @@ static READS: [Read; 6] = [
     (&[0x80], Err(Short)),
 ];
 
-// What is read of the bytes.
+/// What is read of the bytes.
 fn read_of(bytes: &[u8]) -> Result<Var, Short> {
     read_var(bytes, 0)
 }
 
-// Compares what is read.
+/// Compares what is read.
 fn see_read(rt: &impl Abort, (bytes, read): &Read) {
     assert!(rt; read_of(bytes) == *read, "of {bytes:?}");
 }

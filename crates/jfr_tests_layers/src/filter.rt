@@ -248,7 +248,7 @@ fn categories(rt: HostRuntime) -> Result<(), Fail> {
     see_cases(&rt, rt.alloc(), &BY_CATEGORY)
 }
 
-// An event without a thread is neither included by its thread nor excluded.
+/// An event without a thread is neither included by its thread nor excluded.
 static BY_THREAD: [Case; 2] = [
     (
         &[(Side::IncludeThreads, "worker*")],

@@ -14,7 +14,7 @@ use std::alloc::{AllocError, Global};
 use std::process::Abort;
 use std::test::Fail;
 
-// The place of a byte of the record, what it becomes, and the flaw.
+/// The place of a byte of the record, what it becomes, and the flaw.
 type Edit = (usize, u8, u64, Reason);
 
 static EDITS_OF_NO_CLASSES: [Edit; 4] = [
@@ -34,7 +34,7 @@ static EDITS_OF_CLASSES: [Edit; 7] = [
     (204, 8, 191, Reason::InlineDeep),
 ];
 
-// The metadata of a record by itself.
+/// The metadata of a record by itself.
 fn read(alloc: Global, record: &[u8]) -> Result<Metadata, ReadFault> {
     match next_record(record, 0)? {
         Some(frame) => read_metadata(alloc, record, &frame),
@@ -42,7 +42,7 @@ fn read(alloc: Global, record: &[u8]) -> Result<Metadata, ReadFault> {
     }
 }
 
-// Edits a byte.
+/// Edits a byte.
 fn edit(bytes: &mut [u8], at: usize, byte: u8) {
     if let Some(edited) = bytes.get_mut(at) {
         *edited = byte;
@@ -53,25 +53,25 @@ fn flawed(offset: u64, reason: Reason) -> Option<ReadFault> {
     Some(ReadFault::Flawed(Flaw { offset, reason }))
 }
 
-// Compares why a record is refused. If it is read, there is no fault.
+/// Compares why a record is refused. If it is read, there is no fault.
 fn see_fault(rt: &impl Abort, alloc: Global, record: &[u8], fault: Option<ReadFault>) {
     assert_eq!(rt; read(alloc, record).err(), fault);
 }
 
-// The metadata of a chunk without classes.
+/// The metadata of a chunk without classes.
 fn see_no_classes(rt: &impl Abort, none: &Metadata) {
     let numbers = (none.start, none.duration, none.id, none.classes.len());
     assert_eq!(rt; numbers, (0, 0, 1, 0));
     assert_eq!(rt; none.root.children().len(), 1);
 }
 
-// Its strings.
+/// Its strings.
 fn see_strings(rt: &impl Abort, strings: &Words) {
     assert!(rt; strings.get(0) == Some("root"));
     assert!(rt; strings.get(1) == Some("metadata"));
 }
 
-// Reads both.
+/// Reads both.
 fn read_no_classes(rt: &impl Abort, alloc: Global, record: &[u8]) -> Result<(), Fail> {
     let none = read(alloc, record)?;
     see_no_classes(rt, &none);
@@ -84,7 +84,7 @@ fn reads_no_classes(rt: HostRuntime) -> Result<(), Fail> {
     read_no_classes(&rt, rt.alloc(), NO_CLASSES)
 }
 
-// The metadata of five classes.
+/// The metadata of five classes.
 fn see_classes(rt: &impl Abort, some: &Metadata) {
     assert_eq!(rt; (some.strings.len(), some.classes.len()), (24, 5));
     assert_eq!(rt; some.classes.field_named(8, "node"), Some(1));
@@ -102,7 +102,7 @@ fn reads_classes(rt: HostRuntime) -> Result<(), Fail> {
     read_classes(&rt, rt.alloc())
 }
 
-// Compares the flaw of an edit of a record.
+/// Compares the flaw of an edit of a record.
 fn see_edit(
     rt: &impl Abort,
     alloc: Global,
@@ -115,7 +115,7 @@ fn see_edit(
     Ok(())
 }
 
-// Compares the flaw of each edit of a record.
+/// Compares the flaw of each edit of a record.
 fn see_edits(rt: &impl Abort, alloc: Global, record: &[u8], edits: &[Edit]) -> Result<(), Fail> {
     for edit in edits {
         see_edit(rt, alloc, record, *edit)?;
@@ -129,7 +129,7 @@ fn flaws_of_edited_records_are_reported(rt: HostRuntime) -> Result<(), Fail> {
     see_edits(&rt, rt.alloc(), CLASSES, &EDITS_OF_CLASSES)
 }
 
-// Adds elements, each of which is a child of the one before.
+/// Adds elements, each of which is a child of the one before.
 fn push_levels(bytes: &mut Vec<u8>, levels: u8) -> Result<(), AllocError> {
     for _ in 1..levels {
         bytes.extend_from_slice(&[1, 0, 1])?;
@@ -137,7 +137,7 @@ fn push_levels(bytes: &mut Vec<u8>, levels: u8) -> Result<(), AllocError> {
     bytes.extend_from_slice(&[1, 0, 0])
 }
 
-// A record with this many levels of elements.
+/// A record with this many levels of elements.
 fn record_of_levels(alloc: Global, levels: u8) -> Result<Vec<u8>, AllocError> {
     let (head, _) = NO_CLASSES.split_at(22);
     let mut bytes = Vec::from_slice(alloc, head)?;
@@ -146,7 +146,7 @@ fn record_of_levels(alloc: Global, levels: u8) -> Result<Vec<u8>, AllocError> {
     Ok(bytes)
 }
 
-// Compares why a record with this many levels is refused, if it is.
+/// Compares why a record with this many levels is refused, if it is.
 fn see_levels(
     rt: &impl Abort,
     alloc: Global,
@@ -164,7 +164,7 @@ fn sixteen_levels_are_read(rt: HostRuntime) -> Result<(), Fail> {
     see_levels(&rt, rt.alloc(), 17, flawed(70, Reason::TreeDeep))
 }
 
-// The record of a chunk without classes as it is written: its size takes five bytes.
+/// The record of a chunk without classes as it is written: its size takes five bytes.
 #[rattlefmt::skip]
 static WRITTEN: [u8; 32] = [
     0xA0, 0x80, 0x80, 0x80, 0, 0, 0, 0, 1, 2, // 32 bytes, a metadata record with 2 texts
@@ -174,7 +174,7 @@ static WRITTEN: [u8; 32] = [
     1, 0, 0,                                  //   metadata
 ];
 
-// The tree of that record.
+/// The tree of that record.
 fn elements(alloc: Global) -> Result<Element, NoMemory>
     ensures { IfOk result (λ root. root ≡ two_elements) }
 {
@@ -183,8 +183,8 @@ fn elements(alloc: Global) -> Result<Element, NoMemory>
     Ok(Element::new(0, 0, Pairs::new(alloc), children))
 }
 
-// Compares the record of these strings and this tree. Its length is known before, without the number of
-// strings.
+/// Compares the record of these strings and this tree. Its length is known before, without the number of
+/// strings.
 fn see_written(rt: &impl Abort, alloc: Global, strings: &Words, root: &Element) -> Result<(), Fail>
     requires { root.now ≡ two_elements }
 {
@@ -195,7 +195,7 @@ fn see_written(rt: &impl Abort, alloc: Global, strings: &Words, root: &Element) 
     Ok(())
 }
 
-// Compares the record of these strings.
+/// Compares the record of these strings.
 fn see_record(rt: &impl Abort, alloc: Global, strings: &Words) -> Result<(), Fail> {
     let root = elements(alloc)?;
     see_written(rt, alloc, strings, &root)

@@ -9,7 +9,7 @@ use std::alloc::Global;
 use std::process::Abort;
 use std::test::Fail;
 
-// The chunk of rings, if the texts of its nodes are masked: every text has another number.
+/// The chunk of rings, if the texts of its nodes are masked: every text has another number.
 #[rattlefmt::skip]
 static MASKED: &[u8] = &[
     5, 8, 0xAC, 2, 1,                                         // t.A: 300, node 1
@@ -22,7 +22,7 @@ static MASKED: &[u8] = &[
     4, 3, 3, 8, b'm', b'a', b's', b'k', b'e', b'd', b'-', b'4', // 4: next 3, masked-4
 ];
 
-// If no field matches, only the size of the checkpoint gets five bytes.
+/// If no field matches, only the size of the checkpoint gets five bytes.
 #[rattlefmt::skip]
 static SAME: &[u8] = &[
     5, 8, 0xAC, 2, 1,                            // t.A: 300, node 1
@@ -35,7 +35,7 @@ static SAME: &[u8] = &[
     4, 3, 3, 1, 0x73,                            // 4: next 3, s
 ];
 
-// Reads a whole chunk.
+/// Reads a whole chunk.
 fn read<'a>(alloc: Global, bytes: &'a [u8]) -> Result<Chunk<'a>, ReadFault> {
     if !is_cut(bytes) {
         return Err(ReadFault::Memory);
@@ -43,7 +43,7 @@ fn read<'a>(alloc: Global, bytes: &'a [u8]) -> Result<Chunk<'a>, ReadFault> {
     Chunk::read(alloc, bytes)
 }
 
-// Masks a chunk of which all events are kept, and compares it.
+/// Masks a chunk of which all events are kept, and compares it.
 fn compare_chunk(
     rt: &impl Abort,
     alloc: Global,
@@ -58,7 +58,7 @@ fn compare_chunk(
     Ok(())
 }
 
-// Masks the chunk of rings twice with these patterns. The dictionary goes on, so the second time gives the same.
+/// Masks the chunk of rings twice with these patterns. The dictionary goes on, so the second time gives the same.
 fn compare_rings(
     rt: &impl Abort,
     alloc: Global,

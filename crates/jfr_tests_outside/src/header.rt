@@ -8,21 +8,21 @@ use std::alloc::{AllocError, Global};
 use std::process::Abort;
 use std::test::Fail;
 
-// Adds the plain chunk with this first byte, and the plain chunk.
+/// Adds the plain chunk with this first byte, and the plain chunk.
 fn push_two(bytes: &mut Vec<u8>, first: u8) -> Result<(), AllocError> {
     bytes.push(first)?;
     bytes.extend_from_slice(&PLAIN[1..])?;
     bytes.extend_from_slice(&PLAIN)
 }
 
-// The bytes of both.
+/// The bytes of both.
 fn two_chunks(alloc: Global, first: u8) -> Result<Vec<u8>, AllocError> {
     let mut bytes = Vec::new(alloc);
     push_two(&mut bytes, first)?;
     Ok(bytes)
 }
 
-// A place with a file of both, of which each read takes at most `size` bytes.
+/// A place with a file of both, of which each read takes at most `size` bytes.
 fn place_of_two(
     alloc: Global,
     first: u8,
@@ -33,7 +33,7 @@ fn place_of_two(
     place_of(alloc, &bytes, size, script)
 }
 
-// The number of the next chunk, or the answer if none comes. The cutter must be open.
+/// The number of the next chunk, or the answer if none comes. The cutter must be open.
 fn next(rt: &impl Abort, cutter: &mut ChunkCutter, place: &mut MemoryPlace) -> Result<u64, Cut> {
     assert!(rt; cutter.is_open());
     match cutter.next(place) {
@@ -42,13 +42,13 @@ fn next(rt: &impl Abort, cutter: &mut ChunkCutter, place: &mut MemoryPlace) -> R
     }
 }
 
-// Takes the plain chunk.
+/// Takes the plain chunk.
 fn take_plain(rt: &impl Abort, cutter: &mut ChunkCutter, place: &mut MemoryPlace, number: u64) {
     assert_eq!(rt; next(rt, cutter, place), Ok(number));
     assert_eq!(rt; cutter.bytes(), PLAIN.as_slice());
 }
 
-// Takes an answer other than a chunk, after which the cutter isn't open.
+/// Takes an answer other than a chunk, after which the cutter isn't open.
 fn take_last(rt: &impl Abort, cutter: &mut ChunkCutter, place: &mut MemoryPlace, answer: Cut) {
     assert_eq!(rt; next(rt, cutter, place), Err(answer));
     assert!(rt; !cutter.is_open());
@@ -62,7 +62,7 @@ fn refused(chunk: u64, offset: u64, reason: Reason) -> Cut {
     })
 }
 
-// Cuts the file of two plain chunks.
+/// Cuts the file of two plain chunks.
 fn cut_two(rt: &impl Abort, alloc: Global, place: &mut MemoryPlace) -> Result<(), Fail> {
     open(place, "a")?;
     let mut cutter = ChunkCutter::new(alloc, 0, 1);
@@ -72,7 +72,7 @@ fn cut_two(rt: &impl Abort, alloc: Global, place: &mut MemoryPlace) -> Result<()
     Ok(())
 }
 
-// Cuts it by reads of at most `size` bytes.
+/// Cuts it by reads of at most `size` bytes.
 fn cut_by_size(rt: &impl Abort, alloc: Global, size: usize) -> Result<(), Fail> {
     let mut place = place_of_two(alloc, 70, size, None)?;
     cut_two(rt, alloc, &mut place)
@@ -86,7 +86,7 @@ fn two_chunks_are_cut_for_each_size_of_reads(rt: HostRuntime) -> Result<(), Fail
     Ok(())
 }
 
-// Takes the first of two plain chunks. The bytes of the second are left.
+/// Takes the first of two plain chunks. The bytes of the second are left.
 fn cut_first(rt: &impl Abort, alloc: Global, place: &mut MemoryPlace) -> Result<(), Fail> {
     open(place, "a")?;
     let mut cutter = ChunkCutter::new(alloc, 0, 1);
@@ -101,7 +101,7 @@ fn no_byte_after_the_chunk_is_taken(rt: HostRuntime) -> Result<(), Fail> {
     cut_first(&rt, rt.alloc(), &mut place)
 }
 
-// Cuts a file from its start, which gives no chunk.
+/// Cuts a file from its start, which gives no chunk.
 fn cut_none(
     rt: &impl Abort,
     alloc: Global,
@@ -114,7 +114,7 @@ fn cut_none(
     Ok(())
 }
 
-// Cuts two chunks, the first with this byte, by reads of at most 34 bytes, of which the third fails.
+/// Cuts two chunks, the first with this byte, by reads of at most 34 bytes, of which the third fails.
 fn cut_failing(rt: &impl Abort, alloc: Global, first: u8, answer: Cut) -> Result<(), Fail> {
     let mut place = place_of_two(alloc, first, 34, Some((Call::Read, 3, 0)))?;
     cut_none(rt, alloc, &mut place, answer)
@@ -126,14 +126,14 @@ fn a_refused_header_is_taken_whole_before_a_read_fails(rt: HostRuntime) -> Resul
     cut_failing(&rt, rt.alloc(), 70, Cut::Failed)
 }
 
-// A place with the plain chunk in the file a, and the empty file b.
+/// A place with the plain chunk in the file a, and the empty file b.
 fn plain_and_empty(alloc: Global) -> Result<MemoryPlace, NoMemory> {
     let mut place = place_of(alloc, &PLAIN, 103, None)?;
     place.put("b", b"")?;
     Ok(place)
 }
 
-// Cuts the plain chunk, the fifth of its recording.
+/// Cuts the plain chunk, the fifth of its recording.
 fn cut_plain(
     rt: &impl Abort,
     cutter: &mut ChunkCutter,
@@ -145,7 +145,7 @@ fn cut_plain(
     Ok(())
 }
 
-// Cuts a file, which gives no chunk.
+/// Cuts a file, which gives no chunk.
 fn cut_refused(
     rt: &impl Abort,
     cutter: &mut ChunkCutter,
@@ -158,13 +158,13 @@ fn cut_refused(
     Ok(())
 }
 
-// Cuts the plain chunk, which starts right before the limit.
+/// Cuts the plain chunk, which starts right before the limit.
 fn cut_at_latest(rt: &impl Abort, alloc: Global, place: &mut MemoryPlace) -> Result<(), Fail> {
     let mut cutter = ChunkCutter::new(alloc, (1 << 40) - 1, 5);
     cut_plain(rt, &mut cutter, place)
 }
 
-// Cuts a file whose first chunk would start at the limit.
+/// Cuts a file whose first chunk would start at the limit.
 fn cut_too_late(
     rt: &impl Abort,
     alloc: Global,
@@ -176,7 +176,7 @@ fn cut_too_late(
     cut_refused(rt, &mut cutter, place, name, refused(5, 0, reason))
 }
 
-// Cuts the files around the limit.
+/// Cuts the files around the limit.
 fn cut_around(rt: &impl Abort, alloc: Global, place: &mut MemoryPlace) -> Result<(), Fail> {
     cut_too_late(rt, alloc, place, "a", Reason::TooLong)?;
     cut_at_latest(rt, alloc, place)?;
@@ -189,7 +189,7 @@ fn a_chunk_starts_below_2_to_the_40(rt: HostRuntime) -> Result<(), Fail> {
     cut_around(&rt, rt.alloc(), &mut place)
 }
 
-// Cuts a next file, which would begin with the sixth chunk.
+/// Cuts a next file, which would begin with the sixth chunk.
 fn cut_next(
     rt: &impl Abort,
     cutter: &mut ChunkCutter,
@@ -202,7 +202,7 @@ fn cut_next(
     cut_refused(rt, cutter, place, name, refused(6, 0, reason))
 }
 
-// Cuts the plain chunk, and two next files.
+/// Cuts the plain chunk, and two next files.
 fn cut_three(
     rt: &impl Abort,
     cutter: &mut ChunkCutter,
@@ -213,7 +213,7 @@ fn cut_three(
     cut_next(rt, cutter, place, "b", Reason::NoChunk)
 }
 
-// Cuts them so that the second starts at 2^40.
+/// Cuts them so that the second starts at 2^40.
 fn cut_inputs(rt: &impl Abort, alloc: Global, place: &mut MemoryPlace) -> Result<(), Fail> {
     let mut cutter = ChunkCutter::new(alloc, (1 << 40) - 103, 5);
     cut_three(rt, &mut cutter, place)
@@ -225,7 +225,7 @@ fn a_next_input_goes_on_with_numbers_and_starts(rt: HostRuntime) -> Result<(), F
     cut_inputs(&rt, rt.alloc(), &mut place)
 }
 
-// The header of the plain chunk.
+/// The header of the plain chunk.
 const HEADER: Header = Header {
     major: 2,
     minor: 1,
@@ -241,27 +241,27 @@ const HEADER: Header = Header {
     flags: 1,
 };
 
-// Its bytes.
+/// Its bytes.
 fn header_bytes() -> [u8; 68] {
     let mut bytes = [0; 68];
     bytes.copy_from_slice(&PLAIN[..68]);
     bytes
 }
 
-// What is read of these bytes. This function has no clauses, so those that call it are proved without those of
-// `read_header`.
+/// What is read of these bytes. This function has no clauses, so those that call it are proved without those of
+/// `read_header`.
 fn header_of(bytes: &[u8; 68]) -> Result<Header, Flaw> {
     read_header(bytes)
 }
 
-// The bytes of the header as they are written.
+/// The bytes of the header as they are written.
 fn written() -> [u8; 68] {
     let mut bytes = [255; 68];
     write_header(&HEADER, &mut bytes);
     bytes
 }
 
-// The bytes of an unfinished chunk, whose integers aren't compressed.
+/// The bytes of an unfinished chunk, whose integers aren't compressed.
 fn unfinished() -> [u8; 68] {
     let mut bytes = header_bytes();
     bytes[64] = 1;
@@ -269,7 +269,7 @@ fn unfinished() -> [u8; 68] {
     bytes
 }
 
-// An unfinished chunk is refused as such.
+/// An unfinished chunk is refused as such.
 const UNFINISHED: Flaw = Flaw {
     offset: 64,
     reason: Reason::Unfinished,
@@ -291,10 +291,10 @@ fn a_whole_chunk_is_a_cut(rt: HostRuntime) {
     assert!(rt; !is_cut(&PLAIN[..67]));
 }
 
-// The last four bytes of a chunk's size, and what is read of them.
+/// The last four bytes of a chunk's size, and what is read of them.
 type Size = ([u8; 4], Result<u64, Flaw>);
 
-// A size that is refused.
+/// A size that is refused.
 const BAD_SIZE: Result<u64, Flaw> = Err(Flaw {
     offset: 8,
     reason: Reason::ChunkSize,
@@ -307,7 +307,7 @@ static SIZES: [Size; 4] = [
     ([0, 0, 0, 67], BAD_SIZE),
 ];
 
-// The header of the plain chunk with these last four bytes of its size.
+/// The header of the plain chunk with these last four bytes of its size.
 fn size_of(size: &[u8; 4]) -> Result<u64, Flaw> {
     let mut bytes = header_bytes();
     bytes[12..16].copy_from_slice(size);
@@ -315,7 +315,7 @@ fn size_of(size: &[u8; 4]) -> Result<u64, Flaw> {
     Ok(header.size)
 }
 
-// Compares the size that is read.
+/// Compares the size that is read.
 fn see_size(rt: &impl Abort, (bytes, size): &Size) {
     assert_eq!(rt; size_of(bytes), *size, "of {bytes:?}");
 }

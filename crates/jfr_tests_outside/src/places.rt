@@ -18,7 +18,7 @@ pub(crate) fn place_of(
     Ok(place)
 }
 
-// Puts the file, limits the reads, and makes the script's call fail.
+/// Puts the file, limits the reads, and makes the script's call fail.
 fn prepare(
     place: &mut MemoryPlace,
     bytes: &[u8],

@@ -9,7 +9,7 @@ use std::alloc::{AllocError, Global};
 use std::process::Abort;
 use std::test::Fail;
 
-// Makes of each chunk the chunk itself, in two pieces, and refuses every chunk where it is strict.
+/// Makes of each chunk the chunk itself, in two pieces, and refuses every chunk where it is strict.
 #[derive(Drop)]
 struct Copying {
     strict: bool,
@@ -46,12 +46,12 @@ impl Make for Copying {
     }
 }
 
-// Copies the file a to a new file b.
+/// Copies the file a to a new file b.
 fn copy<P: Place>(alloc: Global, place: &mut P, strict: bool) -> Ending {
     make_stream(alloc, place, Copying { strict }, "a", "b")
 }
 
-// Adds this number of plain chunks, and the first `more` bytes of another one.
+/// Adds this number of plain chunks, and the first `more` bytes of another one.
 fn push_chunks(bytes: &mut Vec<u8>, chunks: usize, more: usize) -> Result<(), AllocError> {
     for _ in 0..chunks {
         bytes.extend_from_slice(&PLAIN)?;
@@ -59,14 +59,14 @@ fn push_chunks(bytes: &mut Vec<u8>, chunks: usize, more: usize) -> Result<(), Al
     bytes.extend_from_slice(&PLAIN[..more.min(103)])
 }
 
-// A recording of them.
+/// A recording of them.
 fn recording(alloc: Global, chunks: usize, more: usize) -> Result<Vec<u8>, AllocError> {
     let mut bytes = Vec::new(alloc);
     push_chunks(&mut bytes, chunks, more)?;
     Ok(bytes)
 }
 
-// What is copied, the size of the reads, a script, the answer, and how many bytes the copy has.
+/// What is copied, the size of the reads, a script, the answer, and how many bytes the copy has.
 struct Row {
     chunks: usize,
     more: usize,
@@ -93,7 +93,7 @@ static ROWS: [Row; 13] = [
     Row { chunks: 2, more: 0, size: 999, script: Some((Call::Finish, 1, 0)), answer: Ending::WriteFault, copied: Some(206) },
 ];
 
-// The file b has the first `copied` of these bytes, or doesn't exist.
+/// The file b has the first `copied` of these bytes, or doesn't exist.
 fn see_output(rt: &impl Abort, place: &MemoryPlace, bytes: &[u8], copied: Option<usize>) {
     match copied {
         Some(count) => {
@@ -104,7 +104,7 @@ fn see_output(rt: &impl Abort, place: &MemoryPlace, bytes: &[u8], copied: Option
     }
 }
 
-// Copies these bytes as a row says, and compares the answer and what b has then.
+/// Copies these bytes as a row says, and compares the answer and what b has then.
 fn see_bytes(rt: &impl Abort, alloc: Global, bytes: &[u8], row: &Row) -> Result<(), Fail> {
     let mut place = place_of(alloc, bytes, row.size, row.script)?;
     let answer = copy(alloc, &mut place, false);
@@ -113,7 +113,7 @@ fn see_bytes(rt: &impl Abort, alloc: Global, bytes: &[u8], row: &Row) -> Result<
     Ok(())
 }
 
-// Compares the copy of a row.
+/// Compares the copy of a row.
 fn see_row(rt: &impl Abort, alloc: Global, row: &Row) -> Result<(), Fail> {
     let bytes = recording(alloc, row.chunks, row.more)?;
     see_bytes(rt, alloc, &bytes, row)
@@ -127,7 +127,7 @@ fn copies_by_its_rows(rt: HostRuntime) -> Result<(), Fail> {
     Ok(())
 }
 
-// Copies, and compares the answer and what b has then.
+/// Copies, and compares the answer and what b has then.
 fn see_copy(
     rt: &impl Abort,
     alloc: Global,
@@ -140,7 +140,7 @@ fn see_copy(
     assert_eq!(rt; place.file("b"), copied);
 }
 
-// Copies while the input is missing, another output is open, nothing is amiss, and the file b exists.
+/// Copies while the input is missing, another output is open, nothing is amiss, and the file b exists.
 fn see_copies(rt: &impl Abort, alloc: Global, place: &mut SteadyPlace) -> Result<(), Fail> {
     see_copy(rt, alloc, place, false, Ending::ReadFault, None);
     place.put("a", &PLAIN)?;
@@ -171,7 +171,7 @@ fn copies_over_a_steady_place(rt: HostRuntime) -> Result<(), Fail> {
     see_copies(&rt, rt.alloc(), &mut place)
 }
 
-// The answer to a chunk that a strict copy refuses.
+/// The answer to a chunk that a strict copy refuses.
 const REFUSED: Ending = Ending::Refused(Refusal {
     chunk: 1,
     offset: 100,

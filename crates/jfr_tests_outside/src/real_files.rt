@@ -20,7 +20,7 @@ const GROWING: &str = "jfr_file_place_growing";
 
 const STREAM: &str = "jfr_stream_sink_test";
 
-// Creates the folder anew, with one file and one folder in it.
+/// Creates the folder anew, with one file and one folder in it.
 fn make_folder(rt: &HostRuntime) -> io::Result<()> {
     let _ = fs::remove_dir_all(rt, FOLDER);
     fs::create_dir(rt, FOLDER)?;
@@ -28,7 +28,7 @@ fn make_folder(rt: &HostRuntime) -> io::Result<()> {
     fs::write(rt, "jfr_file_place_folder/a.jfr", b"a")
 }
 
-// Checks that this is the only name in the folder.
+/// Checks that this is the only name in the folder.
 fn one_name<P: Place>(rt: &impl Abort, place: &mut P, alloc: Global, name: &str) {
     match place.list(alloc, FOLDER) {
         Ok(found) => {
@@ -39,7 +39,7 @@ fn one_name<P: Place>(rt: &impl Abort, place: &mut P, alloc: Global, name: &str)
     }
 }
 
-// Checks that the folder doesn't exist.
+/// Checks that the folder doesn't exist.
 fn no_names<P: Place>(rt: &impl Abort, place: &mut P, alloc: Global) {
     match place.list(alloc, FOLDER) {
         Ok(_) => assert!(rt; false),
@@ -47,13 +47,13 @@ fn no_names<P: Place>(rt: &impl Abort, place: &mut P, alloc: Global) {
     }
 }
 
-// Compares what calls say when there is no file and nothing is open.
+/// Compares what calls say when there is no file and nothing is open.
 fn see_nothing<P: Place>(rt: &impl Abort, place: &mut P) {
     assert!(rt; place.open_input(NAME).is_err());
     assert!(rt; place.append(b"a").is_err());
 }
 
-// Writes the file.
+/// Writes the file.
 fn write_file<P: Place>(rt: &impl Abort, place: &mut P, large: &[u8]) {
     assert!(rt; place.create_output(NAME).is_ok());
     assert!(rt; place.append(b"ab").is_ok());
@@ -66,13 +66,13 @@ fn write_file<P: Place>(rt: &impl Abort, place: &mut P, large: &[u8]) {
     assert!(rt; place.finish_output().is_ok());
 }
 
-// Compares what calls say when the output is finished, and the file is there.
+/// Compares what calls say when the output is finished, and the file is there.
 fn see_finished<P: Place>(rt: &impl Abort, place: &mut P) {
     assert!(rt; place.append_pieces(&[b"g".as_slice()]).is_err());
     assert!(rt; place.create_output(NAME).is_err());
 }
 
-// Reads the start of the file.
+/// Reads the start of the file.
 fn read_start<P: Place>(rt: &impl Abort, place: &mut P) {
     let mut front = [0; 5];
     assert!(rt; place.open_input(NAME).is_ok());
@@ -82,7 +82,7 @@ fn read_start<P: Place>(rt: &impl Abort, place: &mut P) {
     assert!(rt; place.read(&mut front).is_err());
 }
 
-// Writes the file, and reads its start.
+/// Writes the file, and reads its start.
 fn write_and_read<P: Place>(rt: &impl Abort, place: &mut P, large: &[u8]) {
     see_nothing(rt, place);
     write_file(rt, place, large);
@@ -114,7 +114,7 @@ fn a_folder_names_its_files(rt: HostRuntime) -> Result<(), Fail> {
     Ok(())
 }
 
-// Opens a file, and checks the first byte that is read.
+/// Opens a file, and checks the first byte that is read.
 fn starts_with<P: Place>(rt: &impl Abort, place: &mut P, name: &str, first: u8) {
     let mut byte = [0; 1];
     assert!(rt; place.open_input(name).is_ok());
@@ -122,7 +122,7 @@ fn starts_with<P: Place>(rt: &impl Abort, place: &mut P, name: &str, first: u8) 
     assert_eq!(rt; byte, [first]);
 }
 
-// Checks that the file isn't there, and that nothing is open after an attempt to open it.
+/// Checks that the file isn't there, and that nothing is open after an attempt to open it.
 fn is_missing<P: Place>(rt: &impl Abort, place: &mut P, name: &str) {
     let mut byte = [0; 1];
     assert!(rt; place.open_input(name).is_err());
@@ -142,7 +142,7 @@ fn a_file_is_opened_while_another_is_open(rt: HostRuntime) -> Result<(), Fail> {
     Ok(())
 }
 
-// Checks all bytes of a file.
+/// Checks all bytes of a file.
 fn contains<R: Files + Alloc + Abort>(rt: &R, name: &str, bytes: &[u8]) -> io::Result<()> {
     let found = fs::read(rt, name)?;
     assert!(rt; found.as_slice() == bytes);

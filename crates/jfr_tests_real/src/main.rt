@@ -12,7 +12,7 @@ use jfr_system::{FilePlace, StreamSink};
 use std::alloc::Global;
 use std::process::ExitCode;
 
-// The commands, in order.
+/// The commands, in order.
 #[rattlefmt::skip]
 static COMMANDS: [&[&str]; 14] = [
     &["print", "--json", "--depth", "4", "jdk17.jfr"],
@@ -31,7 +31,7 @@ static COMMANDS: [&[&str]; 14] = [
     &["verify", "jdk25.jfr", "scrubbed25.jfr", "receipt25"],
 ];
 
-// The words of a command line.
+/// The words of a command line.
 fn words_of(alloc: Global, line: &[&str]) -> Result<Words, NoMemory> {
     let mut words = Words::new(alloc);
     for word in line {
@@ -40,7 +40,7 @@ fn words_of(alloc: Global, line: &[&str]) -> Result<Words, NoMemory> {
     Ok(words)
 }
 
-// Runs a command, and answers its status.
+/// Runs a command, and answers its status.
 fn status_of<P: Place, O: Sink, E: Sink>(
     alloc: Global,
     line: &[&str],
@@ -52,7 +52,7 @@ fn status_of<P: Place, O: Sink, E: Sink>(
     Ok(run(alloc, &words, place, out, err))
 }
 
-// Runs the commands up to the first that fails, and answers the status of the last.
+/// Runs the commands up to the first that fails, and answers the status of the last.
 fn run_all<P: Place, O: Sink, E: Sink>(
     alloc: Global,
     place: &mut P,

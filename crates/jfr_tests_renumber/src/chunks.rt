@@ -9,12 +9,12 @@ use std::alloc::Global;
 use std::process::Abort;
 use std::test::Fail;
 
-// A class, a key that is used, and its new key.
+/// A class, a key that is used, and its new key.
 type Key = (u64, u64, u64);
 
-// Records, with the place of the last checkpoint, and the name of the events that are kept, if not all are; the
-// metadata record and the records of the output, with the place of its last checkpoint; and each class and key
-// that is used, with its new key.
+/// Records, with the place of the last checkpoint, and the name of the events that are kept, if not all are; the
+/// metadata record and the records of the output, with the place of its last checkpoint; and each class and key
+/// that is used, with its new key.
 struct Row {
     records: &'static [u8],
     last: u64,
@@ -129,7 +129,7 @@ static ROWS: [Row; 10] = [
     },
 ];
 
-// Reads a whole chunk.
+/// Reads a whole chunk.
 fn read<'a>(alloc: Global, bytes: &'a [u8]) -> Result<Chunk<'a>, ReadFault> {
     if !is_cut(bytes) {
         return Err(ReadFault::Memory);
@@ -137,7 +137,7 @@ fn read<'a>(alloc: Global, bytes: &'a [u8]) -> Result<Chunk<'a>, ReadFault> {
     Chunk::read(alloc, bytes)
 }
 
-// The filter that keeps the events of this name, or all.
+/// The filter that keeps the events of this name, or all.
 fn filter_of(alloc: Global, events: Option<&str>) -> Result<Filter, FilterFault> {
     let mut filter = Filter::new(alloc);
     if let Some(name) = events {
@@ -146,7 +146,7 @@ fn filter_of(alloc: Global, events: Option<&str>) -> Result<Filter, FilterFault>
     Ok(filter)
 }
 
-// Compares the output of a chunk, and the new keys.
+/// Compares the output of a chunk, and the new keys.
 fn compare_output(rt: &impl Abort, renumberer: &Renumberer, expected: &[u8], keys: &[Key]) {
     assert_eq!(rt; renumberer.bytes(), expected);
     for (class, key, new) in keys {
@@ -155,7 +155,7 @@ fn compare_output(rt: &impl Abort, renumberer: &Renumberer, expected: &[u8], key
     assert_eq!(rt; renumberer.new_key(7, 99), None);
 }
 
-// Makes the output of a chunk, and compares it and the new keys.
+/// Makes the output of a chunk, and compares it and the new keys.
 fn compare_chunk(
     rt: &impl Abort,
     alloc: Global,
@@ -170,7 +170,7 @@ fn compare_chunk(
     Ok(())
 }
 
-// Reads a chunk, and compares its output and the new keys.
+/// Reads a chunk, and compares its output and the new keys.
 fn compare_bytes(
     rt: &impl Abort,
     alloc: Global,
@@ -183,7 +183,7 @@ fn compare_bytes(
     compare_chunk(rt, alloc, &chunk, events, expected, keys)
 }
 
-// Compares the chunk of a row.
+/// Compares the chunk of a row.
 fn compare_row(rt: &impl Abort, alloc: Global, row: &Row) -> Result<(), Fail> {
     let bytes = with_classes(alloc, row.records, row.last)?;
     let expected = with_metadata(alloc, row.metadata, row.renumbered, row.renumbered_last)?;

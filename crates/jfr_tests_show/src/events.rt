@@ -12,7 +12,7 @@ use std::alloc::Global;
 use std::process::Abort;
 use std::test::Fail;
 
-// Adds the text of event `number`.
+/// Adds the text of event `number`.
 fn add_text(
     chunk: &Chunk<'_>,
     number: usize,
@@ -27,7 +27,7 @@ fn add_text(
     }
 }
 
-// Adds the texts of the first two events, one after the other, to a builder that is cleared.
+/// Adds the texts of the first two events, one after the other, to a builder that is cleared.
 fn add_two_texts(chunk: &Chunk<'_>, out: &mut TextBuilder) -> Result<(), NoMemory> {
     out.push_ascii("left")?;
     out.clear();
@@ -35,7 +35,7 @@ fn add_two_texts(chunk: &Chunk<'_>, out: &mut TextBuilder) -> Result<(), NoMemor
     add_text(chunk, 1, 0, out)
 }
 
-// Compares them.
+/// Compares them.
 fn compare_two_texts(rt: &impl Abort, alloc: Global, chunk: &Chunk<'_>) -> Result<(), Fail> {
     let mut out = TextBuilder::new(alloc);
     add_two_texts(chunk, &mut out)?;
@@ -52,7 +52,7 @@ fn events_follow_one_another(rt: HostRuntime) -> Result<(), Fail> {
     })
 }
 
-// The events of the chunk of rings, to the depth 0 and to the depth 2.
+/// The events of the chunk of rings, to the depth 0 and to the depth 2.
 const FLAT_A: &str = "t.A {
   n = 300
   node = t.Node#1

@@ -5,7 +5,7 @@ use crate::shown::{Shown, compare};
 use jfr_fixtures::{RINGS, STRINGS, jdk_like, with_classes};
 use std::test::Fail;
 
-// The events of the chunk of rings.
+/// The events of the chunk of rings.
 const RING_A: &str =
     r#"{"type":"t.A","values":{"n":300,"node":{"next":{"class":"t.Node","key":2},"text":"p"}}}
 "#;

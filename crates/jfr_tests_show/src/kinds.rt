@@ -3,9 +3,9 @@ use jfr_fixtures::Source::{Bytes, Lines, Record};
 use jfr_fixtures::{CLASSES, Element, Metadata, RINGS, Source, assembled, chunk_of};
 use std::alloc::{AllocError, Global};
 
-// A metadata record of the nine base names (10 to 18), the class `t.Place` (19) with the field `x`, and
-// the event class `t.All` (30) with a field of each base name, strings of five kinds, a place, arrays of
-// numbers and of places, one without items, and one of references to places.
+/// A metadata record of the nine base names (10 to 18), the class `t.Place` (19) with the field `x`, and
+/// the event class `t.All` (30) with a field of each base name, strings of five kinds, a place, arrays of
+/// numbers and of places, one without items, and one of references to places.
 const KINDS: Source = Record(Metadata {
     width: 4,
     texts: &[],
@@ -47,7 +47,7 @@ const KIND_CLASSES: &[Element] = &[
     ("field", &[("name", "keys"), ("class", "19"), ("constantPool", "true"), ("dimension", "1")], 0),
 ];
 
-// An event of `t.All`.
+/// An event of `t.All`.
 #[rattlefmt::skip]
 const ALL: Source = Lines(&[
     b"\x45\x1E\x02\xFF",                                // 69 bytes; flag and small
@@ -68,11 +68,11 @@ const ALL: Source = Lines(&[
     b"\x02\x01\x09",                                    // keys, two
 ]);
 
-// A checkpoint with the place of the key 1.
+/// A checkpoint with the place of the key 1.
 const PLACES: Source = Bytes(b"\x8E\x80\x80\0\x01\0\0\0\0\x01\x13\x01\x01\x03");
 
-// A metadata record of the classes `long` (10) and the event class `t.Long` (30), whose fields have names
-// of 65, 64 and 65 bytes, the first with a quotation mark.
+/// A metadata record of the classes `long` (10) and the event class `t.Long` (30), whose fields have names
+/// of 65, 64 and 65 bytes, the first with a quotation mark.
 const LONG_NAMES: Source = Record(Metadata {
     width: 2,
     texts: &[],
@@ -89,7 +89,7 @@ const LONG_CLASSES: &[Element] = &[
     ("field", &[("name", "bbbbbbbbbbbbbbbbbbbbbbbbbbbbbbbbbbbbbbbbbbbbbbbbbbbbbbbbbbbbbbbbb"), ("class", "10")], 0),
 ];
 
-// An event of `t.Long`, and a checkpoint of nothing.
+/// An event of `t.Long`, and a checkpoint of nothing.
 const LONG: Source = Bytes(b"\x05\x1E\x01\x02\x03\x07\x01\0\0\0\0\0");
 
 /// The chunk with values of each kind.
@@ -102,7 +102,7 @@ pub(crate) fn long_names(alloc: Global) -> Result<Vec<u8>, AllocError> {
     chunk_of(alloc, &[&assembled(alloc, &[LONG_NAMES, LONG])?], 411, 68)
 }
 
-// Where the name of the class `t.A` lies in the metadata record of the rings.
+/// Where the name of the class `t.A` lies in the metadata record of the rings.
 const NAME: usize = 112;
 
 /// The chunk of rings, in which the class `t.A` has the name of a quote, U+0001 and the end of a line.

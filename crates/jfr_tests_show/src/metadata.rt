@@ -8,7 +8,7 @@ use std::alloc::Global;
 use std::process::Abort;
 use std::test::Fail;
 
-// Of the chunk of rings.
+/// Of the chunk of rings.
 const OF_RINGS: &str = "chunk 1
 long id 5
 java.lang.String id 6
@@ -30,8 +30,8 @@ const RINGS_JSON: &str =
 {"chunk":1,"name":"t.B","id":9,"super":"jdk.jfr.Event","categories":[],"fields":[{"name":"node","class":"t.Node","class_id":7,"constant":true,"array":false}]}
 "#;
 
-// Of the chunk of rings whose class `t.A` has another name, with a quote, a control character and the end of a
-// line.
+/// Of the chunk of rings whose class `t.A` has another name, with a quote, a control character and the end of a
+/// line.
 const OF_ODD_NAME: &str = "chunk 1
 long id 5
 java.lang.String id 6
@@ -54,7 +54,7 @@ const ODD_NAME_JSON: &str =
 {"chunk":1,"name":"t.B","id":9,"super":"jdk.jfr.Event","categories":[],"fields":[{"name":"node","class":"t.Node","class_id":7,"constant":true,"array":false}]}
 "#;
 
-// Of the chunk with values of each kind, which has arrays of values and of references.
+/// Of the chunk with values of each kind, which has arrays of values and of references.
 const OF_KINDS: &str = "chunk 1
 boolean id 10
 byte id 11
@@ -102,7 +102,7 @@ const KINDS_JSON: &str =
 {"chunk":1,"name":"t.All","id":30,"super":"jdk.jfr.Event","categories":[],"fields":[{"name":"flag","class":"boolean","class_id":10,"constant":false,"array":false},{"name":"small","class":"byte","class_id":11,"constant":false,"array":false},{"name":"letter","class":"char","class_id":12,"constant":false,"array":false},{"name":"low","class":"short","class_id":13,"constant":false,"array":false},{"name":"count","class":"int","class_id":14,"constant":false,"array":false},{"name":"wide","class":"long","class_id":15,"constant":false,"array":false},{"name":"ratio","class":"float","class_id":16,"constant":false,"array":false},{"name":"exact","class":"double","class_id":17,"constant":false,"array":false},{"name":"none","class":"java.lang.String","class_id":18,"constant":false,"array":false},{"name":"empty","class":"java.lang.String","class_id":18,"constant":false,"array":false},{"name":"told","class":"java.lang.String","class_id":18,"constant":false,"array":false},{"name":"units","class":"java.lang.String","class_id":18,"constant":false,"array":false},{"name":"latin","class":"java.lang.String","class_id":18,"constant":false,"array":false},{"name":"place","class":"t.Place","class_id":19,"constant":false,"array":false},{"name":"numbers","class":"int","class_id":14,"constant":false,"array":true},{"name":"places","class":"t.Place","class_id":19,"constant":false,"array":true},{"name":"nothing","class":"int","class_id":14,"constant":false,"array":true},{"name":"keys","class":"t.Place","class_id":19,"constant":true,"array":true}]}
 "#;
 
-// Of the chunk that is like the JDK's, which has classes with one and with two categories.
+/// Of the chunk that is like the JDK's, which has classes with one and with two categories.
 const OF_JDK_LIKE: &str = "chunk 2
 long id 20
 int id 21
@@ -172,7 +172,7 @@ const JDK_LIKE_JSON: &str =
 {"chunk":2,"name":"jdk.CPULoad","id":103,"super":"jdk.jfr.Event","categories":["Operating System","Processor"],"fields":[{"name":"startTime","class":"long","class_id":20,"constant":false,"array":false},{"name":"machineTotal","class":"float","class_id":24,"constant":false,"array":false}]}
 "#;
 
-// Compares the text of a chunk, and its JSON.
+/// Compares the text of a chunk, and its JSON.
 fn compare_text(
     rt: &impl Abort,
     alloc: Global,
@@ -187,7 +187,7 @@ fn compare_text(
     Ok(())
 }
 
-// Compares the text of the chunk with these bytes, and its JSON.
+/// Compares the text of the chunk with these bytes, and its JSON.
 fn compare(
     rt: &impl Abort,
     alloc: Global,

@@ -32,7 +32,7 @@ pub(crate) enum Form {
 /// How an event is shown, its number, to which depth, and the text.
 pub(crate) type Shown = (Form, usize, u8, &'static str);
 
-// The text of an event.
+/// The text of an event.
 fn text_of(
     alloc: Global,
     chunk: &Chunk<'_>,
@@ -50,7 +50,7 @@ fn text_of(
     }
 }
 
-// Compares the text of an event.
+/// Compares the text of an event.
 fn compare_text(
     rt: &impl Abort,
     alloc: Global,
@@ -62,7 +62,7 @@ fn compare_text(
     Ok(())
 }
 
-// Compares texts of the events of a chunk.
+/// Compares texts of the events of a chunk.
 fn compare_texts(
     rt: &impl Abort,
     alloc: Global,

@@ -8,10 +8,10 @@ use std::alloc::{AllocError, Global};
 use std::process::Abort;
 use std::test::Fail;
 
-// The most chunks that may be added.
+/// The most chunks that may be added.
 const MOST: u64 = 17_000_000_000;
 
-// Adds the totals of a chunk.
+/// Adds the totals of a chunk.
 fn add(summary: &mut Summary, chunk: &Chunk<'_>) -> Result<(), Fail> {
     if summary.chunks() >= MOST {
         Err("too many chunks")?;
@@ -20,7 +20,7 @@ fn add(summary: &mut Summary, chunk: &Chunk<'_>) -> Result<(), Fail> {
     Ok(())
 }
 
-// Adds each chunk.
+/// Adds each chunk.
 fn add_all(alloc: Global, summary: &mut Summary, chunks: &[&[u8]]) -> Result<(), Fail> {
     for bytes in chunks {
         with_chunk(alloc, bytes, |chunk| add(summary, chunk))?;
@@ -28,7 +28,7 @@ fn add_all(alloc: Global, summary: &mut Summary, chunks: &[&[u8]]) -> Result<(),
     Ok(())
 }
 
-// Compares the text of the totals, and their JSON.
+/// Compares the text of the totals, and their JSON.
 fn compare_texts(
     rt: &impl Abort,
     alloc: Global,
@@ -42,7 +42,7 @@ fn compare_texts(
     Ok(())
 }
 
-// Adds each chunk, and compares the texts.
+/// Adds each chunk, and compares the texts.
 fn compare_sum(
     rt: &impl Abort,
     alloc: Global,
@@ -54,7 +54,7 @@ fn compare_sum(
     compare_texts(rt, alloc, summary, texts)
 }
 
-// Compares the totals of a recording of these chunks.
+/// Compares the totals of a recording of these chunks.
 fn compare(
     rt: &impl Abort,
     alloc: Global,
@@ -184,12 +184,12 @@ fn first_chunk_gives_the_version_and_the_start(rt: HostRuntime) -> Result<(), Fa
     )
 }
 
-// Where the index of the name of the last class lies in the metadata record, and that of `t.A`.
+/// Where the index of the name of the last class lies in the metadata record, and that of `t.A`.
 const LAST_NAME: usize = 242;
 
 const NAME_A: u8 = 12;
 
-// The chunk of rings, where both event classes have the name `t.A`.
+/// The chunk of rings, where both event classes have the name `t.A`.
 fn rings_of_one_name(alloc: Global) -> Result<Vec<u8>, AllocError> {
     let mut classes = Vec::from_slice(alloc, CLASSES)?;
     if let Some(name) = classes.get_mut(LAST_NAME) {
@@ -220,7 +220,7 @@ fn classes_of_one_name_are_counted_together(rt: HostRuntime) -> Result<(), Fail>
     compare(&rt, rt.alloc(), &[&rings], (OF_ONE_NAME, ONE_NAME_JSON))
 }
 
-// The odd name comes first, since its bytes are smaller.
+/// The odd name comes first, since its bytes are smaller.
 const OF_ODD_NAME: &str = "version 2.1
 chunks 1
 bytes 362

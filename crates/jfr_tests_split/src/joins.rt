@@ -8,7 +8,7 @@ use std::alloc::Global;
 use std::process::Abort;
 use std::test::Fail;
 
-// A recording of which chunks are cut into parts, by how many chunks a part may have.
+/// A recording of which chunks are cut into parts, by how many chunks a part may have.
 struct Round {
     chunks: u8,
     max_chunks: u64,
@@ -22,7 +22,7 @@ static ROUNDS: [Round; 4] = [
     Round { chunks: 4, max_chunks: 9 },
 ];
 
-// Cuts a recording into parts, joins them, and compares what comes of that.
+/// Cuts a recording into parts, joins them, and compares what comes of that.
 fn see_joined(
     rt: &impl Abort,
     alloc: Global,
@@ -38,7 +38,7 @@ fn see_joined(
     Ok(())
 }
 
-// Does so with the recording of a row.
+/// Does so with the recording of a row.
 fn see_round(rt: &impl Abort, alloc: Global, round: &Round) -> Result<(), Fail> {
     let bytes = recording(alloc, round.chunks, 0)?;
     let mut place = SteadyPlace::new(alloc);
@@ -53,15 +53,15 @@ fn a_recording_comes_back_from_its_parts(rt: HostRuntime) -> Result<(), Fail> {
     Ok(())
 }
 
-// The name of a file, and what the start of its chunk ends with, if it has one.
+/// The name of a file, and what the start of its chunk ends with, if it has one.
 type File = (&'static str, Option<u8>);
 
 const A: File = ("d/a.jfr", Some(0));
 
 const B: File = ("d/b.jfr", Some(1));
 
-// Which files are there, a script, the answer, how many bytes of a.jfr and b.jfr the output has, and
-// whether it is left open.
+/// Which files are there, a script, the answer, how many bytes of a.jfr and b.jfr the output has, and
+/// whether it is left open.
 struct Row {
     files: &'static [File],
     script: Script,
@@ -100,7 +100,7 @@ static ROWS: [Row; 14] = [
     Row { files: &[A, B, ("out", None)], script: None, answer: Ending::WriteFault, joined: Some(0), open: false },
 ];
 
-// Puts a file.
+/// Puts a file.
 fn put_file(place: &mut MemoryPlace, (name, start): File) -> Result<(), NoMemory> {
     match start {
         Some(start) => place.put(name, &chunk(start)),
@@ -108,7 +108,7 @@ fn put_file(place: &mut MemoryPlace, (name, start): File) -> Result<(), NoMemory
     }
 }
 
-// Puts files.
+/// Puts files.
 fn put_files(place: &mut MemoryPlace, files: &[File]) -> Result<(), NoMemory> {
     for file in files {
         put_file(place, *file)?;
@@ -116,14 +116,14 @@ fn put_files(place: &mut MemoryPlace, files: &[File]) -> Result<(), NoMemory> {
     Ok(())
 }
 
-// The first bytes of a recording, if the output has any.
+/// The first bytes of a recording, if the output has any.
 fn first_bytes<'b>(rt: &impl Abort, bytes: &'b [u8], count: Option<usize>) -> Option<&'b [u8]> {
     let count = count?;
     assert!(rt; count <= bytes.len());
     Some(&bytes[..count])
 }
 
-// Joins the files of a row, and compares how that ends and the output.
+/// Joins the files of a row, and compares how that ends and the output.
 fn see_output(
     rt: &impl Abort,
     alloc: Global,
@@ -139,7 +139,7 @@ fn see_output(
     Ok(())
 }
 
-// Does so over a new place.
+/// Does so over a new place.
 fn see_row(rt: &impl Abort, alloc: Global, row: &Row, two: &[u8]) -> Result<(), Fail> {
     let mut place = MemoryPlace::new(alloc);
     see_output(rt, alloc, &mut place, row, two)

@@ -4,7 +4,7 @@ use std::alloc::Global;
 use std::process::Abort;
 use std::test::Fail;
 
-// A folder, a file, a number, and the name.
+/// A folder, a file, a number, and the name.
 struct Row {
     folder: Option<&'static str>,
     file: &'static str,
@@ -26,7 +26,7 @@ static ROWS: [Row; 10] = [
     Row { folder: Some("é"), file: "ü/ö.jfr", number: 8, name: "é/ö_000008.jfr" },
 ];
 
-// Compares the name of a part.
+/// Compares the name of a part.
 fn see_name(rt: &impl Abort, alloc: Global, row: &Row) -> Result<(), Fail> {
     let number = row.number.clamp(1, 999_999);
     let name = part_name(alloc, row.folder, row.file, number)?;

@@ -2,7 +2,7 @@
 use jfr_fixtures::PLAIN;
 use std::alloc::{AllocError, Global};
 
-// Where the start of a chunk has its last byte.
+/// Where the start of a chunk has its last byte.
 const START: usize = 39;
 
 /// A plain chunk with another start.
@@ -12,7 +12,7 @@ pub(crate) fn chunk(start: u8) -> [u8; 103] {
     bytes
 }
 
-// Adds plain chunks, and the first bytes of one more.
+/// Adds plain chunks, and the first bytes of one more.
 fn push_chunks(bytes: &mut Vec<u8>, chunks: u8, more: usize) -> Result<(), AllocError> {
     for number in 0..chunks {
         bytes.extend_from_slice(&chunk(number))?;

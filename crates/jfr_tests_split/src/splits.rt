@@ -9,8 +9,8 @@ use std::alloc::Global;
 use std::process::Abort;
 use std::test::Fail;
 
-// How many chunks and further bytes are cut, by which bounds, a script, the answer, and where each part
-// ends in the recording; whether the last part is left unfinished.
+/// How many chunks and further bytes are cut, by which bounds, a script, the answer, and where each part
+/// ends in the recording; whether the last part is left unfinished.
 struct Row {
     chunks: u8,
     more: usize,
@@ -39,7 +39,7 @@ static ROWS: [Row; 12] = [
     Row { chunks: 2, more: 0, max_chunks: 2, max_size: 1 << 40, max_parts: 9, script: Some((Call::Finish, 1, 0)), answer: Ending::WriteFault, ends: [206, 0, 0, 0], unfinished: false },
 ];
 
-// The names of the first parts.
+/// The names of the first parts.
 static PARTS: [&str; 4] = [
     "d/r_000001.jfr",
     "d/r_000002.jfr",
@@ -47,7 +47,7 @@ static PARTS: [&str; 4] = [
     "d/r_000004.jfr",
 ];
 
-// Each part has its bytes of the recording, and no other part is there.
+/// Each part has its bytes of the recording, and no other part is there.
 fn check_parts(rt: &impl Abort, place: &MemoryPlace, row: &Row, bytes: &[u8]) {
     let mut from = 0;
     for (name, &end) in PARTS.iter().zip(row.ends.iter()) {
@@ -61,7 +61,7 @@ fn check_parts(rt: &impl Abort, place: &MemoryPlace, row: &Row, bytes: &[u8]) {
     }
 }
 
-// Cuts a recording by a row, and compares how that ends and what is left.
+/// Cuts a recording by a row, and compares how that ends and what is left.
 fn see_cut(
     rt: &impl Abort,
     alloc: Global,
@@ -79,7 +79,7 @@ fn see_cut(
     Ok(())
 }
 
-// Cuts the recording of a row.
+/// Cuts the recording of a row.
 fn see_row(rt: &impl Abort, alloc: Global, row: &Row) -> Result<(), Fail> {
     let bytes = recording(alloc, row.chunks, row.more)?;
     let mut place = MemoryPlace::new(alloc);
@@ -94,18 +94,18 @@ fn recordings_are_cut_by_their_rows(rt: HostRuntime) -> Result<(), Fail> {
     Ok(())
 }
 
-// Cuts one chunk into a part beside the recording.
+/// Cuts one chunk into a part beside the recording.
 fn cut_here(alloc: Global, place: &mut SteadyPlace) -> Ending {
     cut(alloc, place, "r.jfr", None, (5, 1 << 40, 9))
 }
 
-// Does so, and compares how that ends and the part.
+/// Does so, and compares how that ends and the part.
 fn see_first(rt: &impl Abort, alloc: Global, place: &mut SteadyPlace, ending: Ending, part: &[u8]) {
     assert_eq!(rt; cut_here(alloc, place), ending);
     assert!(rt; place.file("r_000001.jfr") == Some(part));
 }
 
-// Cuts a recording that isn't there, one that is, and this one again, when the part is there already.
+/// Cuts a recording that isn't there, one that is, and this one again, when the part is there already.
 fn see_cuts(rt: &impl Abort, alloc: Global, place: &mut SteadyPlace) -> Result<(), Fail> {
     assert_eq!(rt; cut_here(alloc, place), Ending::ReadFault);
     place.put("r.jfr", &PLAIN)?;

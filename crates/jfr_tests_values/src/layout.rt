@@ -8,15 +8,15 @@ use std::alloc::Global;
 use std::process::Abort;
 use std::test::Fail;
 
-// The class and the field of a flaw, and what it is.
+/// The class and the field of a flaw, and what it is.
 type ClassFlaw = (usize, Option<usize>, Reason);
 
-// Why a list of classes is refused, if it is.
+/// Why a list of classes is refused, if it is.
 fn fault_in(alloc: Global, list: ClassList) -> Option<ClassFault> {
     Classes::make(alloc, list).err()
 }
 
-// The fault of a flaw, if there is one.
+/// The fault of a flaw, if there is one.
 fn flawed(flaw: Option<ClassFlaw>) -> Option<ClassFault> {
     let (class, field, reason) = flaw?;
     Some(ClassFault::Flawed {
@@ -26,7 +26,7 @@ fn flawed(flaw: Option<ClassFlaw>) -> Option<ClassFault> {
     })
 }
 
-// The fields of two classes, the id of the second class, and the first flaw.
+/// The fields of two classes, the id of the second class, and the first flaw.
 type Row = (
     &'static [FieldLine],
     &'static [FieldLine],
@@ -44,7 +44,7 @@ const ITEMS_OF_SECOND: &[FieldLine] = &[("x", Items(4))];
 
 const ONE_FIRST: &[FieldLine] = &[("x", Inline(3))];
 
-// The first class has the id 3. Before it is a number, whose id is 2.
+/// The first class has the id 3. Before it is a number, whose id is 2.
 static FIRST_FLAWS: [Row; 7] = [
     (NUMBER, NUMBER, 4, None),
     (UNKNOWN, NUMBER, 3, Some((2, None, Reason::ClassTwice))),
@@ -65,14 +65,14 @@ static FIRST_FLAWS: [Row; 7] = [
     ),
 ];
 
-// Adds a number and the two classes of a row.
+/// Adds a number and the two classes of a row.
 fn add_row(list: &mut ClassList, alloc: Global, row: &Row) -> Result<(), NoMemory> {
     add(list, alloc, 2, "long", None, &[])?;
     add(list, alloc, 3, "a", None, row.0)?;
     add(list, alloc, row.2, "b", EVENT, row.1)
 }
 
-// Why these classes are refused, if they are.
+/// Why these classes are refused, if they are.
 fn fault_of_row(alloc: Global, row: &Row) -> Result<Option<ClassFault>, NoMemory> {
     let mut list = ClassList::new(alloc);
     add_row(&mut list, alloc, row)?;
@@ -93,7 +93,7 @@ fn the_first_flaw_is_reported(rt: HostRuntime) -> Result<(), Fail> {
     Ok(())
 }
 
-// Adds a composite class with one or two inline fields of the next.
+/// Adds a composite class with one or two inline fields of the next.
 fn add_link(list: &mut ClassList, alloc: Global, id: u64, twice: bool) -> Result<(), NoMemory> {
     let next = Inline(id.saturating_add(1));
     if twice {
@@ -103,7 +103,7 @@ fn add_link(list: &mut ClassList, alloc: Global, id: u64, twice: bool) -> Result
     }
 }
 
-// Adds `length` of them, and a number at the end.
+/// Adds `length` of them, and a number at the end.
 fn add_chain(
     list: &mut ClassList,
     alloc: Global,
@@ -116,14 +116,14 @@ fn add_chain(
     add(list, alloc, length, "long", None, &[])
 }
 
-// Why these classes are refused, if they are.
+/// Why these classes are refused, if they are.
 fn fault_of_chain(alloc: Global, length: u64, twice: bool) -> Result<Option<ClassFault>, NoMemory> {
     let mut list = ClassList::new(alloc);
     add_chain(&mut list, alloc, length, twice)?;
     Ok(fault_in(alloc, list))
 }
 
-// The number of composite classes, whether each has two fields, and the first flaw.
+/// The number of composite classes, whether each has two fields, and the first flaw.
 type Chain = (u64, bool, Option<ClassFlaw>);
 
 static CHAINS: [Chain; 3] = [
@@ -146,8 +146,8 @@ fn values_end(rt: HostRuntime) -> Result<(), Fail> {
     Ok(())
 }
 
-// Two classes of one base name, classes with the ids of checkpoints and of metadata, and an event
-// class.
+/// Two classes of one base name, classes with the ids of checkpoints and of metadata, and an event
+/// class.
 static SAMPLE: [ClassLine; 5] = [
     (7, "int", EVENT, &[]),
     (6, "int", None, &[]),
@@ -156,7 +156,7 @@ static SAMPLE: [ClassLine; 5] = [
     (0, "t.C", EVENT, &[("n", Inline(7))]),
 ];
 
-// Looks for classes and a field by their ids.
+/// Looks for classes and a field by their ids.
 fn see_found(rt: &impl Abort, classes: &Classes) {
     assert_eq!(rt; (classes.kind(6), classes.kind(9)), (Some(Kind::Int), None));
     assert_eq!(rt; classes.field_named(1, "m"), Some(1));
@@ -171,7 +171,7 @@ fn finds_by_id(rt: HostRuntime) -> Result<(), Fail> {
     Ok(())
 }
 
-// The id of a class, whether it is an event class, and what it has.
+/// The id of a class, whether it is an event class, and what it has.
 static EVENT_CLASSES: [(u64, bool, &str); 4] = [
     (8, true, "a name of its own"),
     (7, false, "a base name"),
@@ -179,7 +179,7 @@ static EVENT_CLASSES: [(u64, bool, &str); 4] = [
     (0, false, "the id of metadata"),
 ];
 
-// Only an event class has the layout of an event.
+/// Only an event class has the layout of an event.
 fn see_event_class(rt: &impl Abort, classes: &Classes, id: u64, is_event: bool, has: &str) {
     assert!(rt; classes.is_event(id) == is_event, "{has}");
     assert!(rt; classes.event_layout(id).is_some() == is_event, "{has}");
@@ -194,8 +194,8 @@ fn knows_event_classes(rt: HostRuntime) -> Result<(), Fail> {
     Ok(())
 }
 
-// An event whose row begins as that of most events do, then raw bytes, a string, an integer, an array and
-// five integers.
+/// An event whose row begins as that of most events do, then raw bytes, a string, an integer, an array and
+/// five integers.
 static LONG_ROW: [ClassLine; 6] = [
     (2, "long", None, &[]),
     (3, "double", None, &[]),

@@ -26,7 +26,7 @@ static NODE: [ClassLine; 2] = [
     ),
 ];
 
-// The entries of a chunk, whose last checkpoint lies at this place.
+/// The entries of a chunk, whose last checkpoint lies at this place.
 fn pools_of(alloc: Global, classes: &Classes, chunk: &[u8], last: u64) -> Result<Pools, ReadFault> {
     if chunk.len() < HEADER {
         return Err(ReadFault::Memory);
@@ -35,7 +35,7 @@ fn pools_of(alloc: Global, classes: &Classes, chunk: &[u8], last: u64) -> Result
     pools_in_frames(alloc, classes, chunk, &frames, last)
 }
 
-// The entries of a chunk with these records.
+/// The entries of a chunk with these records.
 fn pools_in_frames(
     alloc: Global,
     classes: &Classes,
@@ -52,7 +52,7 @@ fn pools_in_frames(
     Pools::read(alloc, chunk, classes, &chain)
 }
 
-// The entries of the chunk of these records, whose last checkpoint lies at this place.
+/// The entries of the chunk of these records, whose last checkpoint lies at this place.
 fn pools_with(
     alloc: Global,
     classes: &Classes,
@@ -63,13 +63,13 @@ fn pools_with(
     pools_of(alloc, classes, &chunk, last)
 }
 
-// Its entries, if the nodes are its classes.
+/// Its entries, if the nodes are its classes.
 fn pools_in(alloc: Global, records: &[u8], last: u64) -> Result<Pools, Fail> {
     let classes = classes_of(alloc, &NODE)?;
     Ok(pools_with(alloc, &classes, records, last)?)
 }
 
-// The second of the two entries of a key.
+/// The second of the two entries of a key.
 const SECOND: EntryAt = EntryAt {
     class: 7,
     key: 1,
@@ -94,20 +94,20 @@ fn last_entry_of_a_key_is_in_force(rt: HostRuntime) -> Result<(), Fail> {
     Ok(())
 }
 
-// The class, key, checkpoint and pool of an entry.
+/// The class, key, checkpoint and pool of an entry.
 type Expected = (u64, u64, usize, usize);
 
 static OF_THREE: [Expected; 2] = [(7, 1, 0, 0), (7, 3, 1, 0)];
 
 static OF_STRINGS: [Expected; 4] = [(7, 1, 0, 0), (6, 1, 0, 1), (6, 2, 0, 1), (6, 3, 0, 1)];
 
-// The entry with this number, if there is one.
+/// The entry with this number, if there is one.
 fn entry_at(pools: &Pools, number: usize) -> Option<Expected> {
     let entry = pools.get(number)?;
     Some((entry.class, entry.key, entry.checkpoint, entry.pool))
 }
 
-// Compares an entry, which is in force.
+/// Compares an entry, which is in force.
 fn see_entry(rt: &impl Abort, pools: &Pools, number: usize, expected: &Expected) {
     assert_eq!(rt; entry_at(pools, number), Some(*expected));
     assert!(rt;
@@ -116,7 +116,7 @@ fn see_entry(rt: &impl Abort, pools: &Pools, number: usize, expected: &Expected)
     );
 }
 
-// Compares each entry, and looks for one of the key 0.
+/// Compares each entry, and looks for one of the key 0.
 fn see_entries(rt: &impl Abort, pools: &Pools, expected: &[Expected]) {
     assert_eq!(rt; pools.len(), expected.len());
     for (number, row) in expected.iter().enumerate() {
@@ -125,7 +125,7 @@ fn see_entries(rt: &impl Abort, pools: &Pools, expected: &[Expected]) {
     assert_eq!(rt; pools.entry(7, 0), None);
 }
 
-// Compares the entries of a chunk.
+/// Compares the entries of a chunk.
 fn see_chunk(
     rt: &impl Abort,
     alloc: Global,
@@ -144,7 +144,7 @@ fn entries_follow_the_chain(rt: HostRuntime) -> Result<(), Fail> {
     see_chunk(&rt, rt.alloc(), STRINGS, 73, &OF_STRINGS)
 }
 
-// Records, and the place of their flaw.
+/// Records, and the place of their flaw.
 type Flawed = (&'static [u8], u64, Reason);
 
 static FLAWED: [Flawed; 5] = [
@@ -159,7 +159,7 @@ static FLAWED: [Flawed; 5] = [
     ),
 ];
 
-// Compares the flaw of these records.
+/// Compares the flaw of these records.
 fn see_flaw(rt: &impl Abort, alloc: Global, classes: &Classes, (records, offset, reason): Flawed) {
     let flaw = ReadFault::Flawed(Flaw { offset, reason });
     assert_eq!(rt; pools_with(alloc, classes, records, 68).err(), Some(flaw));
@@ -174,7 +174,7 @@ fn faults_are_reported(rt: HostRuntime) -> Result<(), Fail> {
     Ok(())
 }
 
-// Adds classes without fields, of these ids.
+/// Adds classes without fields, of these ids.
 fn add_empty(list: &mut ClassList, alloc: Global, ids: &[u64]) -> Result<(), NoMemory> {
     for id in ids {
         add(list, alloc, *id, "t.Empty", None, &[])?;
@@ -182,7 +182,7 @@ fn add_empty(list: &mut ClassList, alloc: Global, ids: &[u64]) -> Result<(), NoM
     Ok(())
 }
 
-// Classes without fields, of these ids.
+/// Classes without fields, of these ids.
 fn empty_classes(alloc: Global, ids: &[u64]) -> Result<Classes, ClassFault> {
     let mut list = ClassList::new(alloc);
     add_empty(&mut list, alloc, ids)?;
@@ -195,7 +195,7 @@ fn push_integer(bytes: &mut Vec<u8>, value: u64) -> Result<(), AllocError> {
     bytes.extend_from_slice(&spelled[..len])
 }
 
-// Adds a pool of one entry for each of these classes and keys, whose values have no bytes.
+/// Adds a pool of one entry for each of these classes and keys, whose values have no bytes.
 fn push_pools(body: &mut Vec<u8>, entries: &[(u64, u64)]) -> Result<(), AllocError> {
     push_integer(body, entries.len() as u64)?;
     for (class, key) in entries {
@@ -206,7 +206,7 @@ fn push_pools(body: &mut Vec<u8>, entries: &[(u64, u64)]) -> Result<(), AllocErr
     Ok(())
 }
 
-// Adds the size of a record with this body, which counts its own two bytes.
+/// Adds the size of a record with this body, which counts its own two bytes.
 fn push_size(bytes: &mut Vec<u8>, body: &[u8]) -> Result<(), AllocError> {
     let size = body.len().saturating_add(2);
     bytes.push((size % 128) as u8 | 0x80)?;
@@ -214,27 +214,27 @@ fn push_size(bytes: &mut Vec<u8>, body: &[u8]) -> Result<(), AllocError> {
     Ok(())
 }
 
-// Adds a record with this body.
+/// Adds a record with this body.
 fn push_record(bytes: &mut Vec<u8>, body: &[u8]) -> Result<(), AllocError> {
     push_size(bytes, body)?;
     bytes.extend_from_slice(body)
 }
 
-// A record with this body.
+/// A record with this body.
 fn record_of(alloc: Global, body: &[u8]) -> Result<Vec<u8>, AllocError> {
     let mut bytes = Vec::new(alloc);
     push_record(&mut bytes, body)?;
     Ok(bytes)
 }
 
-// A checkpoint with these pools.
+/// A checkpoint with these pools.
 fn checkpoint_of(alloc: Global, entries: &[(u64, u64)]) -> Result<Vec<u8>, AllocError> {
     let mut body = Vec::from_slice(alloc, [1, 0, 0, 0, 0].as_slice())?;
     push_pools(&mut body, entries)?;
     record_of(alloc, &body)
 }
 
-// The entries of a checkpoint by itself.
+/// The entries of a checkpoint by itself.
 fn pools_of_checkpoint(
     alloc: Global,
     ids: &[u64],
@@ -244,7 +244,7 @@ fn pools_of_checkpoint(
     pools_of_record(alloc, ids, &checkpoint)
 }
 
-// The entries of this checkpoint.
+/// The entries of this checkpoint.
 fn pools_of_record(alloc: Global, ids: &[u64], checkpoint: &[u8]) -> Result<Pools, ReadFault> {
     match empty_classes(alloc, ids) {
         Ok(classes) => pools_with(alloc, &classes, checkpoint, 68),
@@ -252,15 +252,15 @@ fn pools_of_record(alloc: Global, ids: &[u64], checkpoint: &[u8]) -> Result<Pool
     }
 }
 
-// A class that is too large for a row, and keys of it that have one home among 24 entries.
+/// A class that is too large for a row, and keys of it that have one home among 24 entries.
 const UNROWED: u64 = 5000;
 
 static ONE_HOME: [u64; 11] = [0, 74, 117, 160, 203, 246, 320, 363, 406, 449, 492];
 
-// A class that is too large for a slot, too.
+/// A class that is too large for a slot, too.
 const LARGE: u64 = 1 << 32;
 
-// Adds an entry for each of these keys, and for one of the large class.
+/// Adds an entry for each of these keys, and for one of the large class.
 fn push_keys(entries: &mut Vec<(u64, u64)>) -> Result<(), AllocError> {
     for key in ONE_HOME.iter() {
         entries.push((UNROWED, *key))?;
@@ -269,20 +269,20 @@ fn push_keys(entries: &mut Vec<(u64, u64)>) -> Result<(), AllocError> {
     Ok(())
 }
 
-// Adds all of them twice.
+/// Adds all of them twice.
 fn push_keys_twice(entries: &mut Vec<(u64, u64)>) -> Result<(), AllocError> {
     push_keys(entries)?;
     push_keys(entries)
 }
 
-// All of them, twice.
+/// All of them, twice.
 fn twelve_twice(alloc: Global) -> Result<Vec<(u64, u64)>, AllocError> {
     let mut entries = Vec::new(alloc);
     push_keys_twice(&mut entries)?;
     Ok(entries)
 }
 
-// The second entry of each key is in force, and there are no others.
+/// The second entry of each key is in force, and there are no others.
 fn see_second(rt: &impl Abort, pools: &Pools, entries: &[(u64, u64)]) {
     assert_eq!(rt; pools.len(), 24);
     for (number, (class, key)) in entries.iter().enumerate() {
@@ -304,8 +304,8 @@ fn keys_of_one_home_are_distinct(rt: HostRuntime) -> Result<(), Fail> {
     see_homes(&rt, rt.alloc(), &entries)
 }
 
-// Entries: their classes and keys. The keys of class 8 lie too far apart for a row, and class 4096 is too large
-// for one.
+/// Entries: their classes and keys. The keys of class 8 lie too far apart for a row, and class 4096 is too large
+/// for one.
 static OF_SMALL: [(u64, u64); 8] = [
     (7, 5000),
     (7, 5002),
@@ -317,7 +317,7 @@ static OF_SMALL: [(u64, u64); 8] = [
     (4096, 1),
 ];
 
-// A class and a key, and the number of the entry in force.
+/// A class and a key, and the number of the entry in force.
 static IN_FORCE: [(u64, u64, Option<usize>); 16] = [
     (6, 0, None),
     (6, 1, None),

@@ -13,7 +13,7 @@ use std::alloc::{AllocError, Global};
 use std::process::Abort;
 use std::test::Fail;
 
-// A number, a double, a string and a class of two fields: keys of its own class, and a double.
+/// A number, a double, a string and a class of two fields: keys of its own class, and a double.
 static SOME_CLASSES: [ClassLine; 4] = [
     (1, "long", None, &[]),
     (2, "double", None, &[]),
@@ -21,7 +21,7 @@ static SOME_CLASSES: [ClassLine; 4] = [
     (4, "t.Pair", None, &[("a", References(4)), ("b", Inline(2))]),
 ];
 
-// The classes of stack traces, with the ids of a recording of JDK 17.
+/// The classes of stack traces, with the ids of a recording of JDK 17.
 static TRACE_CLASSES: [ClassLine; 6] = [
     (
         188,
@@ -46,7 +46,7 @@ static TRACE_CLASSES: [ClassLine; 6] = [
     (212, "boolean", None, &[]),
 ];
 
-// Adds the most composite classes that may nest, each with an array of the next.
+/// Adds the most composite classes that may nest, each with an array of the next.
 fn add_deep(list: &mut ClassList, alloc: Global) -> Result<(), NoMemory> {
     for id in 0..33u64 {
         let next = Items(id.saturating_add(1));
@@ -61,7 +61,7 @@ fn deep_classes(alloc: Global) -> Result<Classes, ClassFault> {
     Classes::make(alloc, list)
 }
 
-// Where a value ends at the front of the bytes.
+/// Where a value ends at the front of the bytes.
 fn front(classes: &Classes, has: Has, bytes: &[u8]) -> Option<Result<usize, Flaw>> {
     let shape = shape(has);
     classes.kind(shape.class)?;
@@ -85,16 +85,16 @@ pub(crate) fn node_at_front<'a>(classes: &Classes, has: Has, bytes: &'a [u8]) ->
     }
 }
 
-// The kind and the place of a leaf.
+/// The kind and the place of a leaf.
 type LeafPlace = (LeafKind, usize);
 
-// Those of the next leaf, if there is one.
+/// Those of the next leaf, if there is one.
 fn next_place(leaves: &mut Leaves<'_, '_>) -> Option<LeafPlace> {
     let leaf = leaves.next()?;
     Some((leaf.kind, leaf.at))
 }
 
-// Whether these leaves follow, and no others.
+/// Whether these leaves follow, and no others.
 fn are_next(leaves: &mut Leaves<'_, '_>, expected: &[LeafPlace]) -> bool {
     for leaf in expected {
         if next_place(leaves) != Some(*leaf) {
@@ -104,7 +104,7 @@ fn are_next(leaves: &mut Leaves<'_, '_>, expected: &[LeafPlace]) -> bool {
     leaves.next().is_none()
 }
 
-// Whether these are the leaves of a value.
+/// Whether these are the leaves of a value.
 fn has_leaves(classes: &Classes, node: Node<'_>, expected: &[LeafPlace]) -> bool
     requires { IsValue classes.now node }
 {
@@ -112,7 +112,7 @@ fn has_leaves(classes: &Classes, node: Node<'_>, expected: &[LeafPlace]) -> bool
     are_next(&mut leaves, expected)
 }
 
-// The class and the number of the field around the next leaf, if it is in one; `None` after the last leaf.
+/// The class and the number of the field around the next leaf, if it is in one; `None` after the last leaf.
 fn next_field(leaves: &mut Leaves<'_, '_>) -> Option<Option<(u64, usize)>> {
     let leaf = leaves.next()?;
     match leaf.holder {
@@ -121,7 +121,7 @@ fn next_field(leaves: &mut Leaves<'_, '_>) -> Option<Option<(u64, usize)>> {
     }
 }
 
-// Whether leaves in these fields follow, and no others.
+/// Whether leaves in these fields follow, and no others.
 fn are_in(leaves: &mut Leaves<'_, '_>, expected: &[Option<(u64, usize)>]) -> bool {
     for field in expected {
         if next_field(leaves) != Some(*field) {
@@ -131,7 +131,7 @@ fn are_in(leaves: &mut Leaves<'_, '_>, expected: &[Option<(u64, usize)>]) -> boo
     leaves.next().is_none()
 }
 
-// Whether the leaves of a value are in these fields.
+/// Whether the leaves of a value are in these fields.
 fn has_fields(classes: &Classes, node: Node<'_>, expected: &[Option<(u64, usize)>]) -> bool
     requires { IsValue classes.now node }
 {
@@ -139,7 +139,7 @@ fn has_fields(classes: &Classes, node: Node<'_>, expected: &[Option<(u64, usize)
     are_in(&mut leaves, expected)
 }
 
-// What is at the front of bytes, and where it ends or is flawed.
+/// What is at the front of bytes, and where it ends or is flawed.
 type End = (Has, &'static [u8], Result<usize, Flaw>);
 
 static ENDS: [End; 4] = [
@@ -177,7 +177,7 @@ fn values_end(rt: HostRuntime) -> Result<(), Fail> {
     Ok(())
 }
 
-// Compares the leaves of the value at the front of the bytes, which is all of them.
+/// Compares the leaves of the value at the front of the bytes, which is all of them.
 fn see_leaves(
     rt: &impl Abort,
     classes: &Classes,
@@ -191,7 +191,7 @@ fn see_leaves(
     Ok(())
 }
 
-// Two pairs: the keys 7 and 8, and none.
+/// Two pairs: the keys 7 and 8, and none.
 static TWO_PAIRS: [u8; 21] = [
     2, 2, 7, 8, 0x3f, 0xf0, 0, 0, 0, 0, 0, 0, 0, 0x40, 0, 0, 0, 0, 0, 0, 0,
 ];
@@ -212,7 +212,7 @@ fn leaves_follow_one_another(rt: HostRuntime) -> Result<(), Fail> {
     see_leaves(&rt, &classes, Items(4), &TWO_PAIRS, &OF_TWO_PAIRS)
 }
 
-// A pair inside another value, with an array, a number and a string after it.
+/// A pair inside another value, with an array, a number and a string after it.
 static FIELD_CLASSES: [ClassLine; 5] = [
     (1, "long", None, &[]),
     (2, "double", None, &[]),
@@ -231,7 +231,7 @@ static FIELD_CLASSES: [ClassLine; 5] = [
     ),
 ];
 
-// A value, and the class and the field of each of its leaves.
+/// A value, and the class and the field of each of its leaves.
 type Held = (Has, &'static [u8], &'static [Option<(u64, usize)>]);
 
 static HELD: [Held; 5] = [
@@ -276,7 +276,7 @@ fn leaves_are_in_fields(rt: HostRuntime) -> Result<(), Fail> {
     Ok(())
 }
 
-// Compares the place of the second pair.
+/// Compares the place of the second pair.
 fn see_second(rt: &impl Abort, classes: &Classes) -> Result<(), Fail> {
     let node = node_at_front(classes, Items(4), &TWO_PAIRS).ok_or("no value")?;
     let second = child(classes, &node, &Step::Item(1)).ok_or("no item")?;
@@ -290,7 +290,7 @@ fn an_item_follows_the_one_before(rt: HostRuntime) -> Result<(), Fail> {
     see_second(&rt, &classes)
 }
 
-// A constant of a recording of JDK 17: three frames.
+/// A constant of a recording of JDK 17: three frames.
 static TRACE: [u8; 29] = [
     0x00, 0x03, 0xa1, 0x80, 0xc8, 0x39, 0xd9, 0x01, 0x0f, 0x00, 0x81, 0x80, 0xa4, 0x3c, 0xff, 0xff,
     0xff, 0xff, 0x0f, 0x08, 0x00, 0x8e, 0x80, 0xf8, 0x08, 0xc8, 0x06, 0x0b, 0x00,
@@ -321,7 +321,7 @@ fn stack_traces_are_read(rt: HostRuntime) -> Result<(), Fail> {
     see_leaves(&rt, &classes, Inline(188), &TRACE, &OF_TRACE)
 }
 
-// Adds arrays of one item, 33 times, and of two numbers in the last.
+/// Adds arrays of one item, 33 times, and of two numbers in the last.
 fn push_deep(bytes: &mut Vec<u8>) -> Result<(), AllocError> {
     for _ in 0..33 {
         bytes.push(1)?;
@@ -335,7 +335,7 @@ fn deep_bytes(alloc: Global) -> Result<Vec<u8>, AllocError> {
     Ok(bytes)
 }
 
-// Adds the leaves of these bytes: a count for each array, and the two numbers.
+/// Adds the leaves of these bytes: a count for each array, and the two numbers.
 fn push_deep_leaves(leaves: &mut Vec<LeafPlace>) -> Result<(), AllocError> {
     for at in 0..33 {
         leaves.push((LeafKind::Count(1), at))?;
@@ -347,14 +347,14 @@ fn push_deep_leaves(leaves: &mut Vec<LeafPlace>) -> Result<(), AllocError> {
     ])
 }
 
-// All of them.
+/// All of them.
 fn deep_leaves(alloc: Global) -> Result<Vec<LeafPlace>, AllocError> {
     let mut leaves = Vec::new(alloc);
     push_deep_leaves(&mut leaves)?;
     Ok(leaves)
 }
 
-// Compares them.
+/// Compares them.
 fn see_deep(rt: &impl Abort, alloc: Global, classes: &Classes) -> Result<(), Fail> {
     let bytes = deep_bytes(alloc)?;
     let leaves = deep_leaves(alloc)?;

@@ -12,7 +12,7 @@ use std::alloc::Global;
 use std::process::Abort;
 use std::test::Fail;
 
-// The targets that were handed out, of any class but one; nothing where there was no memory.
+/// The targets that were handed out, of any class but one; nothing where there was no memory.
 #[derive(Drop)]
 struct Seen {
     targets: Vec<(u64, u64)>,
@@ -33,7 +33,7 @@ impl Visit<u64> for Seen {
     }
 }
 
-// A number, a string, a class without fields, and one with a reference, a string, references and a number.
+/// A number, a string, a class without fields, and one with a reference, a string, references and a number.
 static NODE_CLASSES: [ClassLine; 4] = [
     (1, "long", None, &[]),
     (2, "java.lang.String", None, &[]),
@@ -51,10 +51,10 @@ static NODE_CLASSES: [ClassLine; 4] = [
     ),
 ];
 
-// Two nodes: the second has a text of its own, and no references.
+/// Two nodes: the second has a text of its own, and no references.
 static TWO_NODES: [u8; 14] = [2, 7, 2, 9, 2, 5, 6, 42, 8, 3, 1, 120, 0, 43];
 
-// What a node hands out but for one class.
+/// What a node hands out but for one class.
 fn targets_of(
     alloc: Global,
     classes: &Classes,
@@ -75,7 +75,7 @@ fn targets_of(
     }
 }
 
-// What is handed out up to the end of the value at the front of the bytes, and where it ends.
+/// What is handed out up to the end of the value at the front of the bytes, and where it ends.
 fn walk_to_end(
     alloc: Global,
     classes: &Classes,
@@ -103,7 +103,7 @@ fn walk_to_end(
     }
 }
 
-// The targets that a node hands out but for one class are these.
+/// The targets that a node hands out but for one class are these.
 fn see_targets(
     rt: &impl Abort,
     alloc: Global,
@@ -134,7 +134,7 @@ fn references_and_string_keys_are_handed_out(rt: HostRuntime) -> Result<(), Fail
     see_nodes(&rt, rt.alloc(), &classes)
 }
 
-// The targets up to the end are those of the value, whose end is the same.
+/// The targets up to the end are those of the value, whose end is the same.
 fn see_walk(rt: &impl Abort, alloc: Global, classes: &Classes) -> Result<(), Fail> {
     let (targets, end) = walk_to_end(alloc, classes, Items(4), &TWO_NODES).ok_or("no memory")?;
     assert_eq!(rt; end, Ok(14));
@@ -142,7 +142,7 @@ fn see_walk(rt: &impl Abort, alloc: Global, classes: &Classes) -> Result<(), Fai
     Ok(())
 }
 
-// The second node's number is missing.
+/// The second node's number is missing.
 fn see_short(rt: &impl Abort, alloc: Global, classes: &Classes) -> Result<(), Fail> {
     let (bytes, _) = TWO_NODES.split_at(13);
     let (_, end) = walk_to_end(alloc, classes, Items(4), bytes).ok_or("no memory")?;
@@ -161,7 +161,7 @@ fn the_walk_to_the_end_hands_out_the_same(rt: HostRuntime) -> Result<(), Fail> {
     see_short(&rt, rt.alloc(), &classes)
 }
 
-// As many items as a count can say.
+/// As many items as a count can say.
 static MOST_ITEMS: [u8; 9] = [0xff; 9];
 
 fn see_no_targets(rt: &impl Abort, alloc: Global, classes: &Classes) -> Result<(), Fail> {

@@ -12,7 +12,7 @@ use std::alloc::{AllocError, Global};
 use std::process::Abort;
 use std::test::Fail;
 
-// The length of a receipt, or why the output isn't accepted.
+/// The length of a receipt, or why the output isn't accepted.
 type Answer = Result<usize, CheckFault>;
 
 const CLASSES_DIFFER: Answer = Err(CheckFault::Doubt(Doubt::ClassesDiffer));
@@ -25,7 +25,7 @@ const ENTRY_MISSING: Answer = Err(CheckFault::Doubt(Doubt::EntryMissing));
 
 const RECEIPT_BAD: Answer = Err(CheckFault::Doubt(Doubt::ReceiptBad));
 
-// An output, the bytes of its receipt and more, and the answer.
+/// An output, the bytes of its receipt and more, and the answer.
 type Row = (Records, &'static [u8], Answer);
 
 #[rattlefmt::skip]
@@ -65,7 +65,7 @@ const ROWS: [Row; 22] = [
     (FIRST, &[], RECEIPT_BAD),
 ];
 
-// The answer to an output. This function has no clauses, so those that call it are proved without those of `check`.
+/// The answer to an output. This function has no clauses, so those that call it are proved without those of `check`.
 fn answer_to(
     alloc: Global,
     input: &Chunk<'_>,
@@ -77,7 +77,7 @@ fn answer_to(
     Ok(check(alloc, input, &output, filter, receipt))
 }
 
-// Compares the answer to the output of a row.
+/// Compares the answer to the output of a row.
 fn compare_row(
     rt: &impl Abort,
     alloc: Global,
@@ -91,7 +91,7 @@ fn compare_row(
     Ok(())
 }
 
-// An output with another name for `t.B`.
+/// An output with another name for `t.B`.
 fn renamed(alloc: Global) -> Result<Vec<u8>, AllocError> {
     let mut output = with_metadata(alloc, CLASSES, FIRST_RING, 330)?;
     if let Some(byte) = output.get_mut(187) {
@@ -100,7 +100,7 @@ fn renamed(alloc: Global) -> Result<Vec<u8>, AllocError> {
     Ok(output)
 }
 
-// Compares the answer to it.
+/// Compares the answer to it.
 fn compare_renamed(
     rt: &impl Abort,
     alloc: Global,
@@ -113,7 +113,7 @@ fn compare_renamed(
     Ok(())
 }
 
-// Compares all answers.
+/// Compares all answers.
 fn compare_all(
     rt: &impl Abort,
     alloc: Global,
@@ -126,7 +126,7 @@ fn compare_all(
     compare_renamed(rt, alloc, input, filter)
 }
 
-// Reads the input, and compares all answers.
+/// Reads the input, and compares all answers.
 fn compare_bytes(
     rt: &impl Abort,
     alloc: Global,

@@ -4,7 +4,7 @@ use jfr_fixtures::with_metadata;
 use jfr_outside::{Fault, MemoryPlace, NoMemory, Place, Words};
 use std::alloc::{AllocError, Global};
 
-// Adds chunks to a file.
+/// Adds chunks to a file.
 fn add_chunks(file: &mut Vec<u8>, alloc: Global, chunks: &[Records]) -> Result<(), AllocError> {
     for (metadata, records, last) in chunks {
         file.extend_from_slice(&with_metadata(alloc, metadata, records, *last)?)?;
@@ -12,14 +12,14 @@ fn add_chunks(file: &mut Vec<u8>, alloc: Global, chunks: &[Records]) -> Result<(
     Ok(())
 }
 
-// A file of these chunks, one after another.
+/// A file of these chunks, one after another.
 fn file_of(alloc: Global, chunks: &[Records]) -> Result<Vec<u8>, AllocError> {
     let mut file = Vec::new(alloc);
     add_chunks(&mut file, alloc, chunks)?;
     Ok(file)
 }
 
-// Puts a file of these chunks.
+/// Puts a file of these chunks.
 fn put_chunks(
     place: &mut MemoryPlace,
     alloc: Global,
@@ -30,10 +30,10 @@ fn put_chunks(
     place.put(name, &file)
 }
 
-// The chunks of an input and of an output, and the bytes of receipts.
+/// The chunks of an input and of an output, and the bytes of receipts.
 pub(crate) type Files = (&'static [Records], &'static [Records], &'static [u8]);
 
-// Puts these files.
+/// Puts these files.
 fn put_files(
     place: &mut MemoryPlace,
     alloc: Global,
@@ -44,14 +44,14 @@ fn put_files(
     place.put("receipt", receipts)
 }
 
-// A place with these files.
+/// A place with these files.
 pub(crate) fn place_of(alloc: Global, files: Files) -> Result<MemoryPlace, NoMemory> {
     let mut place = MemoryPlace::new(alloc);
     put_files(&mut place, alloc, files)?;
     Ok(place)
 }
 
-// A place whose read runs out of memory after this many reads, as does each call that a check doesn't need.
+/// A place whose read runs out of memory after this many reads, as does each call that a check doesn't need.
 #[derive(Drop)]
 pub(crate) struct Starved {
     pub(crate) place: MemoryPlace,

@@ -12,7 +12,7 @@ use std::alloc::{AllocError, Global};
 use std::process::Abort;
 use std::test::Fail;
 
-// A chunk and its receipt.
+/// A chunk and its receipt.
 type Row = (Records, &'static [u8]);
 
 #[rattlefmt::skip]
@@ -26,7 +26,7 @@ const ROWS: [Row; 7] = [
     (INPUT, &[4, 0, 0, 0, 2, 0, 1, 1, 1, 0, 3, 1, 2]),
 ];
 
-// Compares the receipt of a chunk.
+/// Compares the receipt of a chunk.
 fn compare_chunk(
     rt: &impl Abort,
     alloc: Global,
@@ -38,7 +38,7 @@ fn compare_chunk(
     Ok(())
 }
 
-// Reads a chunk, and compares its receipt.
+/// Reads a chunk, and compares its receipt.
 fn compare_bytes(
     rt: &impl Abort,
     alloc: Global,
@@ -49,7 +49,7 @@ fn compare_bytes(
     compare_chunk(rt, alloc, &chunk, expected)
 }
 
-// Compares the receipt of the chunk of a row.
+/// Compares the receipt of the chunk of a row.
 fn compare_row(
     rt: &impl Abort,
     alloc: Global,
@@ -59,8 +59,8 @@ fn compare_row(
     compare_bytes(rt, alloc, &bytes, receipt)
 }
 
-// What is left of the chunk that is like the JDK's if all events are kept: its last checkpoint is 16 bytes
-// nearer to the first.
+/// What is left of the chunk that is like the JDK's if all events are kept: its last checkpoint is 16 bytes
+/// nearer to the first.
 fn jdk_left(alloc: Global) -> Result<Vec<u8>, AllocError> {
     let mut chunk = jdk_after(alloc, THREAD_AND_SYMBOLS, 1253, 162)?;
     if let Some(delta) = chunk.get_mut(1260) {
@@ -69,13 +69,13 @@ fn jdk_left(alloc: Global) -> Result<Vec<u8>, AllocError> {
     Ok(chunk)
 }
 
-// Its receipt.
+/// Its receipt.
 const JDK_RECEIPT: &[u8] = &[
     13, 0, 0, 0, 11, 0, 0, 5, 0, 0, 4, 0, 1, 12, 0, 1, 6, 0, 1, 9, 1, 11, 1, 1, 5, 10, 1, 12, 7, 1,
     6, 2, 1, 9, 3, 1, 9, 8, 1, 10,
 ];
 
-// Compares the receipt of what is left of the chunk that is like the JDK's.
+/// Compares the receipt of what is left of the chunk that is like the JDK's.
 fn compare_jdk(rt: &impl Abort, alloc: Global) -> Result<(), Fail> {
     let bytes = jdk_left(alloc)?;
     compare_bytes(rt, alloc, &bytes, JDK_RECEIPT)
@@ -89,7 +89,7 @@ fn receipts_are_written(rt: HostRuntime) -> Result<(), Fail> {
     compare_jdk(&rt, rt.alloc())
 }
 
-// Compares the receipt of a chunk's scrub, made from the chunk.
+/// Compares the receipt of a chunk's scrub, made from the chunk.
 fn compare_scrub(
     rt: &impl Abort,
     alloc: Global,
@@ -102,33 +102,33 @@ fn compare_scrub(
     Ok(())
 }
 
-// Compares that of the chunk of rings if no event is kept.
+/// Compares that of the chunk of rings if no event is kept.
 fn compare_none(rt: &impl Abort, alloc: Global, rings: &Chunk<'_>) -> Result<(), Fail> {
     let kept = Kept::new(alloc, 2)?;
     compare_scrub(rt, alloc, rings, &kept, &[0])
 }
 
-// The choice of the second of two events.
+/// The choice of the second of two events.
 fn only_second(alloc: Global) -> Result<Kept, NoMemory> {
     let mut kept = Kept::new(alloc, 2)?;
     kept.set(1, true);
     Ok(kept)
 }
 
-// Compares that of the chunk of rings if the second event is kept.
+/// Compares that of the chunk of rings if the second event is kept.
 fn compare_second(rt: &impl Abort, alloc: Global, rings: &Chunk<'_>) -> Result<(), Fail> {
     let kept = only_second(alloc)?;
     compare_scrub(rt, alloc, rings, &kept, &[2, 0, 0, 0, 1, 1, 0])
 }
 
-// Compares both.
+/// Compares both.
 fn compare_rings(rt: &impl Abort, alloc: Global, bytes: &[u8]) -> Result<(), Fail> {
     let rings = read(alloc, bytes)?;
     compare_none(rt, alloc, &rings)?;
     compare_second(rt, alloc, &rings)
 }
 
-// Compares that of a chunk if all events are kept.
+/// Compares that of a chunk if all events are kept.
 fn compare_all(
     rt: &impl Abort,
     alloc: Global,
@@ -139,7 +139,7 @@ fn compare_all(
     compare_scrub(rt, alloc, chunk, &kept, expected)
 }
 
-// Compares that of the chunk that is like the JDK's if all events are kept.
+/// Compares that of the chunk that is like the JDK's if all events are kept.
 fn compare_jdk_scrub(rt: &impl Abort, alloc: Global) -> Result<(), Fail> {
     let bytes = jdk_like(alloc)?;
     let chunk = read(alloc, &bytes)?;

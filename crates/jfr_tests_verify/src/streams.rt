@@ -10,10 +10,10 @@ use std::alloc::Global;
 use std::process::Abort;
 use std::test::Fail;
 
-// The plain chunk with a wrong size of its last record.
+/// The plain chunk with a wrong size of its last record.
 const WRONG: Records = (NO_CLASSES, &[8, 1, 0, 0, 0, 0, 0], 96);
 
-// Two receipts in a row.
+/// Two receipts in a row.
 const TWO: &[u8] = &[2, 0, 0, 0, 1, 1, 0, 2, 0, 0, 0, 1, 1, 0];
 
 const BAD_SECOND: Verdict = Verdict::Refused(Refusal {
@@ -28,12 +28,12 @@ const NO_CHUNK: Verdict = Verdict::Refused(Refusal {
     reason: Reason::NoChunk,
 });
 
-// Files that are verified, and files whose output is the plain chunk.
+/// Files that are verified, and files whose output is the plain chunk.
 const GOOD: Files = (&[INPUT], &[FIRST], RIGHT);
 
 const PLAIN_OUTPUT: Files = (&[INPUT], &[PLAIN], RIGHT);
 
-// Files, and the verdict on them.
+/// Files, and the verdict on them.
 type Row = (Files, Verdict);
 
 #[rattlefmt::skip]
@@ -55,7 +55,7 @@ static ROWS: [Row; 15] = [
     ((&[PLAIN], &[PLAIN], &[]), Verdict::Doubted { chunk: 1, doubt: Doubt::ReceiptBad }),
 ];
 
-// The verdict on files of a place.
+/// The verdict on files of a place.
 fn verdict_on<P: Place>(
     alloc: Global,
     place: &mut P,
@@ -65,7 +65,7 @@ fn verdict_on<P: Place>(
     Ok(verify_stream(alloc, place, input, output, receipts, &filter))
 }
 
-// Compares the verdict on the files of a place.
+/// Compares the verdict on the files of a place.
 fn compare<P: Place>(
     rt: &impl Abort,
     alloc: Global,
@@ -79,7 +79,7 @@ fn compare<P: Place>(
     Ok(())
 }
 
-// Compares it if the files are read whole, and byte by byte.
+/// Compares it if the files are read whole, and byte by byte.
 fn compare_twice(
     rt: &impl Abort,
     alloc: Global,
@@ -91,7 +91,7 @@ fn compare_twice(
     compare(rt, alloc, place, verdict)
 }
 
-// Compares the verdict on the files of a row.
+/// Compares the verdict on the files of a row.
 fn compare_row(rt: &impl Abort, alloc: Global, (files, verdict): Row) -> Result<(), Fail> {
     let mut place = place_of(alloc, files)?;
     compare_twice(rt, alloc, &mut place, verdict)
@@ -105,10 +105,10 @@ fn files_are_verified(rt: HostRuntime) -> Result<(), Fail> {
     Ok(())
 }
 
-// Which call fails, for which files, and the verdict.
+/// Which call fails, for which files, and the verdict.
 type Failing = (Call, u64, Files, Verdict);
 
-// Two reads take the receipts, the next three the output, and the last three the input.
+/// Two reads take the receipts, the next three the output, and the last three the input.
 #[rattlefmt::skip]
 static FAILING: [Failing; 14] = [
     (Call::Open, 1, GOOD, Verdict::ReadFault),
@@ -127,7 +127,7 @@ static FAILING: [Failing; 14] = [
     (Call::Read, 8, PLAIN_OUTPUT, Verdict::Doubted { chunk: 1, doubt: Doubt::EventsDiffer }),
 ];
 
-// Makes a call fail, and compares the verdict.
+/// Makes a call fail, and compares the verdict.
 fn compare_with_fault(
     rt: &impl Abort,
     alloc: Global,
@@ -139,7 +139,7 @@ fn compare_with_fault(
     compare(rt, alloc, place, verdict)
 }
 
-// Compares the verdict if a call fails.
+/// Compares the verdict if a call fails.
 fn compare_failing(
     rt: &impl Abort,
     alloc: Global,
@@ -157,7 +157,7 @@ fn reads_fail(rt: HostRuntime) -> Result<(), Fail> {
     Ok(())
 }
 
-// Compares the verdict if memory runs out after this many reads.
+/// Compares the verdict if memory runs out after this many reads.
 fn compare_starved(
     rt: &impl Abort,
     alloc: Global,
@@ -176,14 +176,14 @@ fn memory_runs_out(rt: HostRuntime) -> Result<(), Fail> {
     compare_starved(&rt, rt.alloc(), 8, Verdict::Verified(1))
 }
 
-// The names of the input, the output and the receipts, of which one is missing.
+/// The names of the input, the output and the receipts, of which one is missing.
 const MISSING: [[&str; 3]; 3] = [
     ["none", "out", "receipt"],
     ["in", "none", "receipt"],
     ["in", "out", "none"],
 ];
 
-// Compares the verdict if a file doesn't exist.
+/// Compares the verdict if a file doesn't exist.
 fn compare_missing(rt: &impl Abort, alloc: Global, names: [&str; 3]) -> Result<(), Fail> {
     let mut place = place_of(alloc, GOOD)?;
     let verdict = verdict_on(alloc, &mut place, names)?;

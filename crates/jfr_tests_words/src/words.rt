@@ -10,7 +10,7 @@ use std::alloc::Global;
 use std::process::Abort;
 use std::test::Fail;
 
-// The options of a filter that have patterns.
+/// The options of a filter that have patterns.
 static SIDES: [Side; 8] = [
     Side::IncludeEvents,
     Side::ExcludeEvents,
@@ -22,10 +22,10 @@ static SIDES: [Side; 8] = [
     Side::Describe,
 ];
 
-// Those of a filter that are given.
+/// Those of a filter that are given.
 type Options = &'static [Side];
 
-// What a line asks for.
+/// What a line asks for.
 enum Asked {
     // The options, the depth, whether the output is JSON, and the file.
     Print(Options, u8, bool, &'static str),
@@ -51,10 +51,10 @@ enum Asked {
     Build(&'static str, &'static str),
 }
 
-// The words of a line, and what it asks for. Several small tables cost less to prove than one large one.
+/// The words of a line, and what it asks for. Several small tables cost less to prove than one large one.
 type Line = (&'static [&'static str], Asked);
 
-// Orders about scrubs.
+/// Orders about scrubs.
 #[rattlefmt::skip]
 static SCRUBS: [Line; 8] = [
     (&["scrub", "a", "b"], Scrub(&[], false, "a", "b")),
@@ -67,7 +67,7 @@ static SCRUBS: [Line; 8] = [
     (&["verify", "--include-threads", "main", "a", "b", "r"], Verify(&[Side::IncludeThreads], "a", "b", "r")),
 ];
 
-// Lines that begin as these do, and are no orders.
+/// Lines that begin as these do, and are no orders.
 #[rattlefmt::skip]
 static NO_SCRUBS: [&[&str]; 26] = [
     &["scrub", "a"],
@@ -98,7 +98,7 @@ static NO_SCRUBS: [&[&str]; 26] = [
     &["verify", "--include-events", "A", "--include-events", "A", "a", "b", "r"],
 ];
 
-// Orders that print what is in a recording.
+/// Orders that print what is in a recording.
 #[rattlefmt::skip]
 static PRINTS: [Line; 10] = [
     (&["print", "a"], Print(&[], 2, false, "a")),
@@ -113,7 +113,7 @@ static PRINTS: [Line; 10] = [
     (&["stacks", "--categories", "--events", "--events", "A", "a"], Stacks(&[Side::IncludeEvents, Side::IncludeCategories], "a")),
 ];
 
-// Lines that begin as these do, and are no orders.
+/// Lines that begin as these do, and are no orders.
 #[rattlefmt::skip]
 static NO_PRINTS: [&[&str]; 27] = [
     &["print"],
@@ -145,10 +145,10 @@ static NO_PRINTS: [&[&str]; 27] = [
     &["stacks", "a", "b"],
 ];
 
-// The words of a line with a filter, the filter's options that have patterns, and the bounds of its window.
+/// The words of a line with a filter, the filter's options that have patterns, and the bounds of its window.
 type Windowed = (&'static [&'static str], Options, Option<i64>, Option<i64>);
 
-// Orders about a time window.
+/// Orders about a time window.
 #[rattlefmt::skip]
 static WINDOWS: [Windowed; 8] = [
     (&["scrub", "--from", "0", "a", "b"], &[], Some(0), None),
@@ -161,7 +161,7 @@ static WINDOWS: [Windowed; 8] = [
     (&["stacks", "--always", "A", "--to", "2", "a"], &[Side::Always], None, Some(2)),
 ];
 
-// Lines that begin as these do, and are no orders.
+/// Lines that begin as these do, and are no orders.
 #[rattlefmt::skip]
 static NO_WINDOWS: [&[&str]; 17] = [
     &["scrub", "--from"],
@@ -183,7 +183,7 @@ static NO_WINDOWS: [&[&str]; 17] = [
     &["stacks", "--to", "", "a"],
 ];
 
-// Other orders.
+/// Other orders.
 #[rattlefmt::skip]
 static OTHERS: [Line; 6] = [
     (&["disassemble", "a"], Disassemble("a", [5, 1099511627776, 999999], None)),
@@ -194,7 +194,7 @@ static OTHERS: [Line; 6] = [
     (&["build", "t", "o"], Build("t", "o")),
 ];
 
-// Other lines that are no orders.
+/// Other lines that are no orders.
 #[rattlefmt::skip]
 static NO_OTHERS: [&[&str]; 18] = [
     &[],
@@ -217,7 +217,7 @@ static NO_OTHERS: [&[&str]; 18] = [
     &["build", "--json", "t", "o"],
 ];
 
-// Adds the words of a line.
+/// Adds the words of a line.
 fn push_words(words: &mut Words, line: &[&str]) -> Result<(), NoMemory> {
     for word in line {
         words.push(word)?;
@@ -225,14 +225,14 @@ fn push_words(words: &mut Words, line: &[&str]) -> Result<(), NoMemory> {
     Ok(())
 }
 
-// The words of a line.
+/// The words of a line.
 fn words_of(alloc: Global, line: &[&str]) -> Result<Words, NoMemory> {
     let mut words = Words::new(alloc);
     push_words(&mut words, line)?;
     Ok(words)
 }
 
-// Whether these options are given, and no others that have patterns.
+/// Whether these options are given, and no others that have patterns.
 fn has_sides(filter: &Filter, options: &[Side]) -> bool {
     for side in SIDES.iter() {
         if filter.has(*side) != options.contains(side) {
@@ -242,17 +242,17 @@ fn has_sides(filter: &Filter, options: &[Side]) -> bool {
     true
 }
 
-// Whether these options are given, and no others.
+/// Whether these options are given, and no others.
 fn has_options(filter: &Filter, options: &[Side]) -> bool {
     !filter.has_window() && has_sides(filter, options)
 }
 
-// Whether these are the bounds of the window.
+/// Whether these are the bounds of the window.
 fn has_window(filter: &Filter, from: Option<i64>, to: Option<i64>) -> bool {
     filter.from() == from && filter.to() == to
 }
 
-// The filter of an order, if it has one.
+/// The filter of an order, if it has one.
 fn filter_of(order: &Order) -> Option<&Filter> {
     match order {
         Order::Print { filter, .. }
@@ -264,12 +264,12 @@ fn filter_of(order: &Order) -> Option<&Filter> {
     }
 }
 
-// Whether a rule has these bounds.
+/// Whether a rule has these bounds.
 fn has_bounds(rule: &SplitRule, [chunks, size, parts]: [u64; 3]) -> bool {
     rule.max_chunks == chunks && rule.max_size == size && rule.max_parts == parts
 }
 
-// Whether the parts go to this folder, if there is one.
+/// Whether the parts go to this folder, if there is one.
 fn has_folder(rule: &SplitRule, name: Option<&str>) -> bool {
     match (&rule.folder, name) {
         (Some(folder), Some(name)) => folder.as_str() == name,
@@ -278,12 +278,12 @@ fn has_folder(rule: &SplitRule, name: Option<&str>) -> bool {
     }
 }
 
-// Whether these are the names.
+/// Whether these are the names.
 fn has_names([first, second]: [&Text; 2], [from, to]: [&str; 2]) -> bool {
     first.as_str() == from && second.as_str() == to
 }
 
-// Whether an order that prints a recording is what a line asks for.
+/// Whether an order that prints a recording is what a line asks for.
 fn is_asked_print(order: &Order, asked: &Asked) -> bool {
     match (order, asked) {
         (
@@ -313,7 +313,7 @@ fn is_asked_print(order: &Order, asked: &Asked) -> bool {
     }
 }
 
-// Whether an order that scrubs a recording, or has to do with its scrub, is what a line asks for.
+/// Whether an order that scrubs a recording, or has to do with its scrub, is what a line asks for.
 fn is_asked_scrub(order: &Order, asked: &Asked) -> bool {
     match (order, asked) {
         (
@@ -354,7 +354,7 @@ fn is_asked_scrub(order: &Order, asked: &Asked) -> bool {
     }
 }
 
-// Whether another order is what a line asks for.
+/// Whether another order is what a line asks for.
 fn is_asked_other(order: &Order, asked: &Asked) -> bool {
     match (order, asked) {
         (Order::Disassemble { file, rule }, Disassemble(name, bounds, folder)) => {
@@ -369,18 +369,18 @@ fn is_asked_other(order: &Order, asked: &Asked) -> bool {
     }
 }
 
-// What is read of words. This function has no clauses, so those that call it are proved without those of
-// `read_words`.
+/// What is read of words. This function has no clauses, so those that call it are proved without those of
+/// `read_words`.
 fn read(alloc: Global, words: &Words) -> Result<Order, WordsFault> {
     read_words(alloc, words)
 }
 
-// Whether an order is what a line asks for.
+/// Whether an order is what a line asks for.
 fn is_asked(order: &Order, asked: &Asked) -> bool {
     is_asked_print(order, asked) || is_asked_scrub(order, asked) || is_asked_other(order, asked)
 }
 
-// Whether a line was read as the order that it asks for.
+/// Whether a line was read as the order that it asks for.
 fn is_read(read: Result<Order, WordsFault>, asked: &Asked) -> bool {
     match read {
         Ok(order) => is_asked(&order, asked),
@@ -388,14 +388,14 @@ fn is_read(read: Result<Order, WordsFault>, asked: &Asked) -> bool {
     }
 }
 
-// Compares what is read of a line with what it asks for.
+/// Compares what is read of a line with what it asks for.
 fn see_line(rt: &impl Abort, alloc: Global, line: &[&str], asked: &Asked) -> Result<(), Fail> {
     let words = words_of(alloc, line)?;
     assert!(rt; is_read(read(alloc, &words), asked), "{line:?}");
     Ok(())
 }
 
-// Whether an order has a filter with these options and this window.
+/// Whether an order has a filter with these options and this window.
 fn has_filter(order: &Order, options: &[Side], from: Option<i64>, to: Option<i64>) -> bool {
     match filter_of(order) {
         Some(filter) => has_sides(filter, options) && has_window(filter, from, to),
@@ -403,7 +403,7 @@ fn has_filter(order: &Order, options: &[Side], from: Option<i64>, to: Option<i64
     }
 }
 
-// Whether a line was read as an order with these options and this window.
+/// Whether a line was read as an order with these options and this window.
 fn is_windowed(
     read: Result<Order, WordsFault>,
     options: &[Side],
@@ -416,7 +416,7 @@ fn is_windowed(
     }
 }
 
-// Compares the filter that is read of a line with its options and its window.
+/// Compares the filter that is read of a line with its options and its window.
 fn see_window(
     rt: &impl Abort,
     alloc: Global,
@@ -430,7 +430,7 @@ fn see_window(
     Ok(())
 }
 
-// Compares that nothing is read of a line.
+/// Compares that nothing is read of a line.
 fn see_unreadable(rt: &impl Abort, alloc: Global, line: &[&str]) -> Result<(), Fail> {
     let words = words_of(alloc, line)?;
     let fault = read(alloc, &words).err();
@@ -438,7 +438,7 @@ fn see_unreadable(rt: &impl Abort, alloc: Global, line: &[&str]) -> Result<(), F
     Ok(())
 }
 
-// Compares what is read of each line.
+/// Compares what is read of each line.
 fn see_lines(rt: &impl Abort, alloc: Global, lines: &[Line]) -> Result<(), Fail> {
     for (line, asked) in lines {
         see_line(rt, alloc, line, asked)?;
@@ -446,7 +446,7 @@ fn see_lines(rt: &impl Abort, alloc: Global, lines: &[Line]) -> Result<(), Fail>
     Ok(())
 }
 
-// Compares the filter that is read of each line.
+/// Compares the filter that is read of each line.
 fn see_windows(rt: &impl Abort, alloc: Global, lines: &[Windowed]) -> Result<(), Fail> {
     for line in lines {
         see_window(rt, alloc, line)?;
@@ -454,7 +454,7 @@ fn see_windows(rt: &impl Abort, alloc: Global, lines: &[Windowed]) -> Result<(),
     Ok(())
 }
 
-// Compares that nothing is read of each line.
+/// Compares that nothing is read of each line.
 fn see_all_unreadable(rt: &impl Abort, alloc: Global, lines: &[&[&str]]) -> Result<(), Fail> {
     for line in lines {
         see_unreadable(rt, alloc, line)?;

@@ -20,4 +20,4 @@ pub use read::{is_bare, is_key, read_string, short_units_end};
 pub use span::{
     EMPTY_BYTE, KEY_BYTE, LATIN_BYTE, NULL_BYTE, StringKind, StringSpan, UNITS_BYTE, UTF8_BYTE,
 };
-pub use text::{same_text, text_of};
+pub use text::{payload_text, same_text, text_of};

@@ -22,8 +22,8 @@ pub fn text_of(alloc: Global, span: &StringSpan<'_>) -> Result<Option<Text>, NoM
 }
 
 /// The payload, if it is the text: nearly all strings are ASCII, with one byte for each character. `None` if
-/// it isn't, and for strings without a payload.
-fn payload_text<'a>(span: &StringSpan<'a>) -> Option<&'a str>
+/// it isn't, and for strings without a payload. It copies nothing.
+pub fn payload_text<'a>(span: &StringSpan<'a>) -> Option<&'a str>
     ensures { IfSome result (λ text. text_of (content_of span.now) ≡ Some (chars text.now)) }
 {
     match span.kind {

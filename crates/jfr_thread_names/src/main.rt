@@ -15,10 +15,10 @@ use std::env::Env;
 use std::process::ExitCode;
 use std::{env, io};
 
-// The status if the words aren't one name, or the recording can't be read whole.
+/// The status if the words aren't one name, or the recording can't be read whole.
 const FAILED: u8 = 1;
 
-// The words after the program's name.
+/// The words after the program's name.
 fn words_of<R: Env + AllocGlobal>(rt: &R, alloc: Global) -> io::Result<Words> {
     let mut words = Words::new(alloc);
     for word in env::args(rt)?.skip(1) {

@@ -22,7 +22,7 @@ pub fn print_names<P: Place, S: Sink>(
     print_chunks(alloc, &names, place, out)
 }
 
-// The names of the fields that lead from an event to the Java name of its thread.
+/// The names of the fields that lead from an event to the Java name of its thread.
 fn field_names(alloc: Global) -> Result<Words, NoMemory> {
     let mut names = Words::new(alloc);
     names.push("eventThread")?;
@@ -30,7 +30,7 @@ fn field_names(alloc: Global) -> Result<Words, NoMemory> {
     Ok(names)
 }
 
-// Reads each chunk of the open input, and writes the texts to which the names lead from its events.
+/// Reads each chunk of the open input, and writes the texts to which the names lead from its events.
 fn print_chunks<P: Place, S: Sink>(
     alloc: Global,
     names: &Words,
@@ -50,7 +50,7 @@ fn print_chunks<P: Place, S: Sink>(
     }
 }
 
-// Reads the chunk with this number, and writes the texts of its events.
+/// Reads the chunk with this number, and writes the texts of its events.
 fn print_chunk<S: Sink>(
     alloc: Global,
     bytes: &[u8],
@@ -66,7 +66,7 @@ fn print_chunk<S: Sink>(
     }
 }
 
-// Writes the texts, a line each.
+/// Writes the texts, a line each.
 fn print_texts<S: Sink>(texts: &Words, out: &mut S) -> Result<(), Ending> {
     for number in 0..texts.len() {
         if let Some(text) = texts.get(number) {
@@ -76,7 +76,7 @@ fn print_texts<S: Sink>(texts: &Words, out: &mut S) -> Result<(), Ending> {
     Ok(())
 }
 
-// Writes a text and a newline.
+/// Writes a text and a newline.
 fn print_line<S: Sink>(text: &str, out: &mut S) -> Result<(), Ending> {
     if let Err(fault) = out.write(text.as_bytes()) {
         return Err(Ending::of_write(fault));
