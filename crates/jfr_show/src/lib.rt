@@ -30,5 +30,6 @@ pub use builder::TextBuilder;
 pub use event::{event_text, show_event};
 pub use json::{JsonWriter, event_json, show_json};
 pub use metadata::{metadata_json, metadata_text, show_metadata, show_metadata_json};
+pub use quoted::push_quoted;
 pub use summary::{Summary, summary_json, summary_text};
 pub use writer::TextWriter;

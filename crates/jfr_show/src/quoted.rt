@@ -8,7 +8,7 @@ use jfr_base::NoMemory;
 use jfr_text::Characters;
 
 /// Adds a text between quotes.
-pub(crate) fn push_quoted(text: &str, out: &mut TextBuilder) -> Result<(), NoMemory>
+pub fn push_quoted(text: &str, out: &mut TextBuilder) -> Result<(), NoMemory>
     ensures ok { OnOk result (out.new ≡ out.old ++ quoted (chars text.now)) }
 {
     out.push_ascii("\"")?;
