@@ -7,4 +7,4 @@ mod Staging
 pub mod Failing
 pub mod Clauses
 mod Rows
-mod Sound
+pub mod Sound
