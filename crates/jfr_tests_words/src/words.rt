@@ -50,9 +50,17 @@ enum Asked {
     Stacks(Options, &'static str),
     // The text and the output.
     Build(&'static str, &'static str),
-    // The options, a text that the strings match, the other options (a text that the exceptions match, the known
-    // texts, and the table), and the input and the output.
-    Mask(Options, &'static str, [Option<&'static str>; 3], [&'static str; 2]),
+    // The options, a text that `strings` matches, one that `except` does, the known texts, the table, the input and
+    // the output.
+    Mask(
+        Options,
+        &'static str,
+        Option<&'static str>,
+        Option<&'static str>,
+        Option<&'static str>,
+        &'static str,
+        &'static str,
+    ),
 }
 
 /// The words of a line, and what it asks for. Several small tables cost less to prove than one large one.
@@ -105,11 +113,11 @@ static NO_SCRUBS: [&[&str]; 26] = [
 /// Orders about masks.
 #[rattlefmt::skip]
 static MASKS: [Line; 5] = [
-    (&["mask", "--strings", "A", "a", "b"], Mask(&[], "A", [None, None, None], ["a", "b"])),
-    (&["mask", "--strings", "--except", "--except", "--strings", "a", "b"], Mask(&[], "--except", [Some("--strings"), None, None], ["a", "b"])),
-    (&["mask", "--strings", "A.*,B", "--except", "A.x", "--known", "k", "--table", "t", "--include-events", "A", "--describe", "B", "a", "b"], Mask(&[Side::IncludeEvents, Side::Describe], "B", [Some("A.x"), Some("k"), Some("t")], ["a", "b"])),
-    (&["mask", "--describe", "B", "--table", "t", "--except", "A.x", "--include-events", "A", "--known", "k", "--strings", "A.*,B", "a", "b"], Mask(&[Side::IncludeEvents, Side::Describe], "B", [Some("A.x"), Some("k"), Some("t")], ["a", "b"])),
-    (&["mask", "--table", "t", "--always", "A", "--strings", "A", "a", "b"], Mask(&[Side::Always], "A", [None, None, Some("t")], ["a", "b"])),
+    (&["mask", "--strings", "A", "a", "b"], Mask(&[], "A", None, None, None, "a", "b")),
+    (&["mask", "--strings", "--except", "--except", "--strings", "a", "b"], Mask(&[], "--except", Some("--strings"), None, None, "a", "b")),
+    (&["mask", "--strings", "A.*,B", "--except", "A.x", "--known", "k", "--table", "t", "--include-events", "A", "--describe", "B", "a", "b"], Mask(&[Side::IncludeEvents, Side::Describe], "B", Some("A.x"), Some("k"), Some("t"), "a", "b")),
+    (&["mask", "--describe", "B", "--table", "t", "--except", "A.x", "--include-events", "A", "--known", "k", "--strings", "A.*,B", "a", "b"], Mask(&[Side::IncludeEvents, Side::Describe], "B", Some("A.x"), Some("k"), Some("t"), "a", "b")),
+    (&["mask", "--table", "t", "--always", "A", "--strings", "A", "a", "b"], Mask(&[Side::Always], "A", None, None, Some("t"), "a", "b")),
 ];
 
 /// Lines that begin as these do, and are no orders.
@@ -423,13 +431,13 @@ fn is_asked_mask(order: &Order, asked: &Asked) -> bool {
                 input,
                 output,
             },
-            Mask(options, masked, [kept, shown, listed], names),
+            Mask(options, masked, kept, shown, listed, from, to),
         ) => {
             strings.matches(masked)
                 && do_match(except, *kept)
                 && is_value(known, *shown)
                 && is_value(table, *listed)
-                && has_names([input, output], *names)
+                && has_names([input, output], [from, to])
                 && has_options(filter, options)
         }
         _ => false,
