@@ -1,8 +1,9 @@
 //! Lines, and the orders that they give.
 use crate::words::Asked::{
-    Assemble, Build, Disassemble, Metadata, Print, Receipt, Sample, Scrub, Stacks, Summary, Verify,
+    Assemble, Build, Disassemble, Mask, Metadata, Print, Receipt, Sample, Scrub, Stacks, Summary,
+    Verify,
 };
-use jfr_filter::{Filter, Side};
+use jfr_filter::{Filter, Patterns, Side};
 use jfr_outside::{NoMemory, Text, Words};
 use jfr_split::SplitRule;
 use jfr_words::{Order, WordsFault, read_words};
@@ -49,6 +50,17 @@ enum Asked {
     Stacks(Options, &'static str),
     // The text and the output.
     Build(&'static str, &'static str),
+    // The options, a text that `strings` matches, one that `except` does, the known texts, the table, the input and
+    // the output.
+    Mask(
+        Options,
+        &'static str,
+        Option<&'static str>,
+        Option<&'static str>,
+        Option<&'static str>,
+        &'static str,
+        &'static str,
+    ),
 }
 
 /// The words of a line, and what it asks for. Several small tables cost less to prove than one large one.
@@ -96,6 +108,47 @@ static NO_SCRUBS: [&[&str]; 26] = [
     &["verify", "a", "b"],
     &["verify", "a", "b", "-r"],
     &["verify", "--include-events", "A", "--include-events", "A", "a", "b", "r"],
+];
+
+/// Orders about masks.
+#[rattlefmt::skip]
+static MASKS: [Line; 5] = [
+    (&["mask", "--strings", "A", "a", "b"], Mask(&[], "A", None, None, None, "a", "b")),
+    (&["mask", "--strings", "--except", "--except", "--strings", "a", "b"], Mask(&[], "--except", Some("--strings"), None, None, "a", "b")),
+    (&["mask", "--strings", "A.*,B", "--except", "A.x", "--known", "k", "--table", "t", "--include-events", "A", "--describe", "B", "a", "b"], Mask(&[Side::IncludeEvents, Side::Describe], "B", Some("A.x"), Some("k"), Some("t"), "a", "b")),
+    (&["mask", "--describe", "B", "--table", "t", "--except", "A.x", "--include-events", "A", "--known", "k", "--strings", "A.*,B", "a", "b"], Mask(&[Side::IncludeEvents, Side::Describe], "B", Some("A.x"), Some("k"), Some("t"), "a", "b")),
+    (&["mask", "--table", "t", "--always", "A", "--strings", "A", "a", "b"], Mask(&[Side::Always], "A", None, None, Some("t"), "a", "b")),
+];
+
+/// Lines that begin as these do, and are no orders.
+#[rattlefmt::skip]
+static NO_MASKS: [&[&str]; 26] = [
+    &["mask"],
+    &["mask", "a", "b"],
+    &["mask", "--except", "A", "--known", "k", "--table", "t", "a", "b"],
+    &["mask", "--strings"],
+    &["mask", "--strings", "A"],
+    &["mask", "--strings", "A", "a"],
+    &["mask", "--strings", "A", "a", "b", "c"],
+    &["mask", "--strings", "A", "a", "-b"],
+    &["mask", "--strings", "", "a", "b"],
+    &["mask", "--strings", "A,,B", "a", "b"],
+    &["mask", "--strings", "A", "--except", "", "a", "b"],
+    &["mask", "--strings", "A", "--except", "A,", "a", "b"],
+    &["mask", "--strings", "A", "--strings", "B", "a", "b"],
+    &["mask", "--strings", "A", "--except", "A", "--except", "A", "a", "b"],
+    &["mask", "--known", "k", "--strings", "A", "--known", "k", "a", "b"],
+    &["mask", "--table", "t", "--strings", "A", "--table", "u", "a", "b"],
+    &["mask", "--include-events", "A", "--strings", "A", "--include-events", "A", "a", "b"],
+    &["mask", "--to", "1", "--to", "1", "--strings", "A", "a", "b"],
+    &["mask", "--strings", "A", "--known", "-x", "a", "b"],
+    &["mask", "--strings", "A", "--known", "", "a", "b"],
+    &["mask", "--strings", "A", "--table", "-x", "a", "b"],
+    &["mask", "--strings", "A", "--table"],
+    &["mask", "--strings", "A", "--table", "a", "b"],
+    &["mask", "--strings", "A", "--renumber", "no", "a", "b"],
+    &["mask", "a", "--strings", "A", "b"],
+    &["scrub", "--strings", "A", "a", "b"],
 ];
 
 /// Orders that print what is in a recording.
@@ -150,7 +203,7 @@ type Windowed = (&'static [&'static str], Options, Option<i64>, Option<i64>);
 
 /// Orders about a time window.
 #[rattlefmt::skip]
-static WINDOWS: [Windowed; 8] = [
+static WINDOWS: [Windowed; 9] = [
     (&["scrub", "--from", "0", "a", "b"], &[], Some(0), None),
     (&["scrub", "--to", "9223372036854775807", "a", "b"], &[], None, Some(9223372036854775807)),
     (&["scrub", "--to", "1", "--renumber", "no", "--from", "2", "a", "b"], &[], Some(2), Some(1)),
@@ -159,6 +212,7 @@ static WINDOWS: [Windowed; 8] = [
     (&["verify", "--describe", "A", "--from", "1788000000000000000", "a", "b", "r"], &[Side::Describe], Some(1788000000000000000), None),
     (&["print", "--json", "--from", "1", "--events", "A", "--to", "2", "a"], &[Side::IncludeEvents], Some(1), Some(2)),
     (&["stacks", "--always", "A", "--to", "2", "a"], &[Side::Always], None, Some(2)),
+    (&["mask", "--to", "5", "--strings", "--from", "--from", "4", "a", "b"], &[], Some(4), Some(5)),
 ];
 
 /// Lines that begin as these do, and are no orders.
@@ -259,7 +313,8 @@ fn filter_of(order: &Order) -> Option<&Filter> {
         | Order::Scrub { filter, .. }
         | Order::Receipt { filter, .. }
         | Order::Verify { filter, .. }
-        | Order::Stacks { filter, .. } => Some(filter),
+        | Order::Stacks { filter, .. }
+        | Order::Mask { filter, .. } => Some(filter),
         _ => None,
     }
 }
@@ -269,10 +324,19 @@ fn has_bounds(rule: &SplitRule, [chunks, size, parts]: [u64; 3]) -> bool {
     rule.max_chunks == chunks && rule.max_size == size && rule.max_parts == parts
 }
 
-/// Whether the parts go to this folder, if there is one.
-fn has_folder(rule: &SplitRule, name: Option<&str>) -> bool {
-    match (&rule.folder, name) {
-        (Some(folder), Some(name)) => folder.as_str() == name,
+/// Whether this is the value of an option, if it has one.
+fn is_value(given: &Option<Text>, value: Option<&str>) -> bool {
+    match (given, value) {
+        (Some(given), Some(value)) => given.as_str() == value,
+        (None, None) => true,
+        _ => false,
+    }
+}
+
+/// Whether the patterns of an option match this text, if it has any.
+fn do_match(given: &Option<Patterns>, text: Option<&str>) -> bool {
+    match (given, text) {
+        (Some(given), Some(text)) => given.matches(text),
         (None, None) => true,
         _ => false,
     }
@@ -354,11 +418,37 @@ fn is_asked_scrub(order: &Order, asked: &Asked) -> bool {
     }
 }
 
+/// Whether an order that masks a recording is what a line asks for.
+fn is_asked_mask(order: &Order, asked: &Asked) -> bool {
+    match (order, asked) {
+        (
+            Order::Mask {
+                filter,
+                strings,
+                except,
+                known,
+                table,
+                input,
+                output,
+            },
+            Mask(options, masked, kept, shown, listed, from, to),
+        ) => {
+            strings.matches(masked)
+                && do_match(except, *kept)
+                && is_value(known, *shown)
+                && is_value(table, *listed)
+                && has_names([input, output], [from, to])
+                && has_options(filter, options)
+        }
+        _ => false,
+    }
+}
+
 /// Whether another order is what a line asks for.
 fn is_asked_other(order: &Order, asked: &Asked) -> bool {
     match (order, asked) {
         (Order::Disassemble { file, rule }, Disassemble(name, bounds, folder)) => {
-            file.as_str() == *name && has_bounds(rule, *bounds) && has_folder(rule, *folder)
+            file.as_str() == *name && has_bounds(rule, *bounds) && is_value(&rule.folder, *folder)
         }
         (Order::Assemble { folder, output }, Assemble(from, to)) => {
             has_names([folder, output], [from, to])
@@ -377,7 +467,10 @@ fn read(alloc: Global, words: &Words) -> Result<Order, WordsFault> {
 
 /// Whether an order is what a line asks for.
 fn is_asked(order: &Order, asked: &Asked) -> bool {
-    is_asked_print(order, asked) || is_asked_scrub(order, asked) || is_asked_other(order, asked)
+    is_asked_print(order, asked)
+        || is_asked_scrub(order, asked)
+        || is_asked_mask(order, asked)
+        || is_asked_other(order, asked)
 }
 
 /// Whether a line was read as the order that it asks for.
@@ -465,10 +558,12 @@ fn see_all_unreadable(rt: &impl Abort, alloc: Global, lines: &[&[&str]]) -> Resu
 #[test]
 fn lines_give_orders(rt: HostRuntime) -> Result<(), Fail> {
     see_lines(&rt, rt.alloc(), &SCRUBS)?;
+    see_lines(&rt, rt.alloc(), &MASKS)?;
     see_lines(&rt, rt.alloc(), &PRINTS)?;
     see_lines(&rt, rt.alloc(), &OTHERS)?;
     see_windows(&rt, rt.alloc(), &WINDOWS)?;
     see_all_unreadable(&rt, rt.alloc(), &NO_SCRUBS)?;
+    see_all_unreadable(&rt, rt.alloc(), &NO_MASKS)?;
     see_all_unreadable(&rt, rt.alloc(), &NO_PRINTS)?;
     see_all_unreadable(&rt, rt.alloc(), &NO_WINDOWS)?;
     see_all_unreadable(&rt, rt.alloc(), &NO_OTHERS)

@@ -17,6 +17,8 @@ use Rattle.jfr_words.specs.declared.split.SplitOption.TheVariants.{Output, MaxCh
 use Rattle.jfr_words.specs.declared.split.SplitSettings.{SplitSettings}
 use Rattle.jfr_words.specs.Jsons.{is_json, asks_json, after_json}
 use Rattle.jfr_words.specs.Laws.{filter_options, valued_options, bare_options, is_option, is_same_option, AreOptions, line}
+use Rattle.jfr_words.specs.Masks.{MaskSettings, MaskOption, no_mask_option, mask_option_of, mask_with, mask_from, list_in}
+use Rattle.jfr_words.specs.declared.mask.MaskOption.TheVariants as masks
 use Rattle.jfr_words.specs.Names.{name_in, only_name}
 use Rattle.jfr_words.specs.Numbers.{number_in}
 use Rattle.jfr_words.specs.Prints.{no_print_option, print_option_of, print_with, print_from}
@@ -166,6 +168,85 @@ splits_settle = settles split_with SplitValue is_split_given put_split split_val
 stacks_settle : Settles stacks_with
 stacks_settle = record { either = λ o p v u g. filters_settle.either o.0 p.0 v u g; once = λ o v u g. filters_settle.once o.0 v u g }
 
+-- The options of a mask.
+abbrev MaskValue : MaskOption → Type 0
+MaskValue (masks.Filter part) = FilterValue part
+MaskValue masks.Strings = List (List ℕ)
+MaskValue masks.Except = List (List ℕ)
+MaskValue masks.Known = List ℕ
+MaskValue masks.Table = List ℕ
+
+abbrev has_mask : MaskOption → MaskSettings → Bool
+has_mask (masks.Filter part) g = has_filter part g.filter
+has_mask masks.Strings g = is_some g.strings
+has_mask masks.Except g = is_some g.except
+has_mask masks.Known g = is_some g.known
+has_mask masks.Table g = is_some g.table
+
+abbrev put_mask : (o : MaskOption) → MaskValue o → MaskSettings → MaskSettings
+put_mask (masks.Filter part) x g = record g { filter = put_filter part x g.filter }
+put_mask masks.Strings list g = record g { strings = Some list }
+put_mask masks.Except list g = record g { except = Some list }
+put_mask masks.Known name g = record g { known = Some name }
+put_mask masks.Table name g = record g { table = Some name }
+
+abbrev mask_value : (o : MaskOption) → List ℕ → Option (MaskValue o)
+mask_value (masks.Filter part) word = filter_value part word
+mask_value masks.Strings word = list_in word
+mask_value masks.Except word = list_in word
+mask_value masks.Known word = name_in word
+mask_value masks.Table word = name_in word
+
+mask_is_set : (o : MaskOption) (v : List ℕ) (g : MaskSettings) → mask_with o v g ≡ set (has_mask o) (put_mask o) (mask_value o v) g
+mask_is_set (masks.Filter part) v g =
+    ap (option_map (λ h. record g { filter = h })) (filter_set part v g.filter)
+    ∙ set_in (has_filter part) (put_filter part) (filter_value part v) g.filter (λ h. record g { filter = h })
+mask_is_set masks.Strings v g = refl
+mask_is_set masks.Except v g = refl
+mask_is_set masks.Known v g = refl
+mask_is_set masks.Table v g = refl
+
+mask_is : (o : MaskOption) (x : MaskValue o) (g : MaskSettings) → has_mask o (put_mask o x g) ≡ true
+mask_is (masks.Filter part) x g = filter_is part x g.filter
+mask_is masks.Strings x g = refl
+mask_is masks.Except x g = refl
+mask_is masks.Known x g = refl
+mask_is masks.Table x g = refl
+
+which_mask : (o p : MaskOption) → (o ≡ p) ⊎ Apart (has_mask o) (put_mask o) (has_mask p) (put_mask p)
+which_mask (masks.Filter s) (masks.Filter t) = by_which (which_filter s t)
+  where
+    by_which : (s ≡ t) ⊎ Apart (has_filter s) (put_filter s) (has_filter t) (put_filter t) → (masks.Filter s ≡ masks.Filter t) ⊎ Apart (has_mask (masks.Filter s)) (put_mask (masks.Filter s)) (has_mask (masks.Filter t)) (put_mask (masks.Filter t))
+    by_which (inl e) = inl (ap (λ z. masks.Filter z) e)
+    by_which (inr a) = inr (record { on = λ x g. a.on x g.filter; back = λ y g. a.back y g.filter; both = λ x y g. ap (λ h. record g { filter = h }) (a.both x y g.filter) })
+which_mask (masks.Filter s) masks.Strings = inr (record { on = λ x g. refl; back = λ y g. refl; both = λ x y g. refl })
+which_mask (masks.Filter s) masks.Except = inr (record { on = λ x g. refl; back = λ y g. refl; both = λ x y g. refl })
+which_mask (masks.Filter s) masks.Known = inr (record { on = λ x g. refl; back = λ y g. refl; both = λ x y g. refl })
+which_mask (masks.Filter s) masks.Table = inr (record { on = λ x g. refl; back = λ y g. refl; both = λ x y g. refl })
+which_mask masks.Strings (masks.Filter t) = inr (record { on = λ x g. refl; back = λ y g. refl; both = λ x y g. refl })
+which_mask masks.Strings masks.Strings = inl refl
+which_mask masks.Strings masks.Except = inr (record { on = λ x g. refl; back = λ y g. refl; both = λ x y g. refl })
+which_mask masks.Strings masks.Known = inr (record { on = λ x g. refl; back = λ y g. refl; both = λ x y g. refl })
+which_mask masks.Strings masks.Table = inr (record { on = λ x g. refl; back = λ y g. refl; both = λ x y g. refl })
+which_mask masks.Except (masks.Filter t) = inr (record { on = λ x g. refl; back = λ y g. refl; both = λ x y g. refl })
+which_mask masks.Except masks.Strings = inr (record { on = λ x g. refl; back = λ y g. refl; both = λ x y g. refl })
+which_mask masks.Except masks.Except = inl refl
+which_mask masks.Except masks.Known = inr (record { on = λ x g. refl; back = λ y g. refl; both = λ x y g. refl })
+which_mask masks.Except masks.Table = inr (record { on = λ x g. refl; back = λ y g. refl; both = λ x y g. refl })
+which_mask masks.Known (masks.Filter t) = inr (record { on = λ x g. refl; back = λ y g. refl; both = λ x y g. refl })
+which_mask masks.Known masks.Strings = inr (record { on = λ x g. refl; back = λ y g. refl; both = λ x y g. refl })
+which_mask masks.Known masks.Except = inr (record { on = λ x g. refl; back = λ y g. refl; both = λ x y g. refl })
+which_mask masks.Known masks.Known = inl refl
+which_mask masks.Known masks.Table = inr (record { on = λ x g. refl; back = λ y g. refl; both = λ x y g. refl })
+which_mask masks.Table (masks.Filter t) = inr (record { on = λ x g. refl; back = λ y g. refl; both = λ x y g. refl })
+which_mask masks.Table masks.Strings = inr (record { on = λ x g. refl; back = λ y g. refl; both = λ x y g. refl })
+which_mask masks.Table masks.Except = inr (record { on = λ x g. refl; back = λ y g. refl; both = λ x y g. refl })
+which_mask masks.Table masks.Known = inr (record { on = λ x g. refl; back = λ y g. refl; both = λ x y g. refl })
+which_mask masks.Table masks.Table = inl refl
+
+masks_settle : Settles mask_with
+masks_settle = settles mask_with MaskValue has_mask put_mask mask_value mask_is_set mask_is which_mask
+
 -- A word among some is the first of them, or among the others.
 among : (word first : List ℕ) (others : List (List ℕ)) → list_any (bytes_eq word) (first ∷ others) ≡ true → (word ≡ first) ⊎ (list_any (bytes_eq word) others ≡ true)
 among word first others e = by_test (bytes_eq word first) refl e
@@ -255,6 +336,15 @@ stacks_read g (word ∷ []) rest e = cc
 stacks_read g (word ∷ value ∷ []) rest e = stacks_valued word e value rest g
 stacks_read g (word ∷ value ∷ more ∷ others) rest e = cc
 
+mask_valued : (word : List ℕ) → list_any (bytes_eq word) (valued_options (codes "mask")) ≡ true → (value : List ℕ) → Takes mask_option_of mask_with mask_from (word ∷ value ∷ [])
+mask_valued word e value = of_each (λ w. Takes mask_option_of mask_with mask_from (w ∷ value ∷ [])) (valued_options (codes "mask")) (λ rest g. refl, (λ rest g. refl, (λ rest g. refl, (λ rest g. refl, (λ rest g. refl, (λ rest g. refl, (λ rest g. refl, (λ rest g. refl, (λ rest g. refl, (λ rest g. refl, (λ rest g. refl, (λ rest g. refl, (λ rest g. refl, (λ rest g. refl, tt)))))))))))))) word e
+
+mask_read : (g : MaskSettings) (option : List (List ℕ)) (rest : List (List ℕ)) → IsTrue (is_option (codes "mask") option) → mask_from g (option ++ rest) ≡ option_and_then (λ h. mask_from h rest) (give mask_option_of mask_with option g)
+mask_read g [] rest e = cc
+mask_read g (word ∷ []) rest e = cc
+mask_read g (word ∷ value ∷ []) rest e = mask_valued word e value rest g
+mask_read g (word ∷ value ∷ more ∷ others) rest e = cc
+
 -- `--json`, for a command that has no other option. What is given so far is whether it was given.
 abbrev json_option_of : List ℕ → Option (Unit {0})
 json_option_of word = if is_json word then Some tt else None
@@ -290,7 +380,7 @@ module _ (named : Bool → List ℕ → Order) where
   metadata_read given (word ∷ value ∷ []) rest e = cc
   metadata_read given (word ∷ value ∷ more ∷ others) rest e = cc
 
--- Eight commands have options, and no other word has any.
+-- Nine commands have options, and no other word has any.
 data HasOptions (command : List ℕ) : Type 0 where
   print : command ≡ codes "print" → HasOptions command
   summary : command ≡ codes "summary" → HasOptions command
@@ -300,28 +390,30 @@ data HasOptions (command : List ℕ) : Type 0 where
   receipt : command ≡ codes "receipt" → HasOptions command
   verify : command ≡ codes "verify" → HasOptions command
   stacks : command ≡ codes "stacks" → HasOptions command
+  mask : command ≡ codes "mask" → HasOptions command
   no_options : ((option : List (List ℕ)) → IsTrue (is_option command option) → ⊥) → HasOptions command
 
 has_options : (command : List ℕ) → HasOptions command
 has_options command =
-    by_tests (bytes_eq command (codes "print")) (bytes_eq command (codes "summary")) (bytes_eq command (codes "metadata")) (bytes_eq command (codes "scrub")) (bytes_eq command (codes "disassemble")) (bytes_eq command (codes "receipt")) (bytes_eq command (codes "verify")) (bytes_eq command (codes "stacks"))
-    refl refl refl refl refl refl refl refl
+    by_tests (bytes_eq command (codes "print")) (bytes_eq command (codes "summary")) (bytes_eq command (codes "metadata")) (bytes_eq command (codes "scrub")) (bytes_eq command (codes "disassemble")) (bytes_eq command (codes "receipt")) (bytes_eq command (codes "verify")) (bytes_eq command (codes "stacks")) (bytes_eq command (codes "mask"))
+    refl refl refl refl refl refl refl refl refl
   where
-    by_tests : (p u m s d r v t : Bool) → bytes_eq command (codes "print") ≡ p → bytes_eq command (codes "summary") ≡ u → bytes_eq command (codes "metadata") ≡ m → bytes_eq command (codes "scrub") ≡ s → bytes_eq command (codes "disassemble") ≡ d → bytes_eq command (codes "receipt") ≡ r → bytes_eq command (codes "verify") ≡ v → bytes_eq command (codes "stacks") ≡ t → HasOptions command
-    by_tests true u m s d r v t e f g h i j k l = print ((bytes_eq-Decides command (codes "print")).0 e)
-    by_tests false true m s d r v t e f g h i j k l = summary ((bytes_eq-Decides command (codes "summary")).0 f)
-    by_tests false false true s d r v t e f g h i j k l = metadata ((bytes_eq-Decides command (codes "metadata")).0 g)
-    by_tests false false false true d r v t e f g h i j k l = scrub ((bytes_eq-Decides command (codes "scrub")).0 h)
-    by_tests false false false false true r v t e f g h i j k l = split ((bytes_eq-Decides command (codes "disassemble")).0 i)
-    by_tests false false false false false true v t e f g h i j k l = receipt ((bytes_eq-Decides command (codes "receipt")).0 j)
-    by_tests false false false false false false true t e f g h i j k l = verify ((bytes_eq-Decides command (codes "verify")).0 k)
-    by_tests false false false false false false false true e f g h i j k l = stacks ((bytes_eq-Decides command (codes "stacks")).0 l)
-    by_tests false false false false false false false false e f g h i j k l = no_options none
+    by_tests : (p u m s d r v t a : Bool) → bytes_eq command (codes "print") ≡ p → bytes_eq command (codes "summary") ≡ u → bytes_eq command (codes "metadata") ≡ m → bytes_eq command (codes "scrub") ≡ s → bytes_eq command (codes "disassemble") ≡ d → bytes_eq command (codes "receipt") ≡ r → bytes_eq command (codes "verify") ≡ v → bytes_eq command (codes "stacks") ≡ t → bytes_eq command (codes "mask") ≡ a → HasOptions command
+    by_tests true u m s d r v t a e f g h i j k l n = print ((bytes_eq-Decides command (codes "print")).0 e)
+    by_tests false true m s d r v t a e f g h i j k l n = summary ((bytes_eq-Decides command (codes "summary")).0 f)
+    by_tests false false true s d r v t a e f g h i j k l n = metadata ((bytes_eq-Decides command (codes "metadata")).0 g)
+    by_tests false false false true d r v t a e f g h i j k l n = scrub ((bytes_eq-Decides command (codes "scrub")).0 h)
+    by_tests false false false false true r v t a e f g h i j k l n = split ((bytes_eq-Decides command (codes "disassemble")).0 i)
+    by_tests false false false false false true v t a e f g h i j k l n = receipt ((bytes_eq-Decides command (codes "receipt")).0 j)
+    by_tests false false false false false false true t a e f g h i j k l n = verify ((bytes_eq-Decides command (codes "verify")).0 k)
+    by_tests false false false false false false false true a e f g h i j k l n = stacks ((bytes_eq-Decides command (codes "stacks")).0 l)
+    by_tests false false false false false false false false true e f g h i j k l n = mask ((bytes_eq-Decides command (codes "mask")).0 n)
+    by_tests false false false false false false false false false e f g h i j k l n = no_options none
       where
         none : (option : List (List ℕ)) → IsTrue (is_option command option) → ⊥
         none [] t = cc
         none (word ∷ []) t = cc (rw (e, f, g) at t)
-        none (word ∷ value ∷ []) t = cc (rw (e, h, i, j, k, l) at t)
+        none (word ∷ value ∷ []) t = cc (rw (e, h, i, j, k, l, n) at t)
         none (word ∷ value ∷ more ∷ others) t = cc
 
 pub any_order : (command : List ℕ) (options others : List (List (List ℕ))) (rest : List (List ℕ)) → AreOptions command options → IsPermutation options others → order_of (line command others rest) ≡ order_of (line command options rest)
@@ -345,6 +437,7 @@ any_order command options others rest all p = by_command (has_options command) a
     by_command (receipt e) = subst Same (sym e) (λ all. in_any_order filter_option_of given_with filters_settle (filtered_from receipt_named) (λ o. IsTrue (is_option (codes "receipt") o)) (receipt_read receipt_named) options others rest nothing_given all p)
     by_command (verify e) = subst Same (sym e) (λ all. in_any_order filter_option_of given_with filters_settle (filtered_from verification_named) (λ o. IsTrue (is_option (codes "verify") o)) (verification_read verification_named) options others rest nothing_given all p)
     by_command (stacks e) = subst Same (sym e) (λ all. in_any_order stacks_option_of stacks_with stacks_settle stacks_from (λ o. IsTrue (is_option (codes "stacks") o)) stacks_read options others rest nothing_given all p)
+    by_command (mask e) = subst Same (sym e) (λ all. in_any_order mask_option_of mask_with masks_settle mask_from (λ o. IsTrue (is_option (codes "mask") o)) mask_read options others rest no_mask_option all p)
     by_command (no_options none) = λ all. nothing_given_at options others (length_permutation options others p) all none
 
 pub at_most_once : (command : List ℕ) (options : List (List (List ℕ))) (rest : List (List ℕ)) → AreOptions command options → OnSome (order_of (line command options rest)) (IsDistinct is_same_option options)
@@ -371,4 +464,5 @@ at_most_once command options rest all = by_command (has_options command) all
     by_command (receipt e) = subst Once (sym e) (λ all. given_once filter_option_of given_with filters_settle (filtered_from receipt_named) (λ o. IsTrue (is_option (codes "receipt") o)) (receipt_read receipt_named) options rest nothing_given all)
     by_command (verify e) = subst Once (sym e) (λ all. given_once filter_option_of given_with filters_settle (filtered_from verification_named) (λ o. IsTrue (is_option (codes "verify") o)) (verification_read verification_named) options rest nothing_given all)
     by_command (stacks e) = subst Once (sym e) (λ all. given_once stacks_option_of stacks_with stacks_settle stacks_from (λ o. IsTrue (is_option (codes "stacks") o)) stacks_read options rest nothing_given all)
+    by_command (mask e) = subst Once (sym e) (λ all. given_once mask_option_of mask_with masks_settle mask_from (λ o. IsTrue (is_option (codes "mask") o)) mask_read options rest no_mask_option all)
     by_command (no_options none) = λ all. on_any _ _ (none_given options all none)

@@ -19,6 +19,7 @@ use Rattle.jfr_filter.specs.Filters.{Given, nothing_given}
 use Rattle.jfr_words.specs.FilterOptions.{FilterOption, filter_option_of, given_with}
 use Rattle.jfr_words.specs.Filtered.{filtered_from}
 use Rattle.jfr_words.specs.Jsons.{after_json}
+use Rattle.jfr_words.specs.Masks.{MaskOption, MaskSettings, no_mask_option, mask_option_of, mask_with, mask_named, mask_from}
 use Rattle.jfr_words.specs.Names.{only_name, two_names, three_names, name_in}
 use Rattle.jfr_base.specs.Decimal.{decimal_number}
 use Rattle.jfr_words.specs.Numbers.{within, number_in}
@@ -176,6 +177,19 @@ stacks_usable g (word ∷ next ∷ rest) = by_option (stacks_option_of word) (λ
     by_option None u = gives_map IsUsableOrder (λ file. orders.Stacks g file) (only_name (word ∷ next ∷ rest)) (λ file. tt)
     by_option (Some o) u = gives_after IsUsableOrder _ (stacks_with o next g) u
 
+mask_named_usable : (g : MaskSettings) (words : List (List ℕ)) → Gives IsUsableOrder (mask_named g words)
+mask_named_usable g words = gives_after IsUsableOrder _ g.strings (λ strings. gives_map IsUsableOrder _ (two_names words) (λ names. tt))
+
+mask_usable : (g : MaskSettings) (words : List (List ℕ)) → Gives IsUsableOrder (mask_from g words)
+mask_usable g [] = mask_named_usable g []
+mask_usable g (word ∷ []) = mask_named_usable g (word ∷ [])
+mask_usable g (word ∷ next ∷ rest) = by_option (mask_option_of word) (λ h. mask_usable h rest)
+  where
+    by_option : (z : Option MaskOption) → ((h : MaskSettings) → Gives IsUsableOrder (mask_from h rest))
+        → Gives IsUsableOrder (option_map_or (λ o. option_and_then (λ h. mask_from h rest) (mask_with o next g)) z (mask_named g (word ∷ next ∷ rest)))
+    by_option None u = mask_named_usable g (word ∷ next ∷ rest)
+    by_option (Some o) u = gives_after IsUsableOrder _ (mask_with o next g) u
+
 -- Every order is usable.
 order_usable : (words : List (List ℕ)) → Gives IsUsableOrder (order_of words)
 unfolding order_of
@@ -191,7 +205,8 @@ order_usable (command ∷ rest) =
     (gives_if IsUsableOrder (bytes_eq command (codes "receipt")) _ _ (filtered_usable receipt_named (λ g words. gives_map IsUsableOrder _ (two_names words) (λ names. tt)) nothing_given rest)
     (gives_if IsUsableOrder (bytes_eq command (codes "verify")) _ _ (filtered_usable verification_named (λ g words. gives_map IsUsableOrder _ (three_names words) (λ names. tt)) nothing_given rest)
     (gives_if IsUsableOrder (bytes_eq command (codes "stacks")) _ _ (stacks_usable nothing_given rest)
-    (gives_if IsUsableOrder (bytes_eq command (codes "build")) _ None (gives_map IsUsableOrder _ (two_names rest) (λ names. tt)) tt))))))))))
+    (gives_if IsUsableOrder (bytes_eq command (codes "build")) _ _ (gives_map IsUsableOrder _ (two_names rest) (λ names. tt))
+    (gives_if IsUsableOrder (bytes_eq command (codes "mask")) _ None (mask_usable no_mask_option rest) tt)))))))))))
 
 pub usable_read : (words : List (List ℕ)) (r : Result Order WordsFault) → IsRead (order_of words) r (λ order. order) → IfOk r IsUsableOrder
 usable_read words (Ok order) e = let P : Option Order → Type 0 = Gives IsUsableOrder in subst P e (order_usable words)

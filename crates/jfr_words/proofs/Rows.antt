@@ -1,7 +1,7 @@
 -- The orders of some lines.
 use Rattle.std.specs.Prelude.{◌≡◌, ◌^◌, pos, true, false, [], ◌∷◌, codes, Some, None, refl}
 use Rattle.jfr_filter.specs.Filters.{nothing_given}
-use Rattle.jfr_words.specs.declared.order.Order.TheVariants.{Print, Summary, Metadata, Scrub, Disassemble, Assemble, Sample, Receipt, Verify, Stacks, Build}
+use Rattle.jfr_words.specs.declared.order.Order.TheVariants.{Print, Summary, Metadata, Scrub, Disassemble, Assemble, Sample, Receipt, Verify, Stacks, Build, Mask}
 use Rattle.jfr_base.specs.Decimal.{decimal_number}
 use Rattle.jfr_words.specs.Words.{order_of}
 
@@ -208,6 +208,51 @@ assemble_row = refl
 build_row : order_of (codes "build" ∷ codes "a" ∷ codes "b" ∷ []) ≡ Some (Build (codes "a") (codes "b"))
 unfolding order_of
 build_row = refl
+
+mask_row : order_of (codes "mask" ∷ codes "--strings" ∷ codes "jdk.*,*.path" ∷ codes "--except" ∷ codes "*.id" ∷ codes "--known" ∷ codes "k" ∷ codes "--table" ∷ codes "t" ∷ codes "--include-events" ∷ codes "A" ∷ codes "--from" ∷ codes "7" ∷ codes "a" ∷ codes "b" ∷ [])
+    ≡ Some (Mask (record nothing_given { include_events = Some (codes "A" ∷ []); from = Some (pos 7) }) (codes "jdk.*" ∷ codes "*.path" ∷ []) (Some (codes "*.id" ∷ [])) (Some (codes "k")) (Some (codes "t")) (codes "a") (codes "b"))
+unfolding order_of decimal_number
+mask_row = refl
+
+-- The options in another order.
+mask_reordered_row : order_of (codes "mask" ∷ codes "--from" ∷ codes "07" ∷ codes "--table" ∷ codes "t" ∷ codes "--except" ∷ codes "*.id" ∷ codes "--include-events" ∷ codes "A" ∷ codes "--known" ∷ codes "k" ∷ codes "--strings" ∷ codes "jdk.*,*.path" ∷ codes "a" ∷ codes "b" ∷ [])
+    ≡ Some (Mask (record nothing_given { include_events = Some (codes "A" ∷ []); from = Some (pos 7) }) (codes "jdk.*" ∷ codes "*.path" ∷ []) (Some (codes "*.id" ∷ [])) (Some (codes "k")) (Some (codes "t")) (codes "a") (codes "b"))
+unfolding order_of decimal_number
+mask_reordered_row = refl
+
+-- The masked fields are always given.
+only_strings_row : order_of (codes "mask" ∷ codes "--strings" ∷ codes "*" ∷ codes "a" ∷ codes "b" ∷ []) ≡ Some (Mask nothing_given (codes "*" ∷ []) None None None (codes "a") (codes "b"))
+unfolding order_of
+only_strings_row = refl
+
+no_strings_row : order_of (codes "mask" ∷ codes "--except" ∷ codes "*.id" ∷ codes "a" ∷ codes "b" ∷ []) ≡ None
+unfolding order_of
+no_strings_row = refl
+
+strings_twice_row : order_of (codes "mask" ∷ codes "--strings" ∷ codes "A" ∷ codes "--strings" ∷ codes "A" ∷ codes "a" ∷ codes "b" ∷ []) ≡ None
+unfolding order_of
+strings_twice_row = refl
+
+empty_strings_row : order_of (codes "mask" ∷ codes "--strings" ∷ codes "A," ∷ codes "a" ∷ codes "b" ∷ []) ≡ None
+unfolding order_of
+empty_strings_row = refl
+
+empty_except_row : order_of (codes "mask" ∷ codes "--strings" ∷ codes "A" ∷ codes "--except" ∷ [] ∷ codes "a" ∷ codes "b" ∷ []) ≡ None
+unfolding order_of
+empty_except_row = refl
+
+dashed_known_row : order_of (codes "mask" ∷ codes "--strings" ∷ codes "A" ∷ codes "--known" ∷ codes "-x" ∷ codes "a" ∷ codes "b" ∷ []) ≡ None
+unfolding order_of
+dashed_known_row = refl
+
+no_table_row : order_of (codes "mask" ∷ codes "--strings" ∷ codes "A" ∷ codes "--table" ∷ []) ≡ None
+unfolding order_of
+no_table_row = refl
+
+-- A mask has no option --renumber.
+renumber_mask_row : order_of (codes "mask" ∷ codes "--strings" ∷ codes "A" ∷ codes "--renumber" ∷ codes "no" ∷ codes "a" ∷ codes "b" ∷ []) ≡ None
+unfolding order_of
+renumber_mask_row = refl
 
 sample_row : order_of (codes "sample" ∷ codes "4294967295" ∷ codes "1000000" ∷ []) ≡ Some (Sample 4294967295 1000000)
 unfolding order_of decimal_number

@@ -17,7 +17,7 @@ window_option_of word =
     if bytes_eq word (codes "--always") then Some (Patterns Always) else
     None
 
--- The option of a filter that a word names in `scrub`, `receipt` and `verify`.
+-- The option of a filter that a word names in `scrub`, `receipt`, `verify` and `mask`.
 abbrev pub filter_option_of : List ℕ → Option FilterOption
 filter_option_of word =
     if bytes_eq word (codes "--include-events") then Some (Patterns IncludeEvents) else

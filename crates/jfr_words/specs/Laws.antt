@@ -20,6 +20,7 @@ valued_options command =
     if bytes_eq command (codes "receipt") then filter_options else
     if bytes_eq command (codes "verify") then filter_options else
     if bytes_eq command (codes "stacks") then codes "--events" ∷ codes "--categories" ∷ window_options else
+    if bytes_eq command (codes "mask") then codes "--strings" ∷ codes "--except" ∷ codes "--known" ∷ codes "--table" ∷ filter_options else
     []
 
 -- The options of a command that take none.

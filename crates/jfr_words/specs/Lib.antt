@@ -2,6 +2,7 @@ pub mod FilterOptions
 pub mod Filtered
 pub mod Jsons
 pub mod Laws
+pub mod Masks
 pub mod Names
 pub mod Numbers
 pub mod Patterns

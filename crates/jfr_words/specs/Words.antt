@@ -10,6 +10,7 @@ use Rattle.jfr_words.specs.declared.order.WordsFault.{WordsFault}
 use Rattle.jfr_words.specs.declared.order.WordsFault.TheVariants.{Usage, Memory}
 use Rattle.jfr_words.specs.Filtered.{filtered_from}
 use Rattle.jfr_words.specs.Jsons.{asks_json, after_json}
+use Rattle.jfr_words.specs.Masks.{no_mask_option, mask_from}
 use Rattle.jfr_words.specs.Names.{only_name, three_names, two_names}
 use Rattle.jfr_words.specs.Numbers.{number_in}
 use Rattle.jfr_words.specs.Prints.{no_print_option, print_from}
@@ -67,6 +68,7 @@ order_of (command ∷ rest) =
     if bytes_eq command (codes "verify") then verification_of rest else
     if bytes_eq command (codes "stacks") then stacks_from nothing_given rest else
     if bytes_eq command (codes "build") then building_of rest else
+    if bytes_eq command (codes "mask") then mask_from no_mask_option rest else
     None
 
 -- The name of a file is the word in UTF-8.

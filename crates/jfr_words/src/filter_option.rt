@@ -24,7 +24,7 @@ pub enum FilterOption {
 /// The greatest number of nanoseconds since 1970 that is a moment.
 const LAST_MOMENT: u64 = i64::MAX as u64;
 
-/// The option of a filter that a word names in `scrub`, `receipt` and `verify`, if any.
+/// The option of a filter that a word names in `scrub`, `receipt`, `verify` and `mask`, if any.
 pub(crate) fn filter_option_of(word: &str) -> Option<FilterOption>
     ensures { result ≡ filter_option_of (chars word.now) }
 {

@@ -7,6 +7,7 @@ mod filter;
 mod filter_option;
 mod json;
 pub mod laws;
+mod mask;
 mod name;
 mod number;
 mod order;

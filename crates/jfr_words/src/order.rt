@@ -1,5 +1,5 @@
 //! Orders, which are what a command line asks for, and why words give none.
-use jfr_filter::Filter;
+use jfr_filter::{Filter, Patterns};
 use jfr_outside::{NoMemory, Text};
 use jfr_split::SplitRule;
 use thiserror::Error;
@@ -70,6 +70,18 @@ pub enum Order {
     /// Builds a recording from the lines of a text.
     Build {
         text: Text,
+        output: Text,
+    },
+    /// Writes to the output what remains of the input with only the events that the filter keeps, and with
+    /// pseudonyms in the fields that `strings` matches and `except` doesn't. The lines of the file `known` are
+    /// texts that get none. The pseudonyms and their texts are written to the file `table`.
+    Mask {
+        filter: Filter,
+        strings: Patterns,
+        except: Option<Patterns>,
+        known: Option<Text>,
+        table: Option<Text>,
+        input: Text,
         output: Text,
     },
 }

@@ -5,6 +5,7 @@ ghost use Rattle.jfr_words.specs.Words.{order_of, summary_of, metadata_of, assem
 
 use crate::filter::read_filter;
 use crate::json::take_json;
+use crate::mask::read_mask;
 use crate::name::{read_only_name, read_three_names, read_two_names};
 use crate::print::read_print;
 use crate::sample::read_sample;
@@ -48,6 +49,7 @@ fn read_command(
         "verify" => read_verification(alloc, unread),
         "stacks" => read_stacks(alloc, unread),
         "build" => read_building(alloc, unread),
+        "mask" => read_mask(alloc, unread),
         _ => Err(WordsFault::Usage),
     }
 }

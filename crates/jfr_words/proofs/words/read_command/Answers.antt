@@ -49,6 +49,10 @@ pub returns-in-build : goal.returns-in-build
 unfolding order_of
 returns-in-build c = subst (λ o. IsRead o c.read_building.result (λ order. order)) (sym (order_at c.args.unread.now _ (codes "build") refl c.in-build.is)) c.read_building.ensures
 
+pub returns-in-mask : goal.returns-in-mask
+unfolding order_of
+returns-in-mask c = subst (λ o. IsRead o c.read_mask.result (λ order. order)) (sym (order_at c.args.unread.now _ (codes "mask") refl c.in-mask.is)) c.read_mask.ensures
+
 pub returns-in_default : goal.returns-in_default
 unfolding order_of
 returns-in_default c =
@@ -64,4 +68,5 @@ returns-in_default c =
       is_other _ (codes "verify") c.utf8.command refl c.in_default.not-verify,
       is_other _ (codes "stacks") c.utf8.command refl c.in_default.not-stacks,
       is_other _ (codes "build") c.utf8.command refl c.in_default.not-build,
+      is_other _ (codes "mask") c.utf8.command refl c.in_default.not-mask,
     )
