@@ -26,3 +26,11 @@ mod SecrecyLaws
 mod ShownLaws
 mod TextLaws
 mod WalkBut
+mod RecordingLaws
+mod RecordingSteps
+mod MaskedFile
+mod MaskedOutput
+mod TaskLaws
+mod CommandLaws
+mod TableLines
+mod CanCreate

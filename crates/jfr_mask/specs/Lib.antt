@@ -12,3 +12,8 @@ pub mod ReachBut
 pub mod Reaching
 pub mod Secrecy
 pub mod Written
+pub mod Recordings
+pub mod Commands
+pub mod RecordingMaskers
+pub mod Streams
+pub mod RecordingLaws

@@ -45,8 +45,12 @@ mod mask;
 mod masker;
 mod numbering;
 mod plain;
+mod recording;
+mod recording_laws;
 mod references;
 mod shown;
+mod stream;
+mod table;
 mod texts;
 mod widths;
 
@@ -59,4 +63,8 @@ pub use fault::MaskFault;
 pub use fields::MaskedFields;
 pub use known::Known;
 pub use mask::{MaskOptions, mask_chunk};
+pub use recording_laws::{
+    chunks_are_masked, recordings_have_one_dictionary, recordings_keep_secrets,
+};
 pub use shown::Shown;
+pub use stream::{MaskFiles, MaskRule, mask_stream};
