@@ -25,7 +25,7 @@ some_open : (s : Snapshot) (n : List ℕ) → s.output ≡ Some n → s.output �
 some_open s n e f = cc
 
 none_some : (o : Option (List ℕ)) → o ≡ None → IsSome o → ⊥
-none_some None e h = h
+none_some None e h = cc
 none_some (Some x) e h = cc
 
 -- What is appended to an open output, which is then finished.
