@@ -5,7 +5,7 @@ use Rattle.jfr_base.specs.declared.flaw.Refusal.{Refusal}
 use Rattle.jfr_outside.specs.World.{World, State, SinkState, IfKnown}
 use Rattle.jfr_header.specs.Taking.{IsKept, IfContentsKnown}
 use Rattle.jfr_header.specs.declared.ending.Ending.{Ending}
-use Rattle.jfr_header.specs.declared.ending.Ending.TheVariants.{Done, Refused, ReadFault, WriteFault, TooManyParts, Memory}
+use Rattle.jfr_header.specs.declared.ending.Ending.TheVariants.{Done, Refused, ReadFault, WriteFault, TooManyParts, MaskTooLong, Memory}
 use Rattle.jfr_filter.specs.Filters.{Given}
 use Rattle.jfr_plan.specs.Ends.{Fine, CommandEnd, Ends, NotRead, NotWritten, RanOut, command_end}
 use Rattle.jfr_plan.specs.Ends as ends
@@ -99,6 +99,7 @@ module _ (g : Given) (input output receipt : List ℕ) (a b : State) (s z : Sink
   check_verified n (Refused r) is all counts w = absurd w
   check_verified n ReadFault is all counts w = absurd w
   check_verified n TooManyParts is all counts w = absurd w
+  check_verified n (MaskTooLong k) is all counts w = absurd w
 
 -- Nothing is written.
 module _ (g : Given) (input output receipt : List ℕ) (a b : State) (s : SinkState) (kept : IfContentsKnown a b IsKept) where

@@ -5,18 +5,20 @@ use Rattle.jfr_outside.specs.World.{World, State, SinkState, IfKnown, file}
 use Rattle.jfr_outside.specs.Counts.{Rose}
 use Rattle.jfr_base.specs.declared.flaw.Refusal.{Refusal}
 use Rattle.jfr_header.specs.declared.ending.Ending.{Ending}
-use Rattle.jfr_header.specs.declared.ending.Ending.TheVariants.{Done, Refused, ReadFault, WriteFault, TooManyParts, Memory}
+use Rattle.jfr_header.specs.declared.ending.Ending.TheVariants.{Done, Refused, ReadFault, WriteFault, TooManyParts, MaskTooLong, Memory}
 use Rattle.jfr_filter.specs.Filters.{Given}
 use Rattle.jfr_plan.specs.Ends.{End, Fine, command_end}
 use Rattle.jfr_plan.specs.Ends as ends
 use Rattle.jfr_plan.specs.Effects.{Effect, Outside, Snapshot, effects, snapshot}
-use Rattle.jfr_plan.specs.Rules.{Target, File, Parts, Text, plan_in}
+use Rattle.jfr_plan.specs.Rules.{Target, File, Parts, Masked, Text, plan_in}
 use Rattle.jfr_plan.specs.Outcomes.{Counted, Unchanged, SomeDone, AllDone, Tallied}
 use Rattle.jfr_plan.specs.Clauses.{write_count}
 use Rattle.jfr_plan.proofs.Clauses as plan
 use Rattle.jfr_output.specs.Recordings.{IsByPlan}
 use Rattle.jfr_scrub.specs.Headline.{Scrubs}
 use Rattle.jfr_renumber.specs.Headline.{Renumbers}
+use Rattle.jfr_mask.specs.Commands.{mask_plan}
+use Rattle.jfr_mask.specs.Commands as masks
 use Rattle.jfr_words.specs.declared.order.Order.{Order}
 use Rattle.jfr_words.specs.declared.order.Order.TheVariants as orders
 use Rattle.jfr_words.specs.Words.{order_of, file_name}
@@ -30,14 +32,14 @@ use Rattle.jfr_build.specs.declared.reason.BuildReason.{BuildReason}
 use Rattle.jfr_build.specs.Builds.{Build, build_of}
 use Rattle.jfr_build.specs.Streams as streams
 use Rattle.jfr_build.specs.Streams.{IsRefusedText, building, plan_by}
-use Rattle.jfr_cli.specs.Works.{Work, Over, Joins, Planned, Checks, Builds, Plans, StopsAs, work_of, verdict_plan, target_of, text_on, IfFilesKnown, IsAfterWork, KeepsSink, KeepsPlace, CanReadAll, CanCreateFor}
+use Rattle.jfr_cli.specs.Works.{Work, Over, Joins, Planned, Checks, Builds, Masks, mask_work, Plans, StopsAs, work_of, verdict_plan, target_of, text_on, IfFilesKnown, IsAfterWork, KeepsSink, KeepsPlace, CanReadAll, CanCreateFor}
 use Rattle.jfr_cli.specs.declared.answer.Answer.{Answer}
 use Rattle.jfr_cli.specs.declared.answer.Answer.TheVariants as answer_kinds
 use Rattle.jfr_cli.specs.Answers.{status_of, line_of, answer_status, answer_line, doubt_line, unbuilt_line, usage_line, read_line, write_line, memory_line, parts_line, IsAnswered, Fully, IsLineWritten, IsMemoryLineWritten}
 use Rattle.jfr_cli.specs.Answers as answers
 use Rattle.jfr_cli.proofs.Leaving.{known_by}
 use Rattle.jfr_cli.proofs.Counting.{none_rose, tallied_once, text_leaves, place_passed, sink_passed, writes_stay}
-use Rattle.jfr_cli.specs.Runs.{Carries, Obeys, NoOrder, NotRead, CarriedOut, Under, WorkEnded, WorkHalted, WorkBroken, IsPartlyDone, Prefix, Whole, Met, Torn, CarriesTo, CountsOnce, Doubts, HasStatus, KeepsText, WorkPartly, IsCheck, IsDoubted, IsUnbuilt, IsVerdictStatus, Unbuilds, ByEnd, ByMemory, status_of_end, status_of_verdict, IsRefused}
+use Rattle.jfr_cli.specs.Runs.{Carries, Obeys, NoOrder, NotRead, CarriedOut, Under, WorkEnded, WorkHalted, WorkBroken, IsPartlyDone, Prefix, Whole, Met, Torn, CarriesTo, CountsOnce, Doubts, HasStatus, KeepsText, WorkPartly, IsCheck, IsDoubted, IsUnbuilt, IsTooLong, IsVerdictStatus, Unbuilds, ByEnd, ByMemory, status_of_end, status_of_verdict, IsRefused}
 use Rattle.jfr_cli.specs.Runs as runs
 
 -- The state after an ending, if memory ran out for its line.
@@ -45,6 +47,7 @@ partly : (k : Work) (end : Ending) (a b : Outside) → IsAfterWork k (command_en
 partly k Done a b l t = Whole Fine l
 partly k (Refused x) a b l t = Whole (ends.Refused x) l
 partly k TooManyParts a b l t = Whole ends.TooMany l
+partly k (MaskTooLong n) a b l t = Whole (ends.TooLong n) l
 partly k ReadFault a b l t = Met l
 partly k WriteFault a b l t = Torn (plan.write_rose (target_of k) WriteFault a b t refl) l
 partly k Memory a b l t = Prefix l
@@ -65,6 +68,7 @@ unchanged k a = Prefix (by_work k)
     by_work (Joins folder output) = same a.place.contents (λ w v. StopsAs (Joins folder output) w (snapshot w None) (snapshot v None)) (λ w. nothing (effects (assembling folder output w.files).steps) (snapshot w None))
     by_work (Planned p) = λ w. nothing (effects p.steps) (snapshot w a.sink.written)
     by_work (Checks g input output receipt) = same a.place.contents (λ w v. snapshot v a.sink.written ≡ snapshot w a.sink.written) (λ w. refl)
+    by_work (Masks k) = same a.place.contents (λ w v. StopsAs (Masks k) w (snapshot w None) (snapshot v None)) (λ w. nothing (effects (mask_plan k w).steps) (snapshot w None))
     by_work (Builds text output) = same a.place.contents (λ w v. StopsAs (Builds text output) w (snapshot w None) (snapshot v None)) (λ w. nothing (effects (building output (file w text)).steps) (snapshot w None))
 
 -- A doubt changes nothing.
@@ -77,6 +81,7 @@ doubt_partly (Checks g input output receipt) chunk doubt a b d =
     (known_by a.place.contents b.place.contents (λ w v. VerdictOf g (three input output receipt w) (verdicts.Doubted chunk doubt) × (snapshot v b.sink.written ≡ snapshot w a.sink.written)) (λ w v. snapshot v b.sink.written ≡ snapshot w a.sink.written) d.verdict
     (λ w v x. x.1))
 doubt_partly (Builds text output) chunk doubt a b d = absurd d.check
+doubt_partly (Masks k) chunk doubt a b d = absurd d.check
 
 -- A refused text changes nothing.
 refusal_partly : (k : Work) (line : ℕ) (reason : BuildReason) (a b : Outside) → Unbuilds k line reason a b → IsPartlyDone k a b
@@ -84,6 +89,7 @@ refusal_partly (Over r input) line reason a b d = absurd d.build
 refusal_partly (Joins folder output) line reason a b d = absurd d.build
 refusal_partly (Planned p) line reason a b d = absurd d.build
 refusal_partly (Checks g input output receipt) line reason a b d = absurd d.build
+refusal_partly (Masks k) line reason a b d = absurd d.build
 refusal_partly (Builds text output) line reason a b d =
     Prefix
     (known_by a.place.contents b.place.contents (λ w v. IsRefusedText (file w text) line reason × (snapshot v None ≡ snapshot w None)) (λ w v. SomeDone (effects (building output (file w text)).steps) (snapshot w None) (snapshot v None)) d.refused
@@ -101,6 +107,7 @@ any_end (Some w) (Joins folder output) p = ByMemory p
 any_end (Some w) (Planned plan) p = ByMemory p
 any_end (Some w) (Checks g input output receipt) p = runs.ForMemory p
 any_end (Some w) (Builds text output) p = runs.OutOfMemory p
+any_end (Some w) (Masks k) p = ByMemory p
 
 -- Which endings have a status.
 done_status : (e : Ending) → status_of e ≡ 0 → e ≡ Done
@@ -110,6 +117,7 @@ done_status ReadFault h = absurd (omega (arith, h))
 done_status WriteFault h = absurd (omega (arith, h))
 done_status Memory h = absurd (omega (arith, h))
 done_status TooManyParts h = absurd (omega (arith, h))
+done_status (MaskTooLong n) h = absurd (omega (arith, h))
 
 read_status : (e : Ending) → status_of e ≡ 3 → e ≡ ReadFault
 read_status Done h = absurd (omega (arith, h))
@@ -118,6 +126,7 @@ read_status ReadFault h = refl
 read_status WriteFault h = absurd (omega (arith, h))
 read_status Memory h = absurd (omega (arith, h))
 read_status TooManyParts h = absurd (omega (arith, h))
+read_status (MaskTooLong n) h = absurd (omega (arith, h))
 
 write_status : (e : Ending) → status_of e ≡ 4 → e ≡ WriteFault
 write_status Done h = absurd (omega (arith, h))
@@ -126,6 +135,7 @@ write_status ReadFault h = absurd (omega (arith, h))
 write_status WriteFault h = refl
 write_status Memory h = absurd (omega (arith, h))
 write_status TooManyParts h = absurd (omega (arith, h))
+write_status (MaskTooLong n) h = absurd (omega (arith, h))
 
 parts_status : (e : Ending) → status_of e ≡ 6 → e ≡ TooManyParts
 parts_status Done h = absurd (omega (arith, h))
@@ -134,6 +144,16 @@ parts_status ReadFault h = absurd (omega (arith, h))
 parts_status WriteFault h = absurd (omega (arith, h))
 parts_status Memory h = absurd (omega (arith, h))
 parts_status TooManyParts h = refl
+parts_status (MaskTooLong n) h = absurd (omega (arith, h))
+
+long_status : (e : Ending) → status_of e ≡ 9 → (n : ℕ) × (e ≡ MaskTooLong n)
+long_status Done h = absurd (omega (arith, h))
+long_status (Refused x) h = absurd (omega (arith, h))
+long_status ReadFault h = absurd (omega (arith, h))
+long_status WriteFault h = absurd (omega (arith, h))
+long_status Memory h = absurd (omega (arith, h))
+long_status TooManyParts h = absurd (omega (arith, h))
+long_status (MaskTooLong n) h = (n, refl)
 
 refused_status : (e : Ending) → status_of e ≡ 2 → (r : Refusal) × (e ≡ Refused r)
 refused_status Done h = absurd (omega (arith, h))
@@ -142,6 +162,7 @@ refused_status ReadFault h = absurd (omega (arith, h))
 refused_status WriteFault h = absurd (omega (arith, h))
 refused_status Memory h = absurd (omega (arith, h))
 refused_status TooManyParts h = absurd (omega (arith, h))
+refused_status (MaskTooLong n) h = absurd (omega (arith, h))
 
 -- What was carried out, if the status isn't that of a usage error or of running out of memory.
 record Obeyed (ws : List (List ℕ)) (status : ℕ) (a b : Outside) (e f : SinkState) : Type 0 where
@@ -163,6 +184,7 @@ from_files (Over r input) a b P Q h f = from_told a.place.contents b.place.conte
 from_files (Joins folder output) a b P Q h f = from_told a.place.contents b.place.contents (λ w v. P w v (snapshot w None) (snapshot v None)) Q h f
 from_files (Checks g input output receipt) a b P Q h f = from_told a.place.contents b.place.contents (λ w v. P w v (snapshot w a.sink.written) (snapshot v b.sink.written)) Q h f
 from_files (Builds text output) a b P Q h f = from_told a.place.contents b.place.contents (λ w v. P w v (snapshot w None) (snapshot v None)) Q h f
+from_files (Masks k) a b P Q h f = from_told a.place.contents b.place.contents (λ w v. P w v (snapshot w None) (snapshot v None)) Q h f
 from_files (Planned p) a b P Q h f = by_told a.place.contents
   where
     by_told : (t : Option World) → IfSome t Q
@@ -174,9 +196,11 @@ verdict_end : (x : Verdict) (e : End) → (verdict_plan x).end ≡ Some e → st
 verdict_end (verdicts.Verified n) Fine h = refl
 verdict_end (verdicts.Verified n) (ends.Refused r) h = cc
 verdict_end (verdicts.Verified n) ends.TooMany h = cc
+verdict_end (verdicts.Verified n) (ends.TooLong m) h = cc
 verdict_end (verdicts.Refused r) Fine h = cc
 verdict_end (verdicts.Refused r) (ends.Refused q) h = refl
 verdict_end (verdicts.Refused r) ends.TooMany h = cc
+verdict_end (verdicts.Refused r) (ends.TooLong m) h = cc
 verdict_end (verdicts.Doubted chunk doubt) e h = cc
 verdict_end verdicts.ReadFault e h = cc
 verdict_end verdicts.Memory e h = cc
@@ -194,6 +218,7 @@ built_end text output w r x p h = by_build (option_map build_of (file w text)) r
         fine Fine h = refl
         fine (ends.Refused q) h = cc
         fine ends.TooMany h = cc
+        fine (ends.TooLong n) h = cc
 
 -- The ending is the plan's, and its status is answered.
 planned : (k : Work) (a b : Outside) (r : ℕ) (x : End) → r ≡ status_of_end x → WorkEnded k x a b → IfSome a.place.contents (HasStatus k r)
@@ -202,6 +227,7 @@ planned k a b r x p h = from_files k a b (λ w v s t. Plans k w (λ q. AllDone q
     by_work : (k : Work) (w : World) (s t : Snapshot) → Plans k w (λ q. AllDone q x s t) → HasStatus k r w
     by_work (Over rule input) w s t d = ByEnd x d.end p
     by_work (Joins folder output) w s t d = ByEnd x d.end p
+    by_work (Masks k) w s t d = ByEnd x d.end p
     by_work (Planned q) w s t d = ByEnd x d.end p
     by_work (Checks g input output receipt) w s t d = runs.ByVerdict d.0 d.1 (p ∙ sym (verdict_end d.0 x d.2.end))
     by_work (Builds text output) w s t d = built_end text output w r x p d.end
@@ -215,6 +241,7 @@ doubted_status (Checks g input output receipt) chunk doubt a b r p d =
     from_told a.place.contents b.place.contents (λ w v. VerdictOf g (three input output receipt w) (verdicts.Doubted chunk doubt) × (snapshot v b.sink.written ≡ snapshot w a.sink.written)) (HasStatus (Checks g input output receipt) r) d.verdict
     (λ w v x. runs.ByVerdict (verdicts.Doubted chunk doubt) x.0 p)
 doubted_status (Builds text output) chunk doubt a b r p d = absurd d.check
+doubted_status (Masks k) chunk doubt a b r p d = absurd d.check
 
 -- A refusal is what is built of a text.
 unbuilt_status : (k : Work) (line : ℕ) (reason : BuildReason) (a b : Outside) (r : ℕ) → r ≡ 8 → Unbuilds k line reason a b → IfSome a.place.contents (HasStatus k r)
@@ -222,6 +249,7 @@ unbuilt_status (Over rule input) line reason a b r p d = absurd d.build
 unbuilt_status (Joins folder output) line reason a b r p d = absurd d.build
 unbuilt_status (Planned q) line reason a b r p d = absurd d.build
 unbuilt_status (Checks g input output receipt) line reason a b r p d = absurd d.build
+unbuilt_status (Masks k) line reason a b r p d = absurd d.build
 unbuilt_status (Builds text output) line reason a b r p d =
     from_told a.place.contents b.place.contents (λ w v. IsRefusedText (file w text) line reason × (snapshot v None ≡ snapshot w None)) (HasStatus (Builds text output) r) d.refused
     (λ w v x. runs.ByRefusal (record { line = line; reason = reason }) x.0 p)
@@ -232,6 +260,7 @@ complete_by k end a b r e f (answers.ForMemory p q) l t no_read no_write = any_e
 complete_by k Done a b r e f (Fully p q) l t no_read no_write = planned k a b r Fine p l
 complete_by k (Refused x) a b r e f (Fully p q) l t no_read no_write = planned k a b r (ends.Refused x) p l
 complete_by k TooManyParts a b r e f (Fully p q) l t no_read no_write = planned k a b r ends.TooMany p l
+complete_by k (MaskTooLong n) a b r e f (Fully p q) l t no_read no_write = planned k a b r (ends.TooLong n) p l
 complete_by k ReadFault a b r e f (Fully p q) l t no_read no_write = absurd (no_read (plan.read_rose (target_of k) ReadFault a b t refl))
 complete_by k WriteFault a b r e f (Fully p q) l t no_read no_write = absurd (no_write (plan.write_rose (target_of k) WriteFault a b t refl))
 complete_by k Memory a b r e f (Fully p q) l t no_read no_write = any_end a.place.contents k p
@@ -244,6 +273,7 @@ no_room_said ReadFault e f h q = absurd (omega (arith, h))
 no_room_said WriteFault e f h q = absurd (omega (arith, h))
 no_room_said Memory e f h q = answers.Line q
 no_room_said TooManyParts e f h q = absurd (omega (arith, h))
+no_room_said (MaskTooLong n) e f h q = absurd (omega (arith, h))
 
 order_same : (ws : List (List ℕ)) (o p : Order) → order_of ws ≡ Some o → order_of ws ≡ Some p → o ≡ p
 order_same ws o p e f = cc
@@ -280,6 +310,7 @@ keeps_sink : (t : Target) (s z : SinkState) → z ≡ s → KeepsSink t s z
 keeps_sink Text s z h = tt
 keeps_sink File s z h = h
 keeps_sink Parts s z h = h
+keeps_sink Masked s z h = h
 
 keeps_place : (k : Work) (s z : State) → z ≡ s → KeepsPlace k s z
 keeps_place (Over rule input) s z h = tt
@@ -287,6 +318,7 @@ keeps_place (Joins folder output) s z h = tt
 keeps_place (Planned p) s z h = h
 keeps_place (Checks g input output receipt) s z h = tt
 keeps_place (Builds text output) s z h = tt
+keeps_place (Masks k) s z h = tt
 
 check_sink : (k : Work) (s z : SinkState) → IsCheck k → KeepsSink (target_of k) s z
 check_sink (Over rule input) s z c = absurd c
@@ -294,6 +326,7 @@ check_sink (Joins folder output) s z c = absurd c
 check_sink (Planned p) s z c = absurd c
 check_sink (Checks g input output receipt) s z c = tt
 check_sink (Builds text output) s z c = absurd c
+check_sink (Masks k) s z c = absurd c
 
 check_place : (k : Work) (s z : State) → IsCheck k → KeepsPlace k s z
 check_place (Over rule input) s z c = absurd c
@@ -301,6 +334,7 @@ check_place (Joins folder output) s z c = absurd c
 check_place (Planned p) s z c = absurd c
 check_place (Checks g input output receipt) s z c = tt
 check_place (Builds text output) s z c = absurd c
+check_place (Masks k) s z c = absurd c
 
 build_place : (k : Work) (s z : State) → runs.IsBuild k → KeepsPlace k s z
 build_place (Over rule input) s z c = absurd c
@@ -308,15 +342,32 @@ build_place (Joins folder output) s z c = absurd c
 build_place (Planned p) s z c = absurd c
 build_place (Checks g input output receipt) s z c = absurd c
 build_place (Builds text output) s z c = tt
+build_place (Masks k) s z c = absurd c
 
--- The status of an ending is at most 6.
-ending_status : (x : Ending) → status_of x ≤ 6
-ending_status Done = omega arith
-ending_status (Refused r) = omega arith
-ending_status ReadFault = omega arith
-ending_status WriteFault = omega arith
-ending_status Memory = omega arith
-ending_status TooManyParts = omega arith
+-- The status of an ending is at most 6, or 9.
+ending_status : (x : Ending) → (status_of x ≤ 6) ⊎ (status_of x ≡ 9)
+ending_status Done = inl (omega arith)
+ending_status (Refused r) = inl (omega arith)
+ending_status ReadFault = inl (omega arith)
+ending_status WriteFault = inl (omega arith)
+ending_status Memory = inl (omega arith)
+ending_status TooManyParts = inl (omega arith)
+ending_status (MaskTooLong n) = inr refl
+
+-- It isn't that of a doubt or of a text that is refused.
+no_judgement : (x : Ending) → 7 ≤ status_of x → status_of x ≤ 8 → ⊥
+no_judgement x low high = by_status (ending_status x)
+  where
+    by_status : (status_of x ≤ 6) ⊎ (status_of x ≡ 9) → ⊥
+    by_status (inl h) = omega (arith, h, low)
+    by_status (inr h) = omega (arith, h, high)
+
+most_status : (x : Ending) → status_of x ≤ 9
+most_status x = by_status (ending_status x)
+  where
+    by_status : (status_of x ≤ 6) ⊎ (status_of x ≡ 9) → status_of x ≤ 9
+    by_status (inl h) = omega (arith, h)
+    by_status (inr h) = omega (arith, h)
 
 by_plan : (end : Ending) → (status_of end ≡ 0) ⊎ (status_of end ≡ 2) → IsByPlan end
 by_plan Done h = tt
@@ -326,7 +377,9 @@ by_plan ReadFault (inr h) = absurd (omega (arith, h))
 by_plan WriteFault (inl h) = absurd (omega (arith, h))
 by_plan WriteFault (inr h) = absurd (omega (arith, h))
 by_plan TooManyParts (inl h) = absurd (omega (arith, h))
+by_plan (MaskTooLong n) (inl h) = absurd (omega (arith, h))
 by_plan TooManyParts (inr h) = absurd (omega (arith, h))
+by_plan (MaskTooLong n) (inr h) = absurd (omega (arith, h))
 by_plan Memory (inl h) = absurd (omega (arith, h))
 by_plan Memory (inr h) = absurd (omega (arith, h))
 
@@ -380,18 +433,18 @@ answers_by words (answer_kinds.Doubted chunk doubt) answer a b e f (CarriedOut o
 answers_by words (answer_kinds.Unbuilt line reason) answer a b e f (CarriedOut o known c) t = Stayed o known (answer_kinds.Unbuilt line reason) c (judged_refusal o line reason a b c) t
 
 -- The status of such an answer is its own, or 5 if memory ran out.
-not_stayed : {o : Order} {r : ℕ} {a b : Outside} {e f : SinkState} (x : Answer) → Judged o (answer_status x) a b → IsAnswered (answer_status x) (answer_line x) r e f → r < 7 → (r ≡ 5 → ⊥) → ⊥
-not_stayed x j (Fully p q) less room = omega (arith, j.low, p, less)
-not_stayed x j (answers.ForMemory p q) less room = room p
+not_stayed : {o : Order} {r : ℕ} {a b : Outside} {e f : SinkState} (x : Answer) → Judged o (answer_status x) a b → IsAnswered (answer_status x) (answer_line x) r e f → (7 ≤ r → r ≤ 8 → ⊥) → (r ≡ 5 → ⊥) → ⊥
+not_stayed x j (Fully p q) no_judgement room = no_judgement (omega (arith, j.low, p)) (omega (arith, j.high, p))
+not_stayed x j (answers.ForMemory p q) no_judgement room = room p
 
 module _ {ws : List (List ℕ)} {r : ℕ} {a b : Outside} {e f : SinkState} where
-  obeyed : Answers ws r a b e f → (n : ℕ) → r ≡ n → (n ≡ 1 → ⊥) → (n ≡ 5 → ⊥) → n < 7 → Obeyed ws n a b e f
+  obeyed : Answers ws r a b e f → (n : ℕ) → r ≡ n → (n ≡ 1 → ⊥) → (n ≡ 5 → ⊥) → (7 ≤ n → n ≤ 8 → ⊥) → Obeyed ws n a b e f
   obeyed (Usage o s (Fully p q)) n h no_usage room small = absurd (no_usage (sym h ∙ p))
   obeyed (Usage o s (answers.ForMemory p q)) n h no_usage room small = absurd (room (sym h ∙ p))
   obeyed (Unread s t) n h no_usage room small = absurd (room (sym h ∙ five t))
   obeyed (Carried o is end c (answers.ForMemory p q)) n h no_usage room small = absurd (room (sym h ∙ p))
   obeyed (Carried o is end c (Fully p q)) n h no_usage room small = record { order = o; is = is; end = end; carries = c; status_is = sym p ∙ h; said = q }
-  obeyed (Stayed o is x d j t) n h no_usage room small = absurd (not_stayed x j t (omega (arith, h, small)) (λ m. room (sym h ∙ m)))
+  obeyed (Stayed o is x d j t) n h no_usage room small = absurd (not_stayed x j t (λ y z. small (omega (arith, h, y)) (omega (arith, h, z))) (λ m. room (sym h ∙ m)))
 
   pub usage_told : Answers ws r a b e f → r ≡ 1 → (order_of ws ≡ None) × IsLineWritten usage_line e f
   usage_told (Usage o s (Fully p q)) h = (o, q)
@@ -407,7 +460,8 @@ module _ {ws : List (List ℕ)} {r : ℕ} {a b : Outside} {e f : SinkState} wher
       never WriteFault k = omega (arith, k)
       never Memory k = omega (arith, k)
       never TooManyParts k = omega (arith, k)
-  usage_told (Stayed o is x d j t) h = absurd (not_stayed x j t (omega (arith, h)) (λ m. omega (arith, m, h)))
+      never (MaskTooLong n) k = omega (arith, k)
+  usage_told (Stayed o is x d j t) h = absurd (not_stayed x j t (λ y z. omega (arith, h, y, z)) (λ m. omega (arith, m, h)))
 
   pub usage_only : Answers ws r a b e f → order_of ws ≡ None → (r ≡ 1) ⊎ (r ≡ 5)
   usage_only (Usage o s (Fully p q)) h = inl p
@@ -424,38 +478,52 @@ module _ {ws : List (List ℕ)} {r : ℕ} {a b : Outside} {e f : SinkState} wher
 
   pub done_told : Answers ws r a b e f → r ≡ 0 → Under ws (λ o. WorkEnded (work_of o) Fine a b) × (f ≡ e)
   done_told x h =
-      let k = obeyed x 0 h (λ z. omega (arith, z)) (λ z. omega (arith, z)) (omega arith) in
+      let k = obeyed x 0 h (λ z. omega (arith, z)) (λ z. omega (arith, z)) (λ y z. omega (arith, y, z)) in
       let d = done_status k.end k.status_is in
       ((k.order, k.is, left ws 0 a b e f k Done d), said_by ws 0 a b e f k Done d)
 
   pub refused_told : Answers ws r a b e f → r ≡ 2 → Under ws (λ o. IsRefused (work_of o) a b e f)
   refused_told x h =
-      let k = obeyed x 2 h (λ z. omega (arith, z)) (λ z. omega (arith, z)) (omega arith) in
+      let k = obeyed x 2 h (λ z. omega (arith, z)) (λ z. omega (arith, z)) (λ y z. omega (arith, y, z)) in
       let d = refused_status k.end k.status_is in
       (k.order, k.is, record { refusal = d.0; ended = left ws 2 a b e f k (Refused d.0) d.1; said = said_by ws 2 a b e f k (Refused d.0) d.1 })
 
   pub halted_told : Answers ws r a b e f → r ≡ 3 → Under ws (λ o. WorkHalted (work_of o) a b) × IsLineWritten read_line e f × Rose a.place.read_faults b.place.read_faults
   halted_told x h =
-      let k = obeyed x 3 h (λ z. omega (arith, z)) (λ z. omega (arith, z)) (omega arith) in
+      let k = obeyed x 3 h (λ z. omega (arith, z)) (λ z. omega (arith, z)) (λ y z. omega (arith, y, z)) in
       let d = read_status k.end k.status_is in
       ((k.order, k.is, left ws 3 a b e f k ReadFault d), said_by ws 3 a b e f k ReadFault d, plan.read_rose (target_of (work_of k.order)) ReadFault a b (counted ws 3 a b e f k ReadFault d) refl)
 
   pub broken_told : Answers ws r a b e f → r ≡ 4 → Under ws (λ o. WorkBroken (work_of o) a b) × IsLineWritten write_line e f × Under ws (λ o. Rose (write_count (target_of (work_of o)) a) (write_count (target_of (work_of o)) b))
   broken_told x h =
-      let k = obeyed x 4 h (λ z. omega (arith, z)) (λ z. omega (arith, z)) (omega arith) in
+      let k = obeyed x 4 h (λ z. omega (arith, z)) (λ z. omega (arith, z)) (λ y z. omega (arith, y, z)) in
       let d = write_status k.end k.status_is in
       ((k.order, k.is, left ws 4 a b e f k WriteFault d), said_by ws 4 a b e f k WriteFault d, (k.order, k.is, plan.write_rose (target_of (work_of k.order)) WriteFault a b (counted ws 4 a b e f k WriteFault d) refl))
 
   pub parts_told : Answers ws r a b e f → r ≡ 6 → Under ws (λ o. WorkEnded (work_of o) ends.TooMany a b) × IsLineWritten parts_line e f
   parts_told x h =
-      let k = obeyed x 6 h (λ z. omega (arith, z)) (λ z. omega (arith, z)) (omega arith) in
+      let k = obeyed x 6 h (λ z. omega (arith, z)) (λ z. omega (arith, z)) (λ y z. omega (arith, y, z)) in
       let d = parts_status k.end k.status_is in
       ((k.order, k.is, left ws 6 a b e f k TooManyParts d), said_by ws 6 a b e f k TooManyParts d)
 
   pub only_parts : Answers ws r a b e f → r ≡ 6 → Under ws (λ o. target_of (work_of o) ≡ Parts)
   only_parts x h =
-      let k = obeyed x 6 h (λ z. omega (arith, z)) (λ z. omega (arith, z)) (omega arith) in
+      let k = obeyed x 6 h (λ z. omega (arith, z)) (λ z. omega (arith, z)) (λ y z. omega (arith, y, z)) in
       let c = counted ws 6 a b e f k TooManyParts (parts_status k.end k.status_is) in
+      (k.order, k.is, c.0)
+
+  -- A masked chunk would be too long.
+  pub long_told : Answers ws r a b e f → r ≡ 9 → Under ws (λ o. IsTooLong (work_of o) a b e f)
+  long_told x h =
+      let k = obeyed x 9 h (λ z. omega (arith, z)) (λ z. omega (arith, z)) (λ y z. omega (arith, y, z)) in
+      let d = long_status k.end k.status_is in
+      (k.order, k.is, record { chunk = d.0; ended = left ws 9 a b e f k (MaskTooLong d.0) d.1; said = said_by ws 9 a b e f k (MaskTooLong d.0) d.1 })
+
+  pub only_masks : Answers ws r a b e f → r ≡ 9 → Under ws (λ o. target_of (work_of o) ≡ Masked)
+  only_masks x h =
+      let k = obeyed x 9 h (λ z. omega (arith, z)) (λ z. omega (arith, z)) (λ y z. omega (arith, y, z)) in
+      let d = long_status k.end k.status_is in
+      let c = counted ws 9 a b e f k (MaskTooLong d.0) d.1 in
       (k.order, k.is, c.0)
 
   pub memory_told : Answers ws r a b e f → r ≡ 5 → (o : Order) → order_of ws ≡ Some o → IsPartlyDone (work_of o) a b
@@ -478,11 +546,11 @@ module _ {ws : List (List ℕ)} {r : ℕ} {a b : Outside} {e f : SinkState} wher
   doubted_told (Usage o s (Fully p q)) h = absurd (omega (arith, p, h))
   doubted_told (Usage o s (answers.ForMemory p q)) h = absurd (omega (arith, p, h))
   doubted_told (Unread s t) h = absurd (omega (arith, five t, h))
-  doubted_told (Carried o is end c (Fully p q)) h = absurd (omega (arith, ending_status end, p, h))
+  doubted_told (Carried o is end c (Fully p q)) h = absurd (no_judgement end (omega (arith, p, h)) (omega (arith, p, h)))
   doubted_told (Carried o is end c (answers.ForMemory p q)) h = absurd (omega (arith, p, h))
   doubted_told (Stayed o is (answer_kinds.Doubted chunk doubt) d j (Fully p q)) h = (o, is, record { chunk = chunk; doubt = doubt; doubts = d; said = q })
   doubted_told (Stayed o is (answer_kinds.Unbuilt line reason) d j (Fully p q)) h = absurd (omega (arith, p, h))
-  doubted_told (Stayed o is (answer_kinds.Ended end) d j (Fully p q)) h = absurd (omega (arith, ending_status end, j.low))
+  doubted_told (Stayed o is (answer_kinds.Ended end) d j (Fully p q)) h = absurd (no_judgement end j.low j.high)
   doubted_told (Stayed o is answer_kinds.Usage d j (Fully p q)) h = absurd d
   doubted_told (Stayed o is x d j (answers.ForMemory p q)) h = absurd (omega (arith, p, h))
 
@@ -490,20 +558,20 @@ module _ {ws : List (List ℕ)} {r : ℕ} {a b : Outside} {e f : SinkState} wher
   unbuilt_told (Usage o s (Fully p q)) h = absurd (omega (arith, p, h))
   unbuilt_told (Usage o s (answers.ForMemory p q)) h = absurd (omega (arith, p, h))
   unbuilt_told (Unread s t) h = absurd (omega (arith, five t, h))
-  unbuilt_told (Carried o is end c (Fully p q)) h = absurd (omega (arith, ending_status end, p, h))
+  unbuilt_told (Carried o is end c (Fully p q)) h = absurd (no_judgement end (omega (arith, p, h)) (omega (arith, p, h)))
   unbuilt_told (Carried o is end c (answers.ForMemory p q)) h = absurd (omega (arith, p, h))
   unbuilt_told (Stayed o is (answer_kinds.Unbuilt line reason) d j (Fully p q)) h = (o, is, record { line = line; reason = reason; unbuilds = d; said = q })
   unbuilt_told (Stayed o is (answer_kinds.Doubted chunk doubt) d j (Fully p q)) h = absurd (omega (arith, p, h))
-  unbuilt_told (Stayed o is (answer_kinds.Ended end) d j (Fully p q)) h = absurd (omega (arith, ending_status end, j.low))
+  unbuilt_told (Stayed o is (answer_kinds.Ended end) d j (Fully p q)) h = absurd (no_judgement end j.low j.high)
   unbuilt_told (Stayed o is answer_kinds.Usage d j (Fully p q)) h = absurd d
   unbuilt_told (Stayed o is x d j (answers.ForMemory p q)) h = absurd (omega (arith, p, h))
 
-  pub statuses : Answers ws r a b e f → r ≤ 8
+  pub statuses : Answers ws r a b e f → r ≤ 9
   statuses (Usage o s (Fully p q)) = omega (arith, p)
   statuses (Usage o s (answers.ForMemory p q)) = omega (arith, p)
   statuses (Unread s t) = omega (arith, five t)
   statuses (Carried o is end c (answers.ForMemory p q)) = omega (arith, p)
-  statuses (Carried o is end c (Fully p q)) = omega (arith, ending_status end, p)
+  statuses (Carried o is end c (Fully p q)) = omega (arith, most_status end, p)
   statuses (Stayed o is x d j (answers.ForMemory p q)) = omega (arith, p)
   statuses (Stayed o is x d j (Fully p q)) = omega (arith, j.high, p)
 
@@ -561,7 +629,7 @@ module _ {ws : List (List ℕ)} {r : ℕ} {a b : Outside} {e f : SinkState} wher
   can_read (Carried p known end c t) o is can =
       let n = c.can_read (subst (λ z. CanReadAll (work_of z) a.place) (sym (order_same ws p o known is)) can) in
       (not_read r e f end n t, plan.reads_clause (target_of (work_of p)) end a b c.counts n)
-  can_read (Stayed p known x d j t) o is can = ((λ h. not_stayed x j t (omega (arith, h)) (λ m. omega (arith, m, h))), j.counts.0)
+  can_read (Stayed p known x d j t) o is can = ((λ h. not_stayed x j t (λ y z. omega (arith, h, y, z)) (λ m. omega (arith, m, h))), j.counts.0)
 
   pub can_create : Answers ws r a b e f → (o : Order) → order_of ws ≡ Some o → CanCreateFor o a.place → (r ≡ 4 → ⊥) × (b.place.write_faults ≡ a.place.write_faults)
   can_create (Usage p s t) o is can = cc
@@ -569,7 +637,7 @@ module _ {ws : List (List ℕ)} {r : ℕ} {a b : Outside} {e f : SinkState} wher
   can_create (Carried p known end c t) o is can =
       let n = c.can_create (subst (λ z. CanCreateFor z a.place) (sym (order_same ws p o known is)) can) in
       (not_write r e f end n t, writes_stay (target_of (work_of p)) end a b c.counts n)
-  can_create (Stayed p known x d j t) o is can = ((λ h. not_stayed x j t (omega (arith, h)) (λ m. omega (arith, m, h))), j.counts.1)
+  can_create (Stayed p known x d j t) o is can = ((λ h. not_stayed x j t (λ y z. omega (arith, h, y, z)) (λ m. omega (arith, m, h))), j.counts.1)
 
   pub sink_told : Answers ws r a b e f → (o : Order) → order_of ws ≡ Some o → KeepsSink (target_of (work_of o)) a.sink b.sink
   sink_told (Usage p s t) o is = cc
@@ -586,11 +654,11 @@ module _ {ws : List (List ℕ)} {r : ℕ} {a b : Outside} {e f : SinkState} wher
   -- A check with status 2 or 3 writes no text.
   pub text_told : Answers ws r a b e f → (r ≡ 2) ⊎ (r ≡ 3) → (g : Given) (i o p : List ℕ) → order_of ws ≡ Some (orders.Verify g i o p) → b.sink ≡ a.sink
   text_told x (inl h) g i o p is =
-      let k = obeyed x 2 h (λ z. omega (arith, z)) (λ z. omega (arith, z)) (omega arith) in
+      let k = obeyed x 2 h (λ z. omega (arith, z)) (λ z. omega (arith, z)) (λ y z. omega (arith, y, z)) in
       let d = refused_status k.end k.status_is in
       subst (λ z. KeepsText (work_of z) (Refused d.0) a.sink b.sink) (order_same ws k.order (orders.Verify g i o p) k.is is) (subst (λ z. KeepsText (work_of k.order) z a.sink b.sink) d.1 k.carries.text)
   text_told x (inr h) g i o p is =
-      let k = obeyed x 3 h (λ z. omega (arith, z)) (λ z. omega (arith, z)) (omega arith) in
+      let k = obeyed x 3 h (λ z. omega (arith, z)) (λ z. omega (arith, z)) (λ y z. omega (arith, y, z)) in
       subst (λ z. KeepsText (work_of z) ReadFault a.sink b.sink) (order_same ws k.order (orders.Verify g i o p) k.is is) (subst (λ z. KeepsText (work_of k.order) z a.sink b.sink) (read_status k.end k.status_is) k.carries.text)
 
   -- What an order wrote that ended as its plan does.
@@ -598,8 +666,8 @@ module _ {ws : List (List ℕ)} {r : ℕ} {a b : Outside} {e f : SinkState} wher
   wrote_told (Usage p s t) h k is = cc
   wrote_told (Unread s t) (inl h) k is = absurd (omega (arith, five t, h))
   wrote_told (Unread s t) (inr h) k is = absurd (omega (arith, five t, h))
-  wrote_told (Stayed p known x d j t) (inl h) k is = absurd (not_stayed x j t (omega (arith, h)) (λ m. omega (arith, m, h)))
-  wrote_told (Stayed p known x d j t) (inr h) k is = absurd (not_stayed x j t (omega (arith, h)) (λ m. omega (arith, m, h)))
+  wrote_told (Stayed p known x d j t) (inl h) k is = absurd (not_stayed x j t (λ y z. omega (arith, h, y, z)) (λ m. omega (arith, m, h)))
+  wrote_told (Stayed p known x d j t) (inr h) k is = absurd (not_stayed x j t (λ y z. omega (arith, h, y, z)) (λ m. omega (arith, m, h)))
   wrote_told (Carried p known end c (answers.ForMemory m q)) (inl h) k is = absurd (omega (arith, m, h))
   wrote_told (Carried p known end c (answers.ForMemory m q)) (inr h) k is = absurd (omega (arith, m, h))
   wrote_told (Carried p known end c (Fully m q)) h k is = (end, by_plan end (planned_status m h), subst (λ z. runs.Wrote z end a.place b.place) (order_same ws p k known is) c.wrote)
@@ -614,15 +682,26 @@ module _ {ws : List (List ℕ)} {r : ℕ} {a b : Outside} {e f : SinkState} wher
   pub renumbered_told : Answers ws r a b e f → (r ≡ 0) ⊎ (r ≡ 2) → (g : Given) (i o : List ℕ) → order_of ws ≡ Some (orders.Scrub g true i o) → IfKnown a.place.contents b.place.contents (Renumbers g (file_name i) (file_name o))
   renumbered_told x h g i o is = let w = wrote_told x h (orders.Scrub g true i o) is in w.2 w.1
 
+  pub masked_told : Answers ws r a b e f → (r ≡ 0) ⊎ (r ≡ 2) → (g : Given) (s : List (List ℕ)) (x : Option (List (List ℕ))) (k t : Option (List ℕ)) (i o : List ℕ) → order_of ws ≡ Some (orders.Mask g s x k t i o)
+      → IfKnown a.place.contents b.place.contents (masks.Masks (mask_work g s x k t i o))
+  masked_told answered h g s x k t i o is = let w = wrote_told answered h (orders.Mask g s x k t i o) is in w.2.output w.1
+
+  pub table_told : Answers ws r a b e f → r ≡ 0 → (g : Given) (s : List (List ℕ)) (x : Option (List (List ℕ))) (k t : Option (List ℕ)) (i o : List ℕ) → order_of ws ≡ Some (orders.Mask g s x k t i o)
+      → IfKnown a.place.contents b.place.contents (masks.WritesTable (mask_work g s x k t i o))
+  table_told answered h g s x k t i o is =
+      let d = obeyed answered 0 h (λ z. omega (arith, z)) (λ z. omega (arith, z)) (λ y z. omega (arith, y, z)) in
+      let w = subst (λ z. runs.Wrote z d.end a.place b.place) (order_same ws d.order (orders.Mask g s x k t i o) d.is is) d.carries.wrote in
+      w.table (done_status d.end d.status_is)
+
   pub verified_told : Answers ws r a b e f → r ≡ 0 → (g : Given) (i o p : List ℕ) → order_of ws ≡ Some (orders.Verify g i o p) → IfSome a.place.contents (λ w. (count : ℕ) × AllVerified g (three (file_name i) (file_name o) (file_name p) w) count)
   verified_told x h g i o p is =
-      let k = obeyed x 0 h (λ z. omega (arith, z)) (λ z. omega (arith, z)) (omega arith) in
+      let k = obeyed x 0 h (λ z. omega (arith, z)) (λ z. omega (arith, z)) (λ y z. omega (arith, y, z)) in
       let w = subst (λ z. runs.Wrote z k.end a.place b.place) (order_same ws k.order (orders.Verify g i o p) k.is is) k.carries.wrote in
       w (done_status k.end k.status_is)
 
   pub built_told : Answers ws r a b e f → r ≡ 0 → (text output : List ℕ) → order_of ws ≡ Some (orders.Build text output) → IfKnown a.place.contents b.place.contents (streams.Builds (file_name text) (file_name output))
   built_told x h text output is =
-      let k = obeyed x 0 h (λ z. omega (arith, z)) (λ z. omega (arith, z)) (omega arith) in
+      let k = obeyed x 0 h (λ z. omega (arith, z)) (λ z. omega (arith, z)) (λ y z. omega (arith, y, z)) in
       let w = subst (λ z. runs.Wrote z k.end a.place b.place) (order_same ws k.order (orders.Build text output) k.is is) k.carries.wrote in
       w (done_status k.end k.status_is)
 

@@ -3,10 +3,10 @@ use Rattle.std.specs.Prelude.{◌≡◌, ◌≢◌, ◌<◌, ℕ}
 use Rattle.std.proofs.Common.{ap, arith, refl}
 use Rattle.jfr_outside.specs.World.{State, SinkState}
 use Rattle.jfr_header.specs.declared.ending.Ending.{Ending}
-use Rattle.jfr_header.specs.declared.ending.Ending.TheVariants.{Done, Refused, ReadFault, WriteFault, TooManyParts, Memory}
+use Rattle.jfr_header.specs.declared.ending.Ending.TheVariants.{Done, Refused, ReadFault, WriteFault, TooManyParts, MaskTooLong, Memory}
 use Rattle.jfr_plan.specs.Ends.{CommandEnd, Ends, NotRead, NotWritten, RanOut, command_end}
 use Rattle.jfr_plan.specs.Effects.{Outside, outside, without_sink}
-use Rattle.jfr_plan.specs.Rules.{Target, File, Parts, Text}
+use Rattle.jfr_plan.specs.Rules.{Target, File, Parts, Masked, Text}
 use Rattle.jfr_plan.specs.Outcomes.{Unchanged, Counted, Tallied}
 use Rattle.jfr_cli.specs.Runs as runs
 use Rattle.jfr_cli.specs.Runs.{CountsOnce}
@@ -24,6 +24,12 @@ lifted_parts NotRead p q s h = (h.0, h.1, refl, h.3)
 lifted_parts NotWritten p q s h = (h.0, h.1, refl, h.3)
 lifted_parts RanOut p q s h = (h.0, h.1, refl, h.3)
 
+pub lifted_masked : (ended : CommandEnd) (p q : State) (s : SinkState) → Tallied Masked ended (without_sink p) (without_sink q) → Tallied Masked ended (outside p s) (outside q s)
+lifted_masked (Ends e) p q s h = (h.0, (h.1.0, h.1.1, refl, h.1.3))
+lifted_masked NotRead p q s h = (h.0, h.1, refl, h.3)
+lifted_masked NotWritten p q s h = (h.0, h.1, refl, h.3)
+lifted_masked RanOut p q s h = (h.0, h.1, refl, h.3)
+
 -- No count rose.
 pub none_rose : (a b : Outside) → b ≡ a → Counted Unchanged Unchanged Unchanged a b
 none_rose a b e = (ap (λ (x : Outside). x.place.read_faults) e, ap (λ (x : Outside). x.place.write_faults) e, ap (λ (x : Outside). x.sink.faults) e, ap (λ (x : Outside). x.place.steady) e)
@@ -32,6 +38,7 @@ none_rose a b e = (ap (λ (x : Outside). x.place.read_faults) e, ap (λ (x : Out
 written_once : (t : Target) (a b : Outside) → Tallied t NotWritten a b → CountsOnce a b
 written_once File a b h = runs.WritesRose h
 written_once Parts a b h = runs.WritesRose h
+written_once Masked a b h = runs.WritesRose h
 written_once Text a b h = runs.TextsRose h
 
 pub tallied_once : (t : Target) (ended : CommandEnd) (a b : Outside) → Tallied t ended a b → CountsOnce a b
@@ -55,6 +62,7 @@ pub place_passed : (t : Target) (e : Ending) (a b : Outside) → Tallied t (comm
 place_passed t Done a b h l = absurd (no_less a.place.write_faults b.place.write_faults h.1.1 l)
 place_passed t (Refused r) a b h l = absurd (no_less a.place.write_faults b.place.write_faults h.1.1 l)
 place_passed t TooManyParts a b h l = absurd (no_less a.place.write_faults b.place.write_faults h.1.1 l)
+place_passed t (MaskTooLong n) a b h l = absurd (no_less a.place.write_faults b.place.write_faults h.1.1 l)
 place_passed t ReadFault a b h l = absurd (no_less a.place.write_faults b.place.write_faults h.1 l)
 place_passed t Memory a b h l = absurd (no_less a.place.write_faults b.place.write_faults h.1 l)
 place_passed t WriteFault a b h l = refl
@@ -63,6 +71,7 @@ pub sink_passed : (t : Target) (e : Ending) (a b : Outside) → Tallied t (comma
 sink_passed t Done a b h l = absurd (no_less a.sink.faults b.sink.faults h.1.2 l)
 sink_passed t (Refused r) a b h l = absurd (no_less a.sink.faults b.sink.faults h.1.2 l)
 sink_passed t TooManyParts a b h l = absurd (no_less a.sink.faults b.sink.faults h.1.2 l)
+sink_passed t (MaskTooLong n) a b h l = absurd (no_less a.sink.faults b.sink.faults h.1.2 l)
 sink_passed t ReadFault a b h l = absurd (no_less a.sink.faults b.sink.faults h.2 l)
 sink_passed t Memory a b h l = absurd (no_less a.sink.faults b.sink.faults h.2 l)
 sink_passed t WriteFault a b h l = refl
@@ -72,6 +81,7 @@ pub writes_stay : (t : Target) (e : Ending) (a b : Outside) → Tallied t (comma
 writes_stay t Done a b h n = h.1.1
 writes_stay t (Refused r) a b h n = h.1.1
 writes_stay t TooManyParts a b h n = h.1.1
+writes_stay t (MaskTooLong k) a b h n = h.1.1
 writes_stay t ReadFault a b h n = h.1
 writes_stay t Memory a b h n = h.1
 writes_stay t WriteFault a b h n = absurd (n refl)

@@ -7,3 +7,4 @@ mod Sampling
 mod Checking
 mod Building
 mod Clauses
+mod Masking

@@ -2,10 +2,10 @@
 use Rattle.std.specs.Prelude.{◌≡◌, codes, None, Some, refl}
 use Rattle.std.specs.Fmt.{digits}
 use Rattle.jfr_base.specs.declared.reason.Reason.TheVariants.{NoChunk, PoolType, Trailing}
-use Rattle.jfr_header.specs.declared.ending.Ending.TheVariants.{Done, Refused, ReadFault, WriteFault, TooManyParts, Memory}
+use Rattle.jfr_header.specs.declared.ending.Ending.TheVariants.{Done, Refused, ReadFault, WriteFault, TooManyParts, MaskTooLong, Memory}
 use Rattle.jfr_cli.specs.Answers.{line_of, status_of, usage_line}
 
-usage_row : usage_line ≡ codes "usage: jfr print|summary|metadata|scrub|disassemble|assemble|sample|receipt|verify|build|stacks\n"
+usage_row : usage_line ≡ codes "usage: jfr print|summary|metadata|scrub|disassemble|assemble|sample|receipt|verify|build|stacks|mask\n"
 usage_row = refl
 
 done_row : status_of Done ≡ 0
@@ -48,3 +48,10 @@ parts_row = refl
 
 parts_status_row : status_of TooManyParts ≡ 6
 parts_status_row = refl
+
+long_row : line_of (MaskTooLong 3) ≡ Some (codes "chunk 3: MaskTooLong\n")
+unfolding digits
+long_row = refl
+
+long_status_row : status_of (MaskTooLong 3) ≡ 9
+long_status_row = refl

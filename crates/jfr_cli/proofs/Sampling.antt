@@ -6,7 +6,7 @@ use Rattle.jfr_outside.specs.Counts.{Counts}
 use Rattle.jfr_outside.specs.declared.fault.Fault.{Fault}
 use Rattle.jfr_outside.specs.declared.fault.Fault.TheVariants as faults
 use Rattle.jfr_header.specs.declared.ending.Ending.{Ending}
-use Rattle.jfr_header.specs.declared.ending.Ending.TheVariants.{Done, Refused, ReadFault, WriteFault, TooManyParts, Memory}
+use Rattle.jfr_header.specs.declared.ending.Ending.TheVariants.{Done, Refused, ReadFault, WriteFault, TooManyParts, MaskTooLong, Memory}
 use Rattle.jfr_header.specs.Endings.{after_write}
 use Rattle.jfr_plan.specs.Ends.{CommandEnd, command_end}
 use Rattle.jfr_plan.specs.Effects.{Plan, Write, outside, snapshot, effects}
@@ -40,6 +40,7 @@ module _ (seed events : ℕ) (a : State) (s z : SinkState) where
   carries_sample (Refused r) w = absurd w
   carries_sample ReadFault w = absurd w
   carries_sample TooManyParts w = absurd w
+  carries_sample (MaskTooLong k) w = absurd w
 
 -- What a write of a text leaves, by its ending.
 pub written_by : (bytes : List ℕ) (fault : Fault) (e : Ending) (s z : SinkState) → e ≡ after_write fault → IsAfterAppend {T = Unit {0}} (Err fault) s.written z.written bytes added → Counts {T = Unit {0}} (Err fault) s.faults z.faults → IsWritten bytes e s z

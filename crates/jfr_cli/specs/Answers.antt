@@ -6,7 +6,7 @@ use Rattle.jfr_base.specs.Reasons.{reason_name}
 use Rattle.jfr_outside.specs.World.{SinkState, added}
 use Rattle.jfr_outside.specs.Counts.{Rose}
 use Rattle.jfr_header.specs.declared.ending.Ending.{Ending}
-use Rattle.jfr_header.specs.declared.ending.Ending.TheVariants.{Done, Refused, ReadFault, WriteFault, TooManyParts, Memory}
+use Rattle.jfr_header.specs.declared.ending.Ending.TheVariants.{Done, Refused, ReadFault, WriteFault, TooManyParts, MaskTooLong, Memory}
 use Rattle.jfr_show.specs.Texts.{newline}
 use Rattle.jfr_verify.specs.declared.doubt.Doubt.{Doubt}
 use Rattle.jfr_verify.specs.Doubts.{doubt_name}
@@ -23,10 +23,11 @@ status_of ReadFault = 3
 status_of WriteFault = 4
 status_of Memory = 5
 status_of TooManyParts = 6
+status_of (MaskTooLong n) = 9
 
 -- The line if the words aren't an order.
 abbrev pub usage_line : List ℕ
-usage_line = codes "usage: jfr print|summary|metadata|scrub|disassemble|assemble|sample|receipt|verify|build|stacks" ++ newline
+usage_line = codes "usage: jfr print|summary|metadata|scrub|disassemble|assemble|sample|receipt|verify|build|stacks|mask" ++ newline
 
 -- The line of a refused recording: the number of the chunk, the offset in it, and the name of the reason.
 abbrev pub refusal_line : Refusal → List ℕ
@@ -56,6 +57,10 @@ memory_line = codes "out of memory" ++ newline
 abbrev pub parts_line : List ℕ
 parts_line = codes "too many parts" ++ newline
 
+-- The line if the masked chunk with this number would be too long.
+abbrev pub long_line : ℕ → List ℕ
+long_line n = codes "chunk " ++ (decimal n ++ (codes ": MaskTooLong" ++ newline))
+
 -- The line of an ending, if it has one.
 abbrev pub line_of : Ending → Option (List ℕ)
 line_of Done = None
@@ -64,6 +69,7 @@ line_of ReadFault = Some read_line
 line_of WriteFault = Some write_line
 line_of Memory = Some memory_line
 line_of TooManyParts = Some parts_line
+line_of (MaskTooLong n) = Some (long_line n)
 
 -- The status and the line of an answer.
 abbrev pub answer_status : Answer → ℕ

@@ -6,7 +6,7 @@ use Rattle.jfr_outside.specs.Counts.{Rose}
 use Rattle.jfr_header.specs.declared.ending.Ending.{Ending}
 use Rattle.jfr_header.specs.declared.ending.Ending.TheVariants as ending
 use Rattle.jfr_filter.specs.Filters.{Given}
-use Rattle.jfr_plan.specs.Ends.{End, Fine, Refused, TooMany, Ends, NotWritten, RanOut, command_end}
+use Rattle.jfr_plan.specs.Ends.{End, Fine, Refused, TooMany, TooLong, Ends, NotWritten, RanOut, command_end}
 use Rattle.jfr_plan.specs.Ends as command_ends
 use Rattle.jfr_plan.specs.Effects.{Outside}
 use Rattle.jfr_plan.specs.Rules.{plan_in}
@@ -15,6 +15,8 @@ use Rattle.jfr_plan.specs.Clauses.{write_count}
 use Rattle.jfr_output.specs.Recordings.{IsByPlan}
 use Rattle.jfr_scrub.specs.Headline.{Scrubs}
 use Rattle.jfr_renumber.specs.Headline.{Renumbers}
+use Rattle.jfr_mask.specs.Commands.{mask_plan}
+use Rattle.jfr_mask.specs.Commands as masks
 use Rattle.jfr_words.specs.declared.order.Order.{Order}
 use Rattle.jfr_words.specs.declared.order.Order.TheVariants as orders
 use Rattle.jfr_words.specs.Words.{order_of, file_name}
@@ -28,13 +30,19 @@ use Rattle.jfr_build.specs.Builds as builds
 use Rattle.jfr_build.specs.Builds.{build_of}
 use Rattle.jfr_build.specs.Streams as streams
 use Rattle.jfr_build.specs.Streams.{IsRefusedText}
-use Rattle.jfr_cli.specs.Works.{Work, Over, Joins, Planned, Checks, Builds, work_of, target_of, IfFilesKnown, IsAfterWork, KeepsSink, KeepsPlace, CanReadAll, CanCreateFor}
+use Rattle.jfr_cli.specs.Works.{Work, Over, Joins, Planned, Checks, Builds, Masks, mask_work, work_of, target_of, IfFilesKnown, IsAfterWork, KeepsSink, KeepsPlace, CanReadAll, CanCreateFor}
 use Rattle.jfr_cli.specs.declared.answer.Answer.{Answer}
 use Rattle.jfr_cli.specs.declared.answer.Answer.TheVariants as answers
-use Rattle.jfr_cli.specs.Answers.{doubt_line, refusal_line, unbuilt_line, IsLineWritten}
+use Rattle.jfr_cli.specs.Answers.{doubt_line, long_line, refusal_line, unbuilt_line, IsLineWritten}
 
--- If a scrub ends as its plan does, the output is the scrub of the input, or its renumbering. If a check ends
--- well, each chunk of the output is verified; if a build does, the output has the chunk of the text.
+-- If a masking ends as its plan does, the output is the masked recording; if it ends well, the table has the texts.
+pub record WroteMasks (k : masks.MaskWork) (e : Ending) (a b : State) : Type 0 where
+  pub output : IsByPlan e → IfKnown a.contents b.contents (masks.Masks k)
+  pub table : e ≡ ending.Done → IfKnown a.contents b.contents (masks.WritesTable k)
+
+-- If a scrub ends as its plan does, the output is the scrub of the input, or its renumbering; if a masking does, it
+-- is the masked recording. If a check ends well, each chunk of the output is verified; if a build does, the output
+-- has the chunk of the text.
 abbrev pub Wrote : Order → Ending → State → State → Type 0
 Wrote (orders.Scrub g false input output) e a b = IsByPlan e → IfKnown a.contents b.contents (Scrubs g (file_name input) (file_name output))
 Wrote (orders.Scrub g true input output) e a b = IsByPlan e → IfKnown a.contents b.contents (Renumbers g (file_name input) (file_name output))
@@ -48,6 +56,7 @@ Wrote (orders.Receipt g input receipt) e a b = ⊤
 Wrote (orders.Verify g input output receipt) e a b = e ≡ ending.Done → IfSome a.contents (λ w. (count : ℕ) × AllVerified g (three (file_name input) (file_name output) (file_name receipt) w) count)
 Wrote (orders.Stacks g file) e a b = ⊤
 Wrote (orders.Build text output) e a b = e ≡ ending.Done → IfKnown a.contents b.contents (streams.Builds (file_name text) (file_name output))
+Wrote (orders.Mask g strings except known table input output) e a b = WroteMasks (mask_work g strings except known table input output) e a b
 
 -- The verdict of the check is a doubt about a chunk.
 abbrev pub IsInDoubt : Work → ℕ → Doubt → World → Type 0
@@ -157,6 +166,7 @@ abbrev pub status_of_end : End → ℕ
 status_of_end Fine = 0
 status_of_end (Refused r) = 2
 status_of_end TooMany = 6
+status_of_end (TooLong n) = 9
 
 -- The status is that of the plan's end, or memory ran out.
 pub data IsPlannedStatus (end : Option End) (answer : ℕ) : Type 0 where
@@ -189,6 +199,7 @@ HasStatus (Joins folder output) answer w = IsPlannedStatus (assembling folder ou
 HasStatus (Planned p) answer w = IsPlannedStatus p.end answer
 HasStatus (Checks g input output receipt) answer w = IsVerdictStatus g (three input output receipt w) answer
 HasStatus (Builds text output) answer w = IsBuildStatus (file w text) answer
+HasStatus (Masks k) answer w = IsPlannedStatus (mask_plan k w).end answer
 
 -- The check has a doubt, and the line says so.
 pub record IsDoubted (k : Work) (a b : Outside) (e f : SinkState) : Type 0 where
@@ -210,3 +221,9 @@ pub record IsRefused (k : Work) (a b : Outside) (e f : SinkState) : Type 0 where
   pub refusal : Refusal
   pub ended : WorkEnded k (Refused refusal) a b
   pub said : IsLineWritten (refusal_line refusal) e f
+
+-- A masked chunk would be too long: this is the plan's end, all its effects are done, and the line says so.
+pub record IsTooLong (k : Work) (a b : Outside) (e f : SinkState) : Type 0 where
+  pub chunk : ℕ
+  pub ended : WorkEnded k (TooLong chunk) a b
+  pub said : IsLineWritten (long_line chunk) e f

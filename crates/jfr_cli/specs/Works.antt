@@ -1,15 +1,16 @@
 -- What each order asks to be done.
-use Rattle.std.specs.Prelude.{◌≡◌, ℕ, List, [], ◌∷◌, ◌++◌, Bool, true, false, IsTrue, IsSome, Option, None, Some, ⊤, codes, encode_utf8_all}
+use Rattle.std.specs.Prelude.{◌≡◌, ℕ, List, [], ◌∷◌, ◌++◌, Bool, true, false, IsTrue, IsSome, Option, None, Some, option_map, unwrap_or, ⊤, codes, encode_utf8_all}
 use Rattle.std.specs.Fmt.{decimal}
 use Rattle.jfr_outside.specs.World.{World, State, SinkState, IfKnown, file}
 use Rattle.jfr_filter.specs.Filters.{Given}
 use Rattle.jfr_plan.specs.Ends.{Fine, Refused, CommandEnd, Ends, NotRead, NotWritten, RanOut}
 use Rattle.jfr_plan.specs.Effects.{Outside, Write, Nothing, AtEnd, Plan, Snapshot, snapshot, effects, needing}
-use Rattle.jfr_plan.specs.Rules.{Rule, Target, File, Parts, Text, plan_in}
+use Rattle.jfr_plan.specs.Rules.{Rule, Target, File, Parts, Masked, Text, plan_in}
 use Rattle.jfr_plan.specs.Outcomes.{AllDone, Breaks, HaltedIn, SomeDone}
 use Rattle.jfr_plan.specs.Clauses.{CanRead, CanCreate}
 use Rattle.jfr_scrub.specs.Scrubs.{scrubbing}
 use Rattle.jfr_renumber.specs.Renumbers.{renumbering}
+use Rattle.jfr_mask.specs.Commands.{CanCreateBoth, CanReadBoth, MaskHalted, MaskWork, mask_plan}
 use Rattle.jfr_split.specs.Splits.{splitting}
 use Rattle.jfr_split.specs.Joins.{assembling}
 use Rattle.jfr_split.specs.Clauses.{Unfinished, CanCreateAll}
@@ -27,14 +28,15 @@ use Rattle.jfr_words.specs.declared.order.Order.TheVariants as orders
 use Rattle.jfr_words.specs.Words.{file_name}
 
 -- The work of an order: a rule over one recording, the files of a folder joined to an output, a plan that
--- needs no file, a check of three files with a filter (the input, the output and its receipts), or the
--- building of a text file and an output.
+-- needs no file, a check of three files with a filter (the input, the output and its receipts), the building of
+-- a text file and an output, or the masking of a recording.
 pub data Work : Type 0 where
   Over : Rule → List ℕ → Work
   Joins : List ℕ → List ℕ → Work
   Planned : Plan → Work
   Checks : Given → List ℕ → List ℕ → List ℕ → Work
   Builds : List ℕ → List ℕ → Work
+  Masks : MaskWork → Work
 
 -- The sample's text is written.
 abbrev pub sample_plan : List ℕ → Plan
@@ -56,6 +58,18 @@ verdict_plan (Verified count) = record { steps = needing AtEnd (Write (verified_
 verdict_plan (verdicts.Refused r) = record { steps = []; end = Some (Refused r) }
 verdict_plan _ = record { steps = []; end = None }
 
+-- The masking of a recording, by what the order says.
+abbrev pub mask_work : Given → List (List ℕ) → Option (List (List ℕ)) → Option (List ℕ) → Option (List ℕ) → List ℕ → List ℕ → MaskWork
+mask_work g strings except known table input output = record {
+  filter = g;
+  strings = strings;
+  except = unwrap_or except [];
+  known = option_map file_name known;
+  table = option_map file_name table;
+  input = file_name input;
+  output = file_name output;
+}
+
 -- The work of an order.
 abbrev pub work_of : Order → Work
 work_of (orders.Print g depth json file) = Over (printing g depth json) (file_name file)
@@ -69,6 +83,7 @@ work_of (orders.Receipt g input receipt) = Over (receipting g (file_name receipt
 work_of (orders.Verify g input output receipt) = Checks g (file_name input) (file_name output) (file_name receipt)
 work_of (orders.Stacks g file) = Over (folding g) (file_name file)
 work_of (orders.Build text output) = Builds (file_name text) (file_name output)
+work_of (orders.Mask g strings except known table input output) = Masks (mask_work g strings except known table input output)
 
 -- The claim holds of the plan of the work, given the files of a place. A check has the plan of its verdict, of
 -- which there is at most one. The plan of a text that is refused has no end; the refusal is the answer.
@@ -78,14 +93,16 @@ Plans (Joins folder output) w P = P (assembling folder output w.files)
 Plans (Planned p) w P = P p
 Plans (Checks g input output receipt) w P = (x : Verdict) × VerdictOf g (three input output receipt w) x × P (verdict_plan x)
 Plans (Builds text output) w P = P (building output (file w text))
+Plans (Masks k) w P = P (mask_plan k w)
 
--- The target of the work: a file, parts, or text.
+-- The target of the work: a file, parts, a masked recording, or text.
 abbrev pub target_of : Work → Target
 target_of (Over r input) = r.target
 target_of (Joins folder output) = File
 target_of (Planned p) = Text
 target_of (Checks g input output receipt) = Text
 target_of (Builds text output) = File
+target_of (Masks k) = Masked
 
 -- The state after a read fault. It can't happen if no file is read, and nothing was done yet in a check or a
 -- build. Over a steady place a check has one only if no verdict is right.
@@ -95,6 +112,7 @@ HaltsAs steady (Joins folder output) w v s t = Unfinished steady (effects (assem
 HaltsAs steady (Planned p) w v s t = ⊥
 HaltsAs steady (Checks g input output receipt) w v s t = (t ≡ s) × (IsTrue steady → HasNoVerdict g (three input output receipt w))
 HaltsAs steady (Builds text output) w v s t = (t ≡ s) × IsUnread steady text w v
+HaltsAs steady (Masks k) w v s t = MaskHalted steady k w v s t
 
 -- The state after memory ran out: the first effects are done. A check has only one, which is its last step.
 abbrev pub StopsAs : Work → World → Snapshot → Snapshot → Type 0
@@ -103,12 +121,14 @@ StopsAs (Joins folder output) w s t = SomeDone (effects (assembling folder outpu
 StopsAs (Planned p) w s t = SomeDone (effects p.steps) s t
 StopsAs (Checks g input output receipt) w s t = t ≡ s
 StopsAs (Builds text output) w s t = SomeDone (effects (building output (file w text)).steps) s t
+StopsAs (Masks k) w s t = SomeDone (effects (mask_plan k w).steps) s t
 
 -- The text on the output sink, for work that writes text.
 abbrev pub text_on : Target → SinkState → Option (List ℕ)
 text_on Text s = s.written
 text_on File s = None
 text_on Parts s = None
+text_on Masked s = None
 
 -- A claim about the states before and after the work, if the files of the place are known. Work that reads no
 -- file does the same to the text whatever the files are.
@@ -131,6 +151,7 @@ abbrev pub KeepsSink : Target → SinkState → SinkState → Type 0
 KeepsSink Text a b = ⊤
 KeepsSink File a b = b ≡ a
 KeepsSink Parts a b = b ≡ a
+KeepsSink Masked a b = b ≡ a
 
 -- Work that reads no file leaves the place unchanged.
 abbrev pub KeepsPlace : Work → State → State → Type 0
@@ -139,6 +160,7 @@ KeepsPlace (Joins folder output) a b = ⊤
 KeepsPlace (Planned p) a b = b ≡ a
 KeepsPlace (Checks g input output receipt) a b = ⊤
 KeepsPlace (Builds text output) a b = ⊤
+KeepsPlace (Masks k) a b = ⊤
 
 -- The place is steady, and the three files of a check exist.
 pub record CanCheck (input output receipt : List ℕ) (s : State) : Type 0 where
@@ -156,6 +178,7 @@ CanReadAll (Joins folder output) a = IsTrue a.steady × IsSome a.contents
 CanReadAll (Planned p) a = ⊤
 CanReadAll (Checks g input output receipt) a = CanCheck input output receipt a
 CanReadAll (Builds text output) a = CanRead text a
+CanReadAll (Masks k) a = CanReadBoth k a
 
 -- The place is steady, no output is open, and the names that the order creates are new. Never true for an
 -- order that writes text, whose write faults are those of the output stream.
@@ -171,3 +194,4 @@ CanCreateFor (orders.Receipt g input receipt) a = CanCreate (file_name receipt) 
 CanCreateFor (orders.Verify g input output receipt) a = ⊥
 CanCreateFor (orders.Stacks g file) a = ⊥
 CanCreateFor (orders.Build text output) a = CanCreate (file_name output) a
+CanCreateFor (orders.Mask g strings except known table input output) a = CanCreateBoth (mask_work g strings except known table input output) a

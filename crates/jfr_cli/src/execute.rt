@@ -1,9 +1,9 @@
 //! Calls the command of each order. A function that doesn't use the place or the sink still takes it, so that its
 //! contract can say that it is unchanged; the parameter's name then begins with `_`.
 ghost use Rattle.jfr_plan.specs.Effects.{outside};
-ghost use Rattle.jfr_words.specs.Words.{IsUsableOrder};
+ghost use Rattle.jfr_words.specs.Words.{IsUsableOrder, file_name};
 ghost use Rattle.jfr_words.specs.declared.order.Order.TheVariants as orders;
-ghost use Rattle.std.specs.Prelude.{◌≤◌, false, true};
+ghost use Rattle.std.specs.Prelude.{◌≡◌, ◌≤◌, false, option_map, true};
 ghost use Rattle.jfr_split.specs.Parts.{IsUsable};
 ghost use Rattle.jfr_cli.specs.Runs.{Carries, CarriesTo};
 ghost use Rattle.jfr_cli.specs.Texts.{IsWritten};
@@ -11,8 +11,9 @@ ghost use Rattle.jfr_cli.specs.Works.{verified_line};
 
 use crate::answer::Answer;
 use jfr_build::{BuildEnding, build_stream};
-use jfr_filter::Filter;
+use jfr_filter::{Filter, Patterns};
 use jfr_header::Ending;
+use jfr_mask::{MaskFiles, MaskRule, mask_stream};
 use jfr_outside::{NoMemory, Place, Sink, Text};
 use jfr_receipt::receipt_stream;
 use jfr_renumber::renumber_stream;
@@ -95,6 +96,28 @@ pub(crate) fn execute<P: Place, O: Sink>(
         }
         Order::Stacks { filter, file } => Answer::Ended(stacks(alloc, place, out, filter, file)),
         Order::Build { text, output } => build(alloc, place, out, text, output),
+        Order::Mask {
+            filter,
+            strings,
+            except,
+            known,
+            table,
+            input,
+            output,
+        } => {
+            let rule = MaskRule {
+                filter,
+                strings,
+                except: except.as_ref(),
+            };
+            let files = MaskedFiles {
+                input,
+                output,
+                known: known.as_ref(),
+                table: table.as_ref(),
+            };
+            Answer::Ended(mask(alloc, place, out, rule, &files))
+        }
     }
 }
 
@@ -205,6 +228,43 @@ fn receipt<P: Place, O: Sink>(
 {
     let Files { input, output } = *files;
     receipt_stream(alloc, place, input.as_str(), output.as_str(), filter)
+}
+
+/// The names of the recording, of its masked recording, of the file of known texts, and of the table.
+#[derive(Clone, Copy)]
+pub struct MaskedFiles<'a> {
+    pub input: &'a Text,
+    pub output: &'a Text,
+    pub known: Option<&'a Text>,
+    pub table: Option<&'a Text>,
+}
+
+fn mask<P: Place, O: Sink>(
+    alloc: Global,
+    place: &mut P,
+    _out: &mut O,
+    rule: MaskRule<'_>,
+    files: &MaskedFiles<'_>,
+) -> Ending
+    ensures { Carries (orders.Mask rule.entry.filter.now rule.entry.strings.now (option_map (λ p. p.now) rule.entry.except) (option_map (λ t. t.now) files.now.known) (option_map (λ t. t.now) files.now.table) files.now.input.now files.now.output.now) result (outside (P.state place.old) (O.state _out.old)) (outside (P.state place.new) (O.state _out.new)) }
+{
+    let files = MaskFiles {
+        input: files.input.as_str(),
+        output: files.output.as_str(),
+        known: name_of(files.known),
+        table: name_of(files.table),
+    };
+    mask_stream(alloc, place, rule, files)
+}
+
+/// The name, if there is one.
+fn name_of(name: Option<&Text>) -> Option<&str>
+    ensures { option_map (λ n. n.now) result ≡ option_map (λ t. file_name t.now) name.entry }
+{
+    match name {
+        Some(name) => Some(name.as_str()),
+        None => None,
+    }
 }
 
 /// The names of the original, of its scrub, and of the file with the receipts.

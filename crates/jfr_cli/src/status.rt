@@ -1,6 +1,6 @@
 //! The exit status of an ending, and its line on the error sink.
 ghost use Rattle.std.specs.Prelude.{◌≡◌, ℕ, List, Some, IfOk, string_bytes};
-ghost use Rattle.jfr_cli.specs.Answers.{status_of, line_of, answer_status, answer_line, doubt_line, unbuilt_line, usage_line, refusal_line, IsAnswered};
+ghost use Rattle.jfr_cli.specs.Answers.{status_of, line_of, answer_status, answer_line, doubt_line, long_line, unbuilt_line, usage_line, refusal_line, IsAnswered};
 
 use crate::answer::Answer;
 use jfr_base::Refusal;
@@ -34,6 +34,9 @@ const DOUBTED: u8 = 7;
 /// The status if `build` refuses a text.
 const UNBUILT: u8 = 8;
 
+/// The status if a masked chunk would be too long.
+const TOO_LONG: u8 = 9;
+
 /// Writes the line of an answer, if it has one, and returns the status.
 pub fn write_answer<E: Sink>(alloc: Global, err: &mut E, answer: Answer) -> u8
     ensures { IsAnswered (answer_status answer) (answer_line answer) result (E.state err.old) (E.state err.new) }
@@ -52,7 +55,7 @@ fn write_usage<E: Sink>(err: &mut E) -> u8
 {
     write_status_line(
         err,
-        "usage: jfr print|summary|metadata|scrub|disassemble|assemble|sample|receipt|verify|build|stacks\n",
+        "usage: jfr print|summary|metadata|scrub|disassemble|assemble|sample|receipt|verify|build|stacks|mask\n",
         USAGE,
     )
 }
@@ -68,6 +71,7 @@ fn write_ending<E: Sink>(alloc: Global, err: &mut E, ending: Ending) -> u8
         Ending::WriteFault => write_status_line(err, "write fault\n", WRITE_FAULT),
         Ending::Memory => write_status_line(err, "out of memory\n", NO_MEMORY),
         Ending::TooManyParts => write_status_line(err, "too many parts\n", TOO_MANY_PARTS),
+        Ending::MaskTooLong(chunk) => write_made_line(err, long_text(alloc, chunk), TOO_LONG),
     }
 }
 
@@ -99,6 +103,13 @@ fn unbuilt_text(alloc: Global, line: u64, reason: BuildReason) -> Result<String,
 {
     let name = reason.name();
     format!(in alloc; "line {line}: {name}\n")
+}
+
+/// The line of a masked chunk that would be too long.
+fn long_text(alloc: Global, chunk: u64) -> Result<String, AllocError>
+    ensures { IfOk result (λ text. string_bytes text ≡ long_line chunk) }
+{
+    format!(in alloc; "chunk {chunk}: MaskTooLong\n")
 }
 
 /// The line of a refused recording.

@@ -1,12 +1,12 @@
 //! The top call: the whole program, over a place and two sinks.
-ghost use Rattle.std.specs.Prelude.{◌≡◌, ◌≢◌, ◌<◌, ◌≤◌, ◌⊎◌, ℕ, List, None, Some, Ok, IfSome, true, false};
+ghost use Rattle.std.specs.Prelude.{◌≡◌, ◌≢◌, ◌<◌, ◌≤◌, ◌^◌, ◌⊎◌, ℕ, List, Option, None, Some, Ok, IfSome, length, true, false};
 ghost use Rattle.jfr_outside.specs.Counts.{Rose};
 ghost use Rattle.jfr_outside.specs.World.{IfKnown};
 ghost use Rattle.jfr_header.specs.Fronts.{Whole};
 ghost use Rattle.jfr_filter.specs.Filters.{Given};
 ghost use Rattle.jfr_plan.specs.Ends.{Fine, TooMany};
 ghost use Rattle.jfr_plan.specs.Effects.{outside};
-ghost use Rattle.jfr_plan.specs.Rules.{Parts, Text};
+ghost use Rattle.jfr_plan.specs.Rules.{Masked, Parts, Text};
 ghost use Rattle.jfr_plan.specs.Clauses.{write_count};
 ghost use Rattle.jfr_chunk.specs.Refusal.{refusal_of};
 ghost use Rattle.jfr_output.specs.Agreements.{RecordingsAgree};
@@ -18,20 +18,28 @@ ghost use Rattle.jfr_words.specs.declared.order.Order.TheVariants as orders;
 ghost use Rattle.jfr_words.specs.Words.{order_of, file_name};
 ghost use Rattle.jfr_renumber.specs.Headline.{IsRenumberedOutput, Renumbers};
 ghost use Rattle.jfr_renumber.specs.Renumbers.{renumbered};
+ghost use Rattle.jfr_mask.specs.Commands.{IsMaskedOutput, Masks, WritesTable};
+ghost use Rattle.jfr_mask.specs.Laws.{AreDistinct};
+ghost use Rattle.jfr_mask.specs.MaskOf.{Masking};
+ghost use Rattle.jfr_mask.specs.Pseudonyms.{is_known};
+ghost use Rattle.jfr_mask.specs.RecordingLaws.{AreAlike, IsOneDictionary, recording_masked};
+ghost use Rattle.jfr_mask.specs.Recordings.{masked};
 ghost use Rattle.jfr_receipt.specs.Receipting.{IsReceipted, scrub_receipt};
 ghost use Rattle.jfr_verify.specs.Verdicts.{AllVerified, AreScrubs, three};
 ghost use Rattle.jfr_build.specs.Accepted.{IsBuiltOf};
 ghost use Rattle.jfr_build.specs.Builds.{build_of};
 ghost use Rattle.jfr_build.specs.Streams.{Builds};
-ghost use Rattle.jfr_cli.specs.Works.{work_of, target_of, KeepsSink, KeepsPlace, CanReadAll, CanCreateFor};
+ghost use Rattle.jfr_cli.specs.Works.{mask_work, work_of, target_of, KeepsSink, KeepsPlace, CanReadAll, CanCreateFor};
 ghost use Rattle.jfr_cli.specs.Answers.{usage_line, read_line, write_line, parts_line, IsLineWritten, IsMemoryLineWritten};
-ghost use Rattle.jfr_cli.specs.Runs.{Obeys, Under, WorkEnded, WorkHalted, WorkBroken, IsPartlyDone, CountsOnce, HasStatus, IsDoubted, IsRefused, IsUnbuilt};
+ghost use Rattle.jfr_cli.specs.Runs.{Obeys, Under, WorkEnded, WorkHalted, WorkBroken, IsPartlyDone, CountsOnce, HasStatus, IsDoubted, IsRefused, IsTooLong, IsUnbuilt};
 
 use crate::answer::Answer;
 use crate::execute::execute;
 use crate::status::write_answer;
 use jfr_build::built_is_accepted;
 use jfr_header::Ending;
+use jfr_mask::laws::pseudonyms_are_distinct;
+use jfr_mask::{chunks_are_masked, recordings_have_one_dictionary, recordings_keep_secrets};
 use jfr_outside::{Place, Sink, Words};
 use jfr_verify::{kept_is_passed, scrubs_are_verified, verdict_is_unique};
 use jfr_words::{WordsFault, read_words};
@@ -50,7 +58,8 @@ fn obey<P: Place, O: Sink>(alloc: Global, words: &Words, place: &mut P, out: &mu
 
 /// Carries out the order that the words give, over a place and the output sink. Unless it succeeds, writes a
 /// line to the error sink. Returns the exit status: 0 done, 1 usage error, 2 recording refused, 3 read fault,
-/// 4 write fault, 5 out of memory, 6 too many parts, 7 a doubt about an output, 8 a refused text for `build`.
+/// 4 write fault, 5 out of memory, 6 too many parts, 7 a doubt about an output, 8 a refused text for `build`, 9 a
+/// masked chunk would be too long.
 pub fn run<P: Place, O: Sink, E: Sink>(
     alloc: Global,
     words: &Words,
@@ -101,6 +110,24 @@ pub fn run<P: Place, O: Sink, E: Sink>(
         → IfKnown (P.state place.old).contents (P.state place.new).contents (Builds (file_name text) (file_name output)) }
     ensures each_built { (text chunk : List ℕ) → build_of text ≡ Ok chunk → IsBuiltOf text chunk }
 
+    // With status 0 or 2 the output of `mask` holds the masked chunk of each chunk before the first refused one. Each
+    // is accepted again, has exactly the events that the filter keeps and exactly the constants that they reach by
+    // paths that go no further at masked strings, and means the same but for these strings. One dictionary goes on
+    // from chunk to chunk. With 0 the table has each of its texts. `each_masked` says this of the masked chunk of
+    // every accepted chunk and every dictionary.
+    ensures masked { (result ≡ 0) ⊎ (result ≡ 2) → (g : Given) (strings : List (List ℕ)) (except : Option (List (List ℕ))) (known table : Option (List ℕ)) (input output : List ℕ) → order_of words.now ≡ Some (orders.Mask g strings except known table input output)
+        → IfKnown (P.state place.old).contents (P.state place.new).contents (Masks (mask_work g strings except known table input output)) }
+    ensures table { result ≡ 0 → (g : Given) (strings : List (List ℕ)) (except : Option (List (List ℕ))) (known table : Option (List ℕ)) (input output : List ℕ) → order_of words.now ≡ Some (orders.Mask g strings except known table input output)
+        → IfKnown (P.state place.old).contents (P.state place.new).contents (WritesTable (mask_work g strings except known table input output)) }
+    ensures each_masked { (g : Given) (m : Masking) (d : List (List ℕ)) (c : List ℕ) → Whole c → refusal_of c ≡ None → length (masked g m d c) < 2 ^ 30 → IsMaskedOutput g m d c (masked g m d c) }
+
+    // In a masked recording texts have equal pseudonyms exactly if they are equal: one dictionary has the texts of all
+    // chunks, and what is shown for the texts of a dictionary is one to one; no known text is shown for another.
+    // Recordings that differ, chunk by chunk, only in masked texts have the same output.
+    ensures one_dictionary { (g : Given) (m : Masking) (x : List ℕ) → IsOneDictionary g m x }
+    ensures pseudonyms { (lines d : List (List ℕ)) → length d < 2 ^ 63 → AreDistinct (is_known lines) d }
+    ensures secrets { (g : Given) (m : Masking) (x y : List ℕ) → AreAlike g m x y → recording_masked g m y ≡ recording_masked g m x }
+
     // The state after each status, and the line on the error sink.
     ensures done { result ≡ 0 → Under words.now (λ o. WorkEnded (work_of o) Fine (outside (P.state place.old) (O.state out.old)) (outside (P.state place.new) (O.state out.new))) }
     ensures done_silent { result ≡ 0 → E.state err.new ≡ E.state err.old }
@@ -116,7 +143,9 @@ pub fn run<P: Place, O: Sink, E: Sink>(
     ensures unbuilt { result ≡ 8 → Under words.now (λ o. IsUnbuilt (work_of o) (outside (P.state place.old) (O.state out.old)) (outside (P.state place.new) (O.state out.new)) (E.state err.old) (E.state err.new)) }
     ensures memory { result ≡ 5 → (o : Order) → order_of words.now ≡ Some o → IsPartlyDone (work_of o) (outside (P.state place.old) (O.state out.old)) (outside (P.state place.new) (O.state out.new)) }
     ensures memory_line_written { result ≡ 5 → IsMemoryLineWritten (E.state err.old) (E.state err.new) }
-    ensures statuses { result ≤ 8 }
+    ensures too_long { result ≡ 9 → Under words.now (λ o. IsTooLong (work_of o) (outside (P.state place.old) (O.state out.old)) (outside (P.state place.new) (O.state out.new)) (E.state err.old) (E.state err.new)) }
+    ensures masks { result ≡ 9 → Under words.now (λ o. target_of (work_of o) ≡ Masked) }
+    ensures statuses { result ≤ 9 }
 
     // Status 3 or 4 comes only if a fault was counted, and a counted fault gives 3, 4 or 5.
     ensures read_fault { result ≡ 3 → Rose (P.state place.old).read_faults (P.state place.new).read_faults }
@@ -149,6 +178,10 @@ pub fn run<P: Place, O: Sink, E: Sink>(
     verdict_is_unique();
     scrubs_are_verified();
     built_is_accepted();
+    chunks_are_masked();
+    pseudonyms_are_distinct();
+    recordings_have_one_dictionary();
+    recordings_keep_secrets();
     let answer = obey(alloc, words, place, out);
     write_answer(alloc, err, answer)
 }

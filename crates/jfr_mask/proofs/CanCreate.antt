@@ -3,21 +3,21 @@ use Rattle.std.specs.Prelude.{◌≡◌, ◌+◌, ◌^◌, ℕ, Bool, true, fals
 use Rattle.std.proofs.Common.{refl, subst, sym, ◌∙◌}
 use Rattle.std.specs.FinMap as fin
 use Rattle.jfr_base.specs.declared.flaw.Flaw.{Flaw}
-use Rattle.jfr_outside.specs.World.{IfKnown, State, World, file, grown}
+use Rattle.jfr_outside.specs.World.{State, World, file, grown}
 use Rattle.jfr_filter.specs.Filters.{Given}
 use Rattle.jfr_header.specs.declared.ending.Ending.{Ending}
 use Rattle.jfr_header.specs.declared.ending.Ending.TheVariants.{WriteFault}
 use Rattle.jfr_plan.specs.Ends.{TooLong}
-use Rattle.jfr_plan.specs.Effects.{Append, AtEnd, Create, Effect, Finish, Snapshot, Cannot, apply, done, effects, snapshot, without_sink}
+use Rattle.jfr_plan.specs.Effects.{Append, AtEnd, Create, Finish, Snapshot, Cannot, apply, effects, snapshot, without_sink}
 use Rattle.jfr_plan.specs.Outcomes.{Breaks}
 use Rattle.jfr_plan.specs.Clauses.{Broken, CanCreate, Ran}
-use Rattle.jfr_plan.specs.Rules.{Masked, Walk, cut_after, plan_after, plan_in, walk, walk_on}
+use Rattle.jfr_plan.specs.Rules.{Masked, cut_after, plan_after, plan_in, walk, walk_on}
 use Rattle.jfr_plan.proofs.Clauses.{Cans, none_breaks, writes_clause}
 use Rattle.jfr_plan.proofs.Walking.{effects_needing}
 use Rattle.jfr_chunk.specs.Refusal.{refusal_of}
 use Rattle.jfr_mask.specs.Commands.{CanCreateBoth, MaskWork, known_in, mask_plan, mask_task, masking_with, none_known, plan_knowing, plan_named, rule_with}
 use Rattle.jfr_mask.specs.MaskOf.{Masking}
-use Rattle.jfr_mask.specs.Recordings.{asks_by, dictionary_over, is_too_long, masked, masking_rule, table_effects, table_lines}
+use Rattle.jfr_mask.specs.Recordings.{asks_by, dictionary_over, masked, masking_rule, table_effects, table_lines}
 use Rattle.jfr_mask.proofs.MaskedFile.{appends, elsewhere}
 use Rattle.jfr_mask.proofs.TaskLaws.{before_of, told_at}
 

@@ -1,13 +1,12 @@
 -- What a masking that ends as its plan does has written.
-use Rattle.std.specs.Prelude.{◌≡◌, ◌<◌, ◌^◌, ℕ, Bool, true, false, nat_le, List, [], length, Option, Some, None, IfSome, if◌then◌else◌}
+use Rattle.std.specs.Prelude.{◌≡◌, ◌^◌, ℕ, Bool, true, false, nat_le, List, [], length, Option, Some, None, if◌then◌else◌}
 use Rattle.std.proofs.Common.{arith, refl, subst, sym}
 use Rattle.jfr_base.specs.declared.flaw.Refusal.{Refusal}
 use Rattle.jfr_outside.specs.World.{IfKnown, State, World, file}
-use Rattle.jfr_header.specs.Cuts.{cut}
 use Rattle.jfr_header.specs.declared.ending.Ending.{Ending}
 use Rattle.jfr_header.specs.declared.ending.Ending.TheVariants as ending
 use Rattle.jfr_plan.specs.Ends.{End, Fine, Refused, TooLong, TooMany}
-use Rattle.jfr_plan.specs.Effects.{Plan, snapshot, without_sink}
+use Rattle.jfr_plan.specs.Effects.{snapshot, without_sink}
 use Rattle.jfr_plan.specs.Rules.{plan_after, plan_in}
 use Rattle.jfr_plan.specs.Outcomes.{AllDone}
 use Rattle.jfr_plan.specs.Clauses.{Ended}
@@ -15,7 +14,7 @@ use Rattle.jfr_output.specs.Recordings.{IsByPlan}
 use Rattle.jfr_mask.specs.Commands.{AreKnown, MaskWork, Masks, WritesTable, known_in, mask_plan, mask_task, masking_with, none_known, plan_knowing, plan_named, rule_with}
 use Rattle.jfr_mask.specs.RecordingLaws.{recording_masked}
 use Rattle.jfr_mask.proofs.HeadlineLaws.{EachIsMasked}
-use Rattle.jfr_mask.proofs.MaskedFile.{IsByChunks, Made, made}
+use Rattle.jfr_mask.proofs.MaskedFile.{IsByChunks, made}
 use Rattle.jfr_mask.proofs.MaskedOutput.{is_mask_of}
 
 module _ (k : MaskWork) (w v : World) (p q : Option (List ℕ)) (e : End) where

@@ -6,23 +6,22 @@ use Rattle.std.specs.FinMap.{get-insert}
 use Rattle.std.specs.Ordering.{eq_by_cmp}
 use Rattle.std.specs.Cmp.Lexicographic.{nat_list_cmp_total, slice_cmp}
 use Rattle.std.specs.Ordering.{nat_cmp}
-use Rattle.std.specs.Str.{bytes_eq}
 use Rattle.std.proofs.lemmas.Slice.Eq.{bytes_eq-Decides}
 use Rattle.jfr_base.specs.declared.flaw.Flaw.{Flaw}
 use Rattle.jfr_outside.specs.World.{Files, World, file, grown}
 use Rattle.jfr_outside.proofs.HeldLaws.{is_there, turned}
 use Rattle.jfr_filter.specs.Filters.{Given}
-use Rattle.jfr_header.specs.Cuts.{Cuts, cut, joined}
+use Rattle.jfr_header.specs.Cuts.{cut, joined}
 use Rattle.jfr_plan.specs.Ends.{End, Fine, Refused, TooLong, TooMany, refused}
-use Rattle.jfr_plan.specs.Effects.{Append, AtEnd, Create, Effect, Finish, Plan, Snapshot, Step, apply, done, effects, snapshot}
+use Rattle.jfr_plan.specs.Effects.{Append, AtEnd, Create, Effect, Finish, Snapshot, apply, done, effects, snapshot}
 use Rattle.jfr_plan.specs.Outcomes.{AllDone}
-use Rattle.jfr_plan.specs.Rules.{Walk, cut_after, plan_after, walk, walk_on}
+use Rattle.jfr_plan.specs.Rules.{Walk, plan_after, walk, walk_on}
 use Rattle.jfr_plan.proofs.Sound.{created_new}
 use Rattle.jfr_plan.proofs.Walking.{done_append, effects_needing}
 use Rattle.jfr_chunk.specs.Refusal.{refusal_of}
 use Rattle.jfr_output.specs.Recordings.{before_refused, unless_refused}
 use Rattle.jfr_mask.specs.MaskOf.{Masking}
-use Rattle.jfr_mask.specs.Recordings.{all_masked, asks_by, asks_masked, dictionary_over, dictionary_with, is_too_long, masked, masking_rule, table_effects, table_lines}
+use Rattle.jfr_mask.specs.Recordings.{all_masked, asks_by, dictionary_over, dictionary_with, is_too_long, masked, masking_rule, table_effects, table_lines}
 use Rattle.jfr_mask.proofs.RecordingSteps.{dictionary_next, is_short, length_next}
 
 -- These bytes are appended, one after another.

@@ -1,10 +1,9 @@
 -- The output of a masking is a recording of masked chunks.
-use Rattle.std.specs.Prelude.{◌≡◌, ℕ, ◌+◌, ◌<◌, ◌^◌, false, true, List, [], ◌∷◌, length, drop, Option, Some, None}
+use Rattle.std.specs.Prelude.{◌≡◌, ℕ, ◌+◌, ◌<◌, ◌^◌, false, true, List, [], ◌∷◌, length, Option, Some, None}
 use Rattle.std.specs.List.{AllByRecursion}
-use Rattle.std.proofs.Common.{ap, arith, refl, sym, subst}
+use Rattle.std.proofs.Common.{arith, refl, sym, subst}
 use Rattle.std.proofs.Math.Seq.{drop-append_seam}
 use Rattle.jfr_base.specs.declared.flaw.Flaw.{Flaw}
-use Rattle.jfr_outside.specs.World.{World, file}
 use Rattle.jfr_filter.specs.Filters.{Given}
 use Rattle.jfr_header.specs.Cuts.{AreCut, cut, joined}
 use Rattle.jfr_header.specs.Fronts.{End, Whole, front}

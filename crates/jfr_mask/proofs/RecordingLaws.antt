@@ -1,7 +1,7 @@
 -- The laws of masked recordings, from those of chunks that are chosen.
-use Rattle.std.specs.Prelude.{◌≡◌, ℕ, ◌<◌, ◌^◌, List, [], ◌∷◌, ◌++◌, length, Option, Some, None, Result, Ok, Err}
+use Rattle.std.specs.Prelude.{◌≡◌, ℕ, ◌<◌, ◌^◌, List, [], ◌∷◌, ◌++◌, length, Some, None, Result, Ok, Err}
 use Rattle.std.specs.List.{flat_map}
-use Rattle.std.proofs.Common.{ap, refl, sym, subst, ◌∙◌}
+use Rattle.std.proofs.Common.{ap, refl, sym, subst}
 use Rattle.jfr_base.specs.declared.flaw.Flaw.{Flaw}
 use Rattle.jfr_filter.specs.Filters.{Given}
 use Rattle.jfr_header.specs.Cuts.{joined}
@@ -11,7 +11,7 @@ use Rattle.jfr_chunk.specs.Parts.{AreParts, Parts}
 use Rattle.jfr_chunk.specs.Refusal.{flaw_in, read_parts, refusal_of}
 use Rattle.jfr_chunk.proofs.ChainAnswers.{is_computed}
 use Rattle.jfr_mask.specs.Commands.{IsMaskedOutput}
-use Rattle.jfr_mask.specs.MaskOf.{Chosen, Masking, last_dictionary, mask_all, mask_of}
+use Rattle.jfr_mask.specs.MaskOf.{Masking, last_dictionary, mask_all, mask_of}
 use Rattle.jfr_mask.specs.RecordingLaws.{accepted_chunks, chosen_by, chosen_in, recording_chosen, recording_dictionary, recording_masked}
 use Rattle.jfr_mask.specs.Recordings.{all_masked, dictionary_by, dictionary_over, dictionary_with, masked, masked_by}
 use Rattle.jfr_mask.proofs.HeadlineLaws.{EachIsMasked}

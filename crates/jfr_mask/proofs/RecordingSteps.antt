@@ -1,5 +1,5 @@
 -- One more chunk of a recording: what is asked for it, and the dictionary and the output after it.
-use Rattle.std.specs.Prelude.{◌≡◌, ℕ, ◌+◌, ◌<◌, ◌≤◌, ◌^◌, Bool, true, false, ◌||◌, nat_le, List, [], ◌∷◌, ◌++◌, length, Option, Some, None, Result, Ok, Err}
+use Rattle.std.specs.Prelude.{◌≡◌, ℕ, ◌+◌, ◌<◌, ◌≤◌, ◌^◌, Bool, true, false, ◌||◌, nat_le, List, [], ◌∷◌, ◌++◌, length, Option, None, Ok, Err}
 use Rattle.std.proofs.Common.{ap, arith, refl, sym, subst, ◌∙◌, append-nil, append_assoc, length-append}
 use Rattle.jfr_base.specs.declared.flaw.Flaw.{Flaw}
 use Rattle.jfr_base.specs.declared.flaw.ReadFault.{ReadFault}
@@ -8,11 +8,10 @@ use Rattle.jfr_filter.specs.Filters.{Given}
 use Rattle.jfr_header.specs.Cuts.{joined}
 use Rattle.jfr_header.specs.Endings.{after_chunk}
 use Rattle.jfr_header.specs.declared.ending.Ending.{Ending}
-use Rattle.jfr_header.specs.declared.ending.Ending.TheVariants.{MaskTooLong}
 use Rattle.jfr_plan.specs.Ends.{TooLong, refused}
 use Rattle.jfr_plan.specs.Effects.{Append}
 use Rattle.jfr_plan.specs.Makes.{IsFlawOf}
-use Rattle.jfr_plan.specs.Rules.{Asked, Goes, Stops}
+use Rattle.jfr_plan.specs.Rules.{Goes, Stops}
 use Rattle.jfr_chunk.specs.Chosen.{kept_of}
 use Rattle.jfr_chunk.specs.Parts.{Parts}
 use Rattle.jfr_chunk.specs.Refusal.{flaw_in, read_parts, refusal_of}

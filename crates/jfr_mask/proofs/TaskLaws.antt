@@ -1,19 +1,18 @@
 -- What a masking leaves, once the file of known texts was read.
-use Rattle.std.specs.Prelude.{◌≡◌, ◌<◌, ◌≤◌, ◌^◌, ℕ, Bool, true, false, nat_le, IsTrue, List, [], ◌∷◌, length, Option, Some, None, IsSome, IfSome, IsSomeAnd, Result, Ok, Err, if◌then◌else◌}
+use Rattle.std.specs.Prelude.{◌≡◌, ◌<◌, ◌≤◌, ◌^◌, ℕ, Bool, true, false, nat_le, IsTrue, List, [], length, Option, Some, None, IsSome, IfSome, IsSomeAnd, Ok, Err, if◌then◌else◌}
 use Rattle.std.proofs.Common.{ap, arith, refl, sym, ◌∙◌, subst}
 use Rattle.std.specs.FinMap as fin
 use Rattle.jfr_outside.specs.World.{IfKnown, State, World, file}
 use Rattle.jfr_header.specs.Taking.{IsKept}
 use Rattle.jfr_header.specs.declared.ending.Ending.{Ending}
 use Rattle.jfr_header.specs.declared.ending.Ending.TheVariants.{Done, Refused, ReadFault, WriteFault, TooManyParts, MaskTooLong, Memory}
-use Rattle.jfr_plan.specs.Ends.{CommandEnd, End, Ends, Fine, NotRead, NotWritten, RanOut, TooLong, command_end}
-use Rattle.jfr_plan.specs.Ends as ends
+use Rattle.jfr_plan.specs.Ends.{CommandEnd, Ends, NotRead, NotWritten, RanOut, TooLong, command_end}
 use Rattle.jfr_plan.specs.Effects.{Plan, Snapshot, effects, snapshot, without_sink}
-use Rattle.jfr_plan.specs.Rules.{Masked, Rule, plan_after, plan_in}
-use Rattle.jfr_plan.specs.Outcomes.{After, AllDone, Breaks, HaltedIn, Outcome, OutcomeIn, OutcomeOf, SomeDone, Tallied}
-use Rattle.jfr_plan.specs.Clauses.{CanRead, Ended, Halted, IsAfterTask, Ran}
+use Rattle.jfr_plan.specs.Rules.{Masked, plan_in}
+use Rattle.jfr_plan.specs.Outcomes.{After, AllDone, Breaks, Outcome, OutcomeIn, OutcomeOf, SomeDone, Tallied}
+use Rattle.jfr_plan.specs.Clauses.{CanRead, IsAfterTask, Ran}
 use Rattle.jfr_plan.proofs.Clauses.{NeverHalts, ran}
-use Rattle.jfr_mask.specs.Commands.{AreKnown, AtInput, AtKnown, CanReadBoth, MaskHalted, MaskWork, known_in, mask_plan, mask_task, none_known, plan_knowing, plan_named, rule_with}
+use Rattle.jfr_mask.specs.Commands.{AreKnown, AtInput, AtKnown, MaskHalted, MaskWork, known_in, mask_plan, mask_task, plan_knowing, plan_named, rule_with}
 use Rattle.jfr_mask.specs.Pseudonyms.{has_text}
 use Rattle.jfr_mask.specs.Streams.{KnownRead}
 

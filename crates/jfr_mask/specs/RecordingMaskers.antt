@@ -2,7 +2,7 @@
 use Rattle.std.specs.Prelude.{◌≡◌, ℕ, List, [], ◌∷◌, length, option_map, Result, Ok, Err, ⊤}
 use Rattle.jfr_header.specs.Cuts.{joined}
 use Rattle.jfr_header.specs.declared.ending.Ending.{Ending}
-use Rattle.jfr_header.specs.declared.ending.Ending.TheVariants.{Done, Refused, ReadFault, WriteFault, TooManyParts, MaskTooLong, Memory}
+use Rattle.jfr_header.specs.declared.ending.Ending.TheVariants.{Refused, MaskTooLong, Memory}
 use Rattle.jfr_plan.specs.Ends.{TooLong}
 use Rattle.jfr_plan.specs.Ends as ends
 use Rattle.jfr_plan.specs.Effects.{Append}

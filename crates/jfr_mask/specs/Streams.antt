@@ -1,10 +1,10 @@
 -- The work that is given to the code, and what reading the file of known texts says.
-use Rattle.std.specs.Prelude.{◌≡◌, ℕ, ◌≤◌, ◌^◌, Bool, IsTrue, List, [], length, Option, Some, None, IsSomeAnd, Result, Ok, Err, option_map}
+use Rattle.std.specs.Prelude.{◌≡◌, ℕ, ◌≤◌, ◌^◌, Bool, IsTrue, List, [], length, Option, None, IsSomeAnd, Result, Ok, Err, option_map}
 use Rattle.std.specs.Option.{option_map_or}
 use Rattle.jfr_outside.specs.World.{State, World, file}
 use Rattle.jfr_header.specs.Taking.{IsKept}
 use Rattle.jfr_header.specs.declared.ending.Ending.{Ending}
-use Rattle.jfr_header.specs.declared.ending.Ending.TheVariants.{Done, Refused, ReadFault, WriteFault, TooManyParts, MaskTooLong, Memory}
+use Rattle.jfr_header.specs.declared.ending.Ending.TheVariants.{ReadFault, MaskTooLong, Memory}
 use Rattle.jfr_plan.specs.Rules.{Masked, Rule}
 use Rattle.jfr_plan.specs.Effects.{without_sink}
 use Rattle.jfr_plan.specs.Ends.{command_end}

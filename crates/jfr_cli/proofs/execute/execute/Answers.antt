@@ -1,5 +1,7 @@
+use Rattle.std.specs.Prelude.{option_map}
 use Rattle.std.proofs.Common.{subst, sym}
 use Rattle.jfr_plan.specs.Effects.{outside}
+use Rattle.jfr_words.specs.declared.order.Order.TheVariants.{Mask}
 use Rattle.jfr_cli.specs.Runs.{Carries, CarriesTo}
 use Rattle.jfr_cli.proofs.execute.execute.Goals as goal
 
@@ -62,3 +64,13 @@ returns-in-Build g c =
     let a = outside (g.P.Place.state c.args.place.now) (g.O.Sink.state c.args.out.now) in
     let b = outside (g.P.Place.state c.build.new.place) (g.O.Sink.state c.build.new._out) in
     subst (λ o. CarriesTo o c.build.result a b) (sym c.in-Build.is) c.build.ensures
+
+pub returns-in-Mask : goal.returns-in-Mask
+returns-in-Mask g c =
+    let a = outside (g.P.Place.state c.args.place.now) (g.O.Sink.state c.args.out.now) in
+    let b = outside (g.P.Place.state c.mask.new.place) (g.O.Sink.state c.mask.new._out) in
+    let m = c.in-Mask in
+    subst (λ o. Carries o c.mask.result a b) (sym m.is)
+    (subst (λ x. Carries (Mask m.filter m.strings x m.known m.table m.input m.output) c.mask.result a b) c.as_ref.ensures.value
+    (subst (λ k. Carries (Mask m.filter m.strings (option_map (λ p. p.now) c.as_ref.result) k m.table m.input m.output) c.mask.result a b) c.as_ref-in-Mask.ensures.value
+    (subst (λ t. Carries (Mask m.filter m.strings (option_map (λ p. p.now) c.as_ref.result) (option_map (λ n. n.now) c.as_ref-in-Mask.result) t m.input m.output) c.mask.result a b) c.as_ref-in-Mask-2.ensures.value c.mask.ensures)))

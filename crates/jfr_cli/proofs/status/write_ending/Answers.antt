@@ -14,3 +14,6 @@ returns-in-TooManyParts g c = rw c.in-TooManyParts.is c.write_status_line-in-Too
 
 pub returns-in-Memory : goal.returns-in-Memory
 returns-in-Memory g c = rw c.in-Memory.is c.write_status_line-in-Memory.ensures
+
+pub returns-in-MaskTooLong : goal.returns-in-MaskTooLong
+returns-in-MaskTooLong g c = rw c.in-MaskTooLong.is (c.write_made_line-in-MaskTooLong.ensures _ c.long_text.ensures)

@@ -5,7 +5,7 @@ use Rattle.jfr_scrub.proofs.AgreementLaws as scrubs
 use Rattle.jfr_renumber.proofs.HeadlineLaws.{is_output}
 use Rattle.jfr_renumber.proofs.AgreementLaws as renumbers
 use Rattle.jfr_receipt.proofs.ReceiptLaws.{is_receipted}
-use Rattle.jfr_cli.proofs.Clauses.{Answers, answers_by, only_parts, text_writes, usage_told, usage_only, untouched, headline_told, done_told, refused_told, halted_told, broken_told, parts_told, memory_told, memory_line_written, statuses, no_read_passed, no_write_passed, no_text_passed, one_count, complete, can_read, can_create, sink_told, text_told, place_told, same_told, doubted_told, renumbered_told, verified_told, scrubs_told, built_told, unbuilt_told}
+use Rattle.jfr_cli.proofs.Clauses.{Answers, answers_by, only_parts, text_writes, usage_told, usage_only, untouched, headline_told, done_told, refused_told, halted_told, broken_told, parts_told, memory_told, memory_line_written, statuses, no_read_passed, no_write_passed, no_text_passed, one_count, complete, can_read, can_create, sink_told, text_told, place_told, same_told, doubted_told, renumbered_told, verified_told, scrubs_told, built_told, unbuilt_told, masked_told, table_told, long_told, only_masks}
 use Rattle.jfr_cli.proofs.top.run.Given.{Over}
 use Rattle.jfr_cli.proofs.top.run.Goals as goal
 
@@ -140,3 +140,27 @@ returns-clause-place g c = place_told (answered g c)
 
 pub returns-clause-same : goal.returns-clause-same
 returns-clause-same g c = same_told (answered g c)
+
+pub returns-clause-masked : goal.returns-clause-masked
+returns-clause-masked g c = masked_told (answered g c)
+
+pub returns-clause-table : goal.returns-clause-table
+returns-clause-table g c = table_told (answered g c)
+
+pub returns-clause-each_masked : goal.returns-clause-each_masked
+returns-clause-each_masked g c = c.chunks_are_masked.ensures
+
+pub returns-clause-one_dictionary : goal.returns-clause-one_dictionary
+returns-clause-one_dictionary g c = c.recordings_have_one_dictionary.ensures
+
+pub returns-clause-pseudonyms : goal.returns-clause-pseudonyms
+returns-clause-pseudonyms g c = c.pseudonyms_are_distinct.ensures
+
+pub returns-clause-secrets : goal.returns-clause-secrets
+returns-clause-secrets g c = c.recordings_keep_secrets.ensures
+
+pub returns-clause-too_long : goal.returns-clause-too_long
+returns-clause-too_long g c = long_told (answered g c)
+
+pub returns-clause-masks : goal.returns-clause-masks
+returns-clause-masks g c = only_masks (answered g c)

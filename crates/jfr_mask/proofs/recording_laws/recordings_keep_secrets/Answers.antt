@@ -1,4 +1,3 @@
-use Rattle.std.specs.Prelude.{ℕ, List}
 use Rattle.std.proofs.Common.{ap, sym, ◌∙◌}
 use Rattle.jfr_header.specs.Cuts.{joined}
 use Rattle.jfr_mask.specs.RecordingLaws.{recording_chosen}

@@ -1,13 +1,13 @@
-use Rattle.std.specs.Prelude.{◌≡◌, ◌+◌, ℕ, List, suc, drop, length, take}
-use Rattle.std.proofs.Common.{[], ◌∷◌, ◌++◌, Ok, Err, ap, arith, sym, ◌∙◌, subst}
+use Rattle.std.specs.Prelude.{◌≡◌, ◌+◌, suc, drop, length, take}
+use Rattle.std.proofs.Common.{[], ◌∷◌, Ok, Err, ap, arith, sym, ◌∙◌, subst}
 use Rattle.std.proofs.lemmas.Result.{err_from_is_err_and}
 use Rattle.std.specs.Str.{chars}
 use Rattle.jfr_plan.specs.Effects.{Append}
-use Rattle.jfr_plan.specs.Parts.{IsPlaceAfter, PlaceCounts}
+use Rattle.jfr_plan.specs.Parts.{IsPlaceAfter}
 use Rattle.jfr_plan.proofs.Leaving.{counts_then}
 use Rattle.jfr_mask.specs.Recordings.{table_line, table_lines}
 use Rattle.jfr_mask.proofs.MaskedFile.{appends}
-use Rattle.jfr_mask.proofs.TableLines.{IsLine, LinesDone, all_lines, line_at, no_lines, none_left, one_failed, one_more, split_at}
+use Rattle.jfr_mask.proofs.TableLines.{LinesDone, all_lines, line_at, none_left, one_failed, one_more, split_at}
 use Rattle.jfr_mask.proofs.table.append_lines.Goals as goal
 
 pub returns-in_err-put_line-clause-contents : goal.returns-in_err-put_line-clause-contents

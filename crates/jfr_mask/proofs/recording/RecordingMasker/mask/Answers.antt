@@ -1,5 +1,5 @@
-use Rattle.std.specs.Prelude.{◌≡◌, ℕ, ◌+◌, ◌<◌, ◌≤◌, ◌^◌, List, [], length}
-use Rattle.std.proofs.Common.{Err, ap, arith, refl, sym, subst, ◌∙◌}
+use Rattle.std.specs.Prelude.{◌+◌, ◌<◌, ◌≤◌, ◌^◌, [], length}
+use Rattle.std.proofs.Common.{Err, ap, sym, subst, ◌∙◌}
 use Rattle.jfr_header.specs.Cuts.{joined}
 use Rattle.jfr_plan.specs.Ends.{TooLong}
 use Rattle.jfr_plan.specs.Rules.{Stops}

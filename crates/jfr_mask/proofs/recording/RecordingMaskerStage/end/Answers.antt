@@ -1,10 +1,8 @@
-use Rattle.std.specs.Prelude.{ℕ, List, Option, None, Some, option_map}
-use Rattle.std.proofs.Common.{[], ◌∷◌, ◌++◌, Ok, Err, sym, subst}
+use Rattle.std.specs.Prelude.{Some, option_map}
+use Rattle.std.proofs.Common.{[], ◌∷◌, Ok, Err, sym, subst}
 use Rattle.std.proofs.lemmas.Result.{err_from_is_err_and}
-use Rattle.jfr_outside.specs.World.{SinkState}
 use Rattle.jfr_plan.specs.Effects.{Finish, outside}
-use Rattle.jfr_plan.specs.Parts.{IsPlaceAfter, PartTallied}
-use Rattle.jfr_plan.specs.Rules.{Masked}
+use Rattle.jfr_plan.specs.Parts.{IsPlaceAfter}
 use Rattle.jfr_plan.proofs.Leaving.{leaves_more, leaves_then, counts_then, tallied}
 use Rattle.jfr_mask.specs.Maskers.{masking_of}
 use Rattle.jfr_mask.specs.Recordings.{dictionary_over, table_effects}
