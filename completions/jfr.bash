@@ -14,7 +14,7 @@ _jfr() {
 
     if ((COMP_CWORD == 1)); then
         compopt +o default 2>/dev/null
-        mapfile -t COMPREPLY < <(compgen -W 'print summary metadata scrub disassemble assemble sample receipt verify build stacks' -- "$current")
+        mapfile -t COMPREPLY < <(compgen -W 'print summary metadata scrub disassemble assemble sample receipt verify build stacks mask' -- "$current")
         return
     fi
 
@@ -34,6 +34,10 @@ _jfr() {
             ;;
         scrub)
             options="$filter --renumber"
+            names=(file file)
+            ;;
+        mask)
+            options="$filter --strings --except --known --table"
             names=(file file)
             ;;
         receipt)
@@ -83,6 +87,7 @@ _jfr() {
         --output) kind=folder ;;
         --depth) kind=depth ;;
         --renumber) kind=answer ;;
+        --known | --table) kind='file' ;;
         *) kind='' ;;
     esac
     # No name begins with -.
@@ -128,10 +133,11 @@ _kijorafe() {
         fi
     done
     case $recipe in
-        '') words='vendor strict tenant many check left strangers threads explain flame jdk --help' ;;
+        '') words='vendor strict tenant masked many check left strangers threads explain flame jdk names --help' ;;
         vendor | strict) words=$scrubs ;;
         tenant) words="$scrubs --addresses" ;;
-        many) words="$scrubs --addresses --resume --jobs --sshloginfile vendor strict tenant" ;;
+        masked) words="$scrubs --code --known --table --report" ;;
+        many) words="$scrubs --addresses --code --known --resume --jobs --sshloginfile vendor strict tenant masked" ;;
         check) words="$scrubs --recipe $_jfr_lists --always --renumber" ;;
         left) words='--exact --help' ;;
         threads) words='--addresses --help' ;;
