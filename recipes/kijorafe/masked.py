@@ -86,8 +86,9 @@ def masked(order: Order) -> int:
         stack.enter_context(output)
         lines = _masked(order, known, output, table, report)
         commit_all([*others, output])
-    if known is not None and b"\r\n" in known:
-        lines.append(f"{WARNING}lines of {file_name(order.known or '')} end with a carriage return, which belongs to the text")
+    if order.known is not None and known is not None and b"\r\n" in known:
+        said = "end with a carriage return, which belongs to the text"
+        lines.append(f"{WARNING}lines of {file_name(order.known)} {said}")
     for line in lines:
         say(line)
     return 0
