@@ -2,6 +2,7 @@
 
 import json
 import os
+import subprocess
 from typing import Dict, List
 
 from kijorafe import genuine
@@ -125,6 +126,15 @@ class Masked(Case):
         os.umask(mask)
         self.assertEqual(self.mode("out.jfr"), 0o666 & ~mask)
         self.assert_only("in.jfr", "out.jfr")
+
+    def test_output_is_what_the_program_makes(self) -> None:
+        self.write("known", "main\n")
+        types = ",".join(kept_by("masked"))
+        words = ["--include-events", types, "--describe", types, "--strings", "*", "--except", ",".join(unmasked(True))]
+        made = ["send/jfr", "mask", *words, "--known", "known", "in.jfr", "by-hand.jfr"]
+        subprocess.run(made, check=True)
+        self.assert_run(self.recipe("masked", "--code", "--known", "known", "in.jfr", "out.jfr"), 0)
+        self.assertEqual(self.read("out.jfr"), self.read("by-hand.jfr"))
 
     def test_table(self) -> None:
         self.assert_run(self.recipe("masked", "--table", "table", "in.jfr", "out.jfr"), 0)
