@@ -26,7 +26,7 @@ LIKE_PSEUDONYMS = "masked-", "()masked-"
 class Order(NamedTuple):
     """What to mask; whether names of code are masked; a file of texts that stay; where pseudonyms and a report go."""
 
-    scrub: scrub.Order
+    base: scrub.Order
     is_code_masked: bool = False
     known: Optional[str] = None
     table: Optional[str] = None
@@ -76,9 +76,9 @@ class Masked(NamedTuple):
 
 def masked(order: Order) -> int:
     """Masks by the lists of the recipe."""
-    check_input(order.scrub.source)
+    check_input(order.base.source)
     known = None if order.known is None else _content(order.known)
-    output = Output(order.scrub.target)
+    output = Output(order.base.target)
     table = None if order.table is None else Output(order.table, is_private=True)
     report = None if order.report is None else Output(order.report, is_private=True)
     with ExitStack() as stack:
@@ -98,16 +98,16 @@ def _masked(
     order: Order, known: Optional[bytes], output: Output, table: Optional[Output], report: Optional[Output]
 ) -> List[str]:
     """Makes the outputs; what came of it."""
-    recording, program = recording_of(order.scrub.source, output), find()
-    plan, stay = plan_of(program, order.scrub, [], recording), unmasked(order.is_code_masked)
+    recording, program = recording_of(order.base.source, output), find()
+    plan, stay = plan_of(program, order.base, [], recording), unmasked(order.is_code_masked)
     words = ["mask", *plan.options, "--strings", ALL, "--except", ",".join(stay)]
     if known is not None:
         words += ["--known", output.beside("known")]
         _write(known, output.beside("known"), output)
     place = output.beside("table") if table is None else table.path
     words += ["--table", as_operand(place), as_operand(recording), as_operand(output.path)]
-    run(program, order.scrub, words, [output, *([] if table is None else [table])])
-    lines = report_of(program, order.scrub, plan, recording, output)
+    run(program, order.base, words, [output, *([] if table is None else [table])])
+    lines = report_of(program, order.base, plan, recording, output)
     made = _checked(program, order, output, place, stay, _lines_of(known or b""))
     if report is not None:
         _write("".join(made.report()).encode("utf-8", "surrogatepass"), report.path, report)
@@ -121,10 +121,10 @@ def _checked(
     try:
         made = Masked(texts_by_field(program, output.path), stay, _secrets_of(table))
     except (Failure, Fault, MemoryError, OSError, ValueError) as failure:
-        raise unchecked(order.scrub.source, failure) from failure
+        raise unchecked(order.base.source, failure) from failure
     wrong = made.not_masked(known)
     if wrong:
-        raise unchecked(order.scrub.source, f"texts aren't masked at {in_a_row(wrong)}")
+        raise unchecked(order.base.source, f"texts aren't masked at {in_a_row(wrong)}")
     return made
 
 
