@@ -121,7 +121,7 @@ def commit_all(outputs: Sequence[Output]) -> None:
         for output in outputs:
             output.commit()
             named.append(output)
-    except Fault:
+    except BaseException:
         for output in named:
             os.unlink(output.name)
         raise
