@@ -34,7 +34,7 @@ check() {
     fi
 }
 
-for recipe in vendor strict 'tenant --addresses' "tenant nobody-*,?"; do
+for recipe in vendor strict masked 'tenant --addresses' "tenant nobody-*,?"; do
     read -ra words <<<"$recipe"
     rm -f o.jfr
     run "${words[@]}" "$file" o.jfr
@@ -75,6 +75,24 @@ run tenant 'a, b' "$file" new.jfr
 check 'a blank after a comma' 1 'belongs to the pattern' <<<'test ! -e new.jfr'
 run tenant 'nobody-*' "$file" new.jfr
 check 'a pattern that matches nothing' 0 'matches no thread' <<<'test -s new.jfr; rm new.jfr'
+
+# Masks.
+run masked --table table --report report "$file" masked.jfr
+check 'a table' 0 'texts have pseudonyms' <<<'test "$(stat -c %a table report)" = "600
+600"; grep -q "^masked-1 \"" table; grep -q "^masked" report'
+run masked --table table "$file" new.jfr
+check 'a table that exists' 4 'table exists already' <<<'test ! -e new.jfr'
+run masked --table none/table "$file" new.jfr
+check 'a table, no folder' 4 "folder none doesn't exist" <<<'test ! -e new.jfr; test ! -e .new.jfr.part'
+run masked --table ./new.jfr "$file" new.jfr
+check 'a table with the name of the output' 1 'are to be different' <<<'test ! -e new.jfr'
+run masked --known none "$file" new.jfr
+check 'no known texts' 3 'reading none failed' <<<'test ! -e new.jfr'
+echo main >known
+run masked --known known --table known.table "$file" new.jfr
+check 'known texts' 0 'texts have pseudonyms' <<<'grep -q " .main.$" table; ! grep -q " .main.$" known.table; rm new.jfr'
+run names none new
+check 'names, no JDK' 3 "isn't the folder of a JDK" <<<'test ! -e new'
 
 # Chunks of which the JDK's reader would miss events: an earlier one has no event of a type, so a scrub without
 # --describe has no description of it there.
@@ -229,6 +247,8 @@ if mount -t tmpfs -o size=64k tmpfs disk 2>/dev/null; then
     mounted=$work/disk
     run vendor "$file" disk/o.jfr
     check 'a full disk' 4 'writing disk/o.jfr failed' <<<'test -z "$(ls -A disk)"'
+    run masked --table table2 "$file" disk/o.jfr
+    check 'masked, a full disk' 4 'writing disk/o.jfr failed' <<<'test -z "$(ls -A disk)"; test ! -e table2'
     run many vendor in disk/out
     check 'many, a full disk' 2 'were refused' <<<"test -z \"\$(find disk/out -type f)\""
 else

@@ -28,7 +28,8 @@ secret="
     xqsecuritynameqx xqsecurityvalueqx xqfirstsecuritynameqx xqfirstsecurityvalueqx xqproviderqx xqalgorithmqx
     xqexceptionqx xqerrorqx xqfilterqx xqownvalueqx xqjdkvalueqx xqsamevalueqx
     xqbracket[2026]\$qx -xqdashqx xqstar*?qx xqcomma,qx"
-# recipes/vendor and recipes/tenant leave names of code and of modules, with the folder that these come from.
+# recipes/vendor, recipes/tenant and recipes/masked without --code leave names of code and of modules, with the folder
+# that these come from.
 code="xqclassqx xqmethodqx xqpackageqx xqloaderqx xqfinalizedqx xqmodulenameqx xqmoduleversionqx xqmodulefolderqx"
 # recipes/vendor leaves names of threads; recipes/tenant those that it isn't given.
 threads="xqthreadqx xqgroupqx"
@@ -146,6 +147,8 @@ for jdk in "${@:-${jdks[@]}}"; do
     echo "$name: $(stat -c %s "$recording") bytes, $(wc -w <<<"$planted") strings planted${missing:+; not in its recordings: $missing}"
     try "$jdk" "$recording" "$code $threads $addresses $tenant $metadata" vendor
     try "$jdk" "$recording" "$metadata" strict
+    try "$jdk" "$recording" "$code $metadata" masked
+    try "$jdk" "$recording" "$metadata" masked --code
     try "$jdk" "$recording" "$code $threads $addresses $metadata" tenant 'xqtenantqx*'
     try "$jdk" "$recording" "$code $threads $tenant $metadata" tenant --addresses
 done

@@ -23,7 +23,7 @@ SCRUBS = (
 )
 MANY = (
     "kijorafe many [--resume] [--jobs N] [--sshloginfile FILE] [--trust TYPE] [--from TIME] [--to TIME] [--last TIME]"
-    " RECIPE [PATTERNS|--addresses] IN_FOLDER OUT_FOLDER"
+    " [--code] [--known FILE] RECIPE [PATTERNS|--addresses] IN_FOLDER OUT_FOLDER"
 )
 CHECK = (
     "kijorafe check [--recipe RECIPE [--trust TYPE] [--last TIME] | options of jfr scrub] [--from TIME] [--to TIME]"
@@ -35,7 +35,10 @@ LISTS = tuple(
     + ["--always", "--describe"]
 )
 # The options of tenant, many and check that take a value.
-WITH_VALUES = ("--trust", "--from", "--to", "--last", "--jobs", "--sshloginfile", "--recipe", "--renumber", *LISTS)
+WITH_VALUES = (
+    *("--trust", "--from", "--to", "--last", "--known", "--jobs", "--sshloginfile", "--recipe", "--renumber"),
+    *LISTS,
+)
 
 
 class Parser(argparse.ArgumentParser):
@@ -144,6 +147,7 @@ def parser() -> Parser:
     _add_check(recipe)
     _add_looks(recipe)
     _add_copies(recipe)
+    _add_names(recipe)
     return whole
 
 
@@ -160,6 +164,17 @@ def _trust(made: Parser) -> None:
         action="append",
         default=[],
         help="keep this type, though a type of the program's own has its name; may be repeated",
+    )
+
+
+def _masks(made: Parser, file: Callable[[str], str]) -> None:
+    group = made.add_argument_group("masks", "Which texts have pseudonyms; for the recipe masked.")
+    group.add_argument("--code", action="store_true", help="mask names of classes, methods and other code, too")
+    group.add_argument(
+        "--known",
+        metavar="FILE",
+        type=file,
+        help="leave the texts that are lines of FILE, such as the names of a JDK that `kijorafe names` writes",
     )
 
 
@@ -196,7 +211,25 @@ def _add_scrubs(recipe: Callable[..., Parser]) -> None:
     choice = tenant.add_mutually_exclusive_group(required=True)
     choice.add_argument("--addresses", action="store_true", help="the threads that `threads --addresses` finds in IN")
     choice.add_argument("patterns", metavar="PATTERNS", type=patterns, nargs="?", help="such as 'shop-*,batch-?'")
-    for made in vendor, strict, tenant:
+    masked = recipe(
+        "masked",
+        "keep more, with pseudonyms for texts",
+        "It keeps what vendor does, and files, sockets, exceptions, the command line, processes, native libraries; all"
+        " texts become pseudonyms such as masked-1, the same ones for equal texts, but those of the JVM's own, and names"
+        f" of code. {SCRUBS}",
+    )
+    _masks(masked, name)
+    masked.add_argument(
+        "--table", metavar="FILE", type=name, help="write each pseudonym with its text to FILE, which only you can read"
+    )
+    masked.add_argument(
+        "--report",
+        metavar="FILE",
+        type=name,
+        help="write to FILE a line for each field: whether it is masked, how many texts OUT has there, how many different"
+        " ones, and why they stay; and for each masked text that is also in a field that stays",
+    )
+    for made in vendor, strict, tenant, masked:
         _names(made)
         _trust(made)
         _window(made)
@@ -222,9 +255,11 @@ def _add_many(recipe: Callable[..., Parser]) -> None:
     )
     many.add_argument("--addresses", action="store_true", help="for tenant, instead of PATTERNS")
     _trust(many)
+    _masks(many, readable)
     _window(many)
     many.add_argument("--one", action="store_true", help=argparse.SUPPRESS)
-    many.add_argument("recipe", metavar="RECIPE", choices=("vendor", "strict", "tenant"), help="vendor, strict, tenant")
+    scrubs = "vendor", "strict", "tenant", "masked"
+    many.add_argument("recipe", metavar="RECIPE", choices=scrubs, help=", ".join(scrubs))
     many.add_argument("operands", metavar="FOLDER", nargs="+", help="the patterns of tenant, and the two folders")
 
 
@@ -311,6 +346,17 @@ def _add_copies(recipe: Callable[..., Parser]) -> None:
     jdk.add_argument("--ids", metavar="FILE", type=name, help="print the id of each chunk's metadata instead")
     jdk.add_argument("source", metavar="IN", type=name, nargs="?")
     jdk.add_argument("target", metavar="OUT", type=name, nargs="?")
+
+
+def _add_names(recipe: Callable[..., Parser]) -> None:
+    made = recipe(
+        "names",
+        "write the names of a JDK's own code, for `masked --known`",
+        "JAVA_HOME is the folder of a JDK of 11 or later, whose java is run. OUT gets a line for each name: classes,"
+        " packages, methods, fields, what methods take and return, modules with versions and places. It must not exist.",
+    )
+    made.add_argument("java_home", metavar="JAVA_HOME", type=name)
+    made.add_argument("target", metavar="OUT", type=name, help="the output")
 
 
 def in_order(words: List[str]) -> List[str]:

@@ -8,13 +8,14 @@ import sys
 from datetime import time
 from typing import Callable, Dict, List, NoReturn, Optional
 
-from kijorafe import check, interrupts, many, messages
+from kijorafe import check, interrupts, many, masked, messages
 from kijorafe.arguments import LISTS, Arguments, Parser, in_order, name, parser, patterns
 from kijorafe.explain import explain
 from kijorafe.flame import flame
 from kijorafe.jdk import copy, print_ids
 from kijorafe.left import left
 from kijorafe.messages import Fault, say, write
+from kijorafe.names import names
 from kijorafe.scrub import Order, scrub, tenant, tenant_by_addresses
 from kijorafe.shown import file_name
 from kijorafe.strangers import strangers
@@ -41,6 +42,13 @@ def _run_tenant(given: Arguments) -> int:
     return tenant_by_addresses(_order(given)) if given.addresses else tenant(_order(given), given.patterns)
 
 
+def _run_masked(given: Arguments) -> int:
+    targets = [given.target, *(each for each in (given.table, given.report) if each is not None)]
+    if len({os.path.abspath(each) for each in targets}) < len(targets):
+        _wrong(given, "OUT and the FILEs of --table and --report are to be different")
+    return masked.masked(masked.Order(_order(given), given.code, given.known, given.table, given.report))
+
+
 def _run_jdk(given: Arguments) -> int:
     if given.ids:
         return print_ids(given.ids)
@@ -52,7 +60,10 @@ def _run_jdk(given: Arguments) -> int:
 
 def _run_many(given: Arguments) -> int:
     operands, texts = list(given.operands), None
-    options = [word for type_name in given.trust for word in ("--trust", type_name)] + _asked(given).words()
+    masks = [*(["--code"] if given.code else []), *(["--known", given.known] if given.known else [])]
+    if masks and given.recipe != "masked":
+        _wrong(given, "--code and --known are for masked")
+    options = [word for type_name in given.trust for word in ("--trust", type_name)] + _asked(given).words() + masks
     if given.addresses:
         options.append("--addresses")
         if given.recipe != "tenant":
@@ -93,6 +104,7 @@ RUNS: Dict[str, Callable[[Arguments], int]] = {
     "vendor": _run_scrub,
     "strict": _run_scrub,
     "tenant": _run_tenant,
+    "masked": _run_masked,
     "many": _run_many,
     "check": _run_check,
     "left": lambda given: left(given.file, given.words, given.exact),
@@ -101,6 +113,7 @@ RUNS: Dict[str, Callable[[Arguments], int]] = {
     "explain": lambda given: explain(" ".join(given.words)),
     "flame": lambda given: flame(given.source, given.target, given.events, given.categories),
     "jdk": _run_jdk,
+    "names": lambda given: names(given.java_home, given.target),
 }
 
 

@@ -84,25 +84,34 @@ def plan_of(program: Program, order: Order, options: Sequence[str], recording: s
 
 def _scrubbed(program: Program, order: Order, options: Sequence[str], recording: str, output: Output) -> int:
     """Scrubs, and says what came of it, when the output has its name."""
-    source = order.source
     plan = plan_of(program, order, options, recording)
-    try:
-        program.run("scrub", *plan.options, as_operand(recording), as_operand(output.path))
-    except Failure as failure:
-        fault = fault_of(failure, source)
-        if failure.status == WRITE_FAULT:
-            fault = Fault(WRITE_FAULT, f"writing {file_name(output.name)} failed{free_bytes(output.name)}")
-        raise fault from failure
-    try:
-        report = _report(program, recording, output)
-    except (Failure, Fault, MemoryError) as failure:
-        raise _unchecked(source, failure) from failure
-    report += _report_own(plan.own, order)
-    report += [] if plan.window is None else plan.window.report()
+    run(program, order, ["scrub", *plan.options, as_operand(recording), as_operand(output.path)], [output])
+    report = report_of(program, order, plan, recording, output)
     output.commit()
     for line in report:
         say(line)
     return 0
+
+
+def run(program: Program, order: Order, words: Sequence[str], outputs: Sequence[Output]) -> None:
+    """Runs the program with words by which it writes these outputs."""
+    try:
+        program.run(*words)
+    except Failure as failure:
+        fault = fault_of(failure, order.source)
+        if failure.status == WRITE_FAULT:
+            failed = (f"writing {file_name(output.name)} failed{free_bytes(output.name)}" for output in outputs)
+            fault = Fault(WRITE_FAULT, ", or ".join(failed))
+        raise fault from failure
+
+
+def report_of(program: Program, order: Order, plan: Plan, recording: str, output: Output) -> List[str]:
+    """What came of it, to be said when the output has its name."""
+    try:
+        report = _report(program, recording, output)
+    except (Failure, Fault, MemoryError) as failure:
+        raise unchecked(order.source, failure) from failure
+    return [*report, *_report_own(plan.own, order), *([] if plan.window is None else plan.window.report())]
 
 
 def _own_types(program: Program, source: str, recording: str) -> Dict[str, str]:
@@ -112,10 +121,11 @@ def _own_types(program: Program, source: str, recording: str) -> Dict[str, str]:
     except Failure as failure:
         if failure.status in (WRONG_WORDS, REFUSED, READ_FAULT):
             raise fault_of(failure, source) from failure
-        raise _unchecked(source, failure) from failure
+        raise unchecked(source, failure) from failure
 
 
-def _unchecked(source: str, failure: BaseException) -> Fault:
+def unchecked(source: str, failure: object) -> Fault:
+    """The fault of an output of which it isn't known what is left in it."""
     return Fault(UNCHECKED, f"{file_name(source)} can't be checked, so there is no output: {failure}")
 
 

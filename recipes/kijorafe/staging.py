@@ -11,7 +11,7 @@ import os
 import shutil
 import stat
 from types import TracebackType
-from typing import Optional, Tuple, Type
+from typing import List, Optional, Sequence, Tuple, Type
 
 from kijorafe import interrupts
 from kijorafe.messages import Fault, say
@@ -22,11 +22,15 @@ TRIES = 100
 
 
 class Output:
-    """An output that is being made: `path` is where to make it, and `commit` gives it its name."""
+    """An output that is being made: `path` is where to make it, and `commit` gives it its name.
 
-    def __init__(self, name: str) -> None:
+    Others than its owner may read it as the process's mask lets them, unless it is private.
+    """
+
+    def __init__(self, name: str, is_private: bool = False) -> None:
         check_output(name)
         self.name = name
+        self._mode = 0o600 if is_private else 0o666
         folder, base = os.path.split(name)
         self.folder = os.path.join(folder or ".", _folder_name(base))
         self.path = self.beside("out")
@@ -94,7 +98,7 @@ class Output:
             mask = os.umask(0)
             os.umask(mask)
             with open(self.path, "rb") as file:
-                os.fchmod(file.fileno(), 0o666 & ~mask)
+                os.fchmod(file.fileno(), self._mode & ~mask)
                 os.fsync(file.fileno())
             interrupts.ignore()
             _name(self.path, self.name)
@@ -108,6 +112,19 @@ class Output:
     def failed(self, fault: OSError) -> Fault:
         """What to say of a fault of the output's disk."""
         return Fault(4, f"writing {file_name(self.name)} failed: {fault.strerror}{free_bytes(self.name)}")
+
+
+def commit_all(outputs: Sequence[Output]) -> None:
+    """Gives all outputs their names, one after another; if one fails, those before it lose theirs."""
+    named: List[Output] = []
+    try:
+        for output in outputs:
+            output.commit()
+            named.append(output)
+    except BaseException:
+        for output in named:
+            os.unlink(output.name)
+        raise
 
 
 def check_output(name: str) -> None:

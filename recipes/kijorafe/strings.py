@@ -41,6 +41,13 @@ def strings_in(
     If fields are named, those at them to which events lead; of the others, some.
     """
     strings: Strings = defaultdict(Counter)
+    for chunk in chunks_in(recording, "strings"):
+        _add_chunk(Reader(program.classes(chunk), numbers, names), chunk, strings)
+    return strings
+
+
+def chunks_in(recording: str, what: str) -> Iterator[str]:
+    """A file for each chunk of a recording; on a terminal it is shown meanwhile how much of this work is done."""
     with open(recording, "rb") as file:
         try:
             headers = list(headers_of(file))
@@ -49,9 +56,8 @@ def strings_in(
     with Progress(os.path.getsize(recording)) as progress:
         for header in headers:
             with chunk_of(recording, header) as chunk:
-                _add_chunk(Reader(program.classes(chunk), numbers, names), chunk, strings)
-            progress.at(header.at + header.size, "strings")
-    return strings
+                yield chunk
+            progress.at(header.at + header.size, what)
 
 
 def types_of(kinds: Counts[str]) -> str:
@@ -89,7 +95,7 @@ def _add_events(reader: Reader, file: BinaryIO, header: Header, strings: Strings
     referred: Referred = Counter()
     composite = (each for each in reader.classes.values() if each.name not in BASIC)
     kinds = {each.id: each.name for each in composite if each.is_event and each.id > 1}
-    for kind, record, at in _records(file, header):
+    for kind, record, at in records_in(file, header):
         if kind in kinds:
             for path, found in reader.read_event(kind, record, at):
                 if isinstance(found, tuple):
@@ -99,7 +105,7 @@ def _add_events(reader: Reader, file: BinaryIO, header: Header, strings: Strings
     return referred
 
 
-def _records(file: BinaryIO, header: Header) -> Iterator[Tuple[int, bytes, int]]:
+def records_in(file: BinaryIO, header: Header) -> Iterator[Tuple[int, bytes, int]]:
     """The records of a chunk: the type, the bytes, and the offset in them of what comes after the type."""
     with mmap(file.fileno(), 0, access=ACCESS_READ) as data:
         place = HEADER_BYTES

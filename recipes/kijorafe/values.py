@@ -75,7 +75,7 @@ class Reader:
         parts = self._parts.get((class_id, path))
         if parts is None:
             fields = self.classes[class_id].fields
-            parts = [_part(f"{path}.{field.name}" if path else field.name, field) for field in fields]
+            parts = [part_of(f"{path}.{field.name}" if path else field.name, field) for field in fields]
             self._parts[class_id, path] = parts
         return parts
 
@@ -130,7 +130,8 @@ def _end(of: Class, names: Container[str], leading: Set[int]) -> int:
     return max(ends, default=0)
 
 
-def _part(path: str, field: Field) -> Part:
+def part_of(path: str, field: Field) -> Part:
+    """A field at a path."""
     return Part(path, field.class_name, field.class_id, field.constant, field.array)
 
 

@@ -11,7 +11,10 @@ from kijorafe.explain import reasons
 from kijorafe.integers import integer_at, spelled
 from tests.support import EVENTS, SHUTDOWN, TOP, TYPES, Case
 
-NAMES = "vendor", "strict", "tenant", "many", "check", "left", "strangers", "threads", "flame", "jdk", "explain"
+NAMES = (
+    *("vendor", "strict", "tenant", "masked", "many", "check", "left", "strangers", "threads"),
+    *("flame", "jdk", "names", "explain"),
+)
 
 
 class Words(Case):
@@ -34,6 +37,8 @@ class Words(Case):
             ("a name is empty", ("vendor", "in.jfr", "")),
             ("a pattern is empty", ("tenant", "", "in.jfr", "out")),
             ("belongs to the pattern", ("tenant", "a, b", "in.jfr", "out")),
+            ("are to be different", ("masked", "in.jfr", "out", "--table", "./out")),
+            ("are to be different", ("masked", "in.jfr", "out", "--table", "t", "--report", "t")),
             ("IN OUT", ("jdk", "in.jfr")),
             ("OUT", ("flame", "in.jfr")),
         ):
@@ -47,7 +52,7 @@ class Words(Case):
     def test_files(self) -> None:
         self.recording("in.jfr")
         self.write("out", "")
-        for recipe in ("vendor",), ("strict",), ("tenant", "x"), ("tenant", "--addresses"), ("jdk",), ("flame",):
+        for recipe in ("vendor",), ("strict",), ("tenant", "x"), ("tenant", "--addresses"), ("masked",), ("jdk",), ("flame",):
             for status, text, words in (
                 (4, "out exists already", ("in.jfr", "out")),
                 (4, "folder none doesn't exist", ("in.jfr", "none/new")),
@@ -97,8 +102,9 @@ class Explanations(Case):
         with open(os.path.join(TOP, "docs", "SCRUBBING.md"), encoding="utf-8") as page:
             doubts = page.read().partition("`verify` writes `verified`")[2].partition("\n## ")[0]
             names += re.findall(r"^- ([A-Z]\w*):", doubts, re.MULTILINE)
+        names.append("MaskTooLong")
         self.assertEqual(sorted(reasons()), sorted(set(names)))
-        self.assertEqual(len(reasons()), 27 + 3 + 8)
+        self.assertEqual(len(reasons()), 27 + 3 + 8 + 1)
 
     def test_explain(self) -> None:
         for words in ("Unfinished",), ("chunk 1 offset 64: Unfinished",), ("chunk", "1", "offset", "64:", "Unfinished"):

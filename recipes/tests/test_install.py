@@ -61,6 +61,8 @@ class Install(Case):
         self.assertEqual(done.stdout.decode(), self.run_program("sample", "0", "1"))
         for name in links:
             self.assertTrue(os.path.exists(os.path.join("to", name)), name)
+        for name in "types", "fields", "unmasked", "kijorafe/Names.java":
+            self.assertEqual(self.read(f"to/lib/kijorafe/recipes/{name}"), self.read(f"send/recipes/{name}"))
         self.assert_run(self.install("--remove", "--prefix=to"), 0)
         self.assertEqual(self.names(), [])
 

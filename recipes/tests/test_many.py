@@ -48,6 +48,16 @@ class Many(Case):
         self.recipe("tenant", "--addresses", "in/a/x.jfr", "one.jfr")
         self.assertEqual(self.read("out2/a/x.jfr"), self.read("one.jfr"))
 
+    def test_masked(self) -> None:
+        os.unlink("in/cut.jfr")
+        self.stand_in()
+        self.write("known", "main\n")
+        run = self.process("many", "--code", "masked", "in", "out", "--known", "known")
+        self.assert_run(run, 0, "2 of 2")
+        self.recipe("masked", "--code", "--known", "known", "in/a/x.jfr", "one.jfr")
+        self.assertEqual(self.read("out/a/x.jfr"), self.read("one.jfr"))
+        self.assertIn(b"main", self.read("one.jfr"))
+
     def test_faults(self) -> None:
         os.mkdir("empty")
         for status, text, words in (
@@ -59,6 +69,8 @@ class Many(Case):
             (1, "usage", ("vendor", "in")),
             (1, "usage", ("tenant", "in", "out")),
             (1, "a pattern is empty", ("tenant", "a,", "in", "out")),
+            (1, "--code and --known are for masked", ("--code", "vendor", "in", "out")),
+            (1, "none can't be read", ("--known", "none", "masked", "in", "out")),
             (1, "usage", ("--jobs", "0", "vendor", "in", "out")),
         ):
             with self.subTest(words=words):

@@ -14,7 +14,7 @@ from tests.support import Case
 # A program that writes a part of its output and then waits for the file `go`.
 SLOW = """\
 case $1 in
-    scrub)
+    scrub | mask)
         for last; do :; done
         umask >mask
         echo part >"$last"
@@ -68,6 +68,16 @@ class Interrupted(Case):
                     self.assertIn("out.jfr isn't written", said)
                     self.assert_only("in.jfr")
 
+    def test_a_signal_leaves_no_table(self) -> None:
+        process = self.begin("masked", "--table", "table", "in.jfr", "out.jfr")
+        self.assertEqual(self.mode(".table.part"), 0o700)
+        os.kill(process.pid, signal.SIGTERM)
+        said = self.end(process)
+        self.assertEqual(process.returncode, -signal.SIGTERM)
+        for name in "out.jfr", "table":
+            self.assertIn(f"{name} isn't written", said)
+        self.assert_only("in.jfr")
+
     def test_a_killed_run_is_told_by_the_next(self) -> None:
         process = self.begin("vendor", "in.jfr", "out.jfr")
         os.killpg(process.pid, signal.SIGKILL)
@@ -110,6 +120,23 @@ class Outputs(Case):
         self.assertIn("somebody else has made out", raised.exception.message)
         self.assertEqual(self.read("out"), b"theirs")
         self.assert_only("out")
+
+    def test_all_or_none(self) -> None:
+        for is_late in False, True:
+            with staging.Output("one", is_private=True) as one, staging.Output("two") as two:
+                self.write(one.path, "mine")
+                self.write(two.path, "mine")
+                if is_late:
+                    self.write("two", "theirs")
+                    with self.assertRaises(Fault):
+                        staging.commit_all([one, two])
+                else:
+                    staging.commit_all([one, two])
+                    self.assertEqual((self.mode("one"), self.read("two")), (0o600, b"mine"))
+                    os.unlink("one")
+                    os.unlink("two")
+        self.assertEqual(self.read("two"), b"theirs")
+        self.assert_only("two")
 
     def test_a_disk_without_links(self) -> None:
         refused = OSError(errno.EPERM, "no links")
