@@ -165,14 +165,6 @@ class Case(unittest.TestCase):
         )
         return Run(done.returncode, done.stdout.decode(), done.stderr.decode())
 
-    def stand_in(self) -> None:
-        """Sees to it that the program masks."""
-        said = subprocess.run([self.program, "mask"], stdout=subprocess.PIPE, stderr=subprocess.STDOUT).stdout
-        if b"|mask" not in said:
-            here = os.path.join(RECIPES, "tests", "standin.py")
-            mask = f'exec python3 {here} {self.program} "$@"'
-            self.fake_program(f'case $1 in mask) {mask} ;; *) exec {self.program} "$@" ;; esac\n')
-
     def fake_program(self, script: str) -> None:
         """Puts a script of sh in the program's place. `jfr sample` must end with 0."""
         os.unlink("send/jfr")

@@ -50,7 +50,6 @@ class Many(Case):
 
     def test_masked(self) -> None:
         os.unlink("in/cut.jfr")
-        self.stand_in()
         self.write("known", "main\n")
         run = self.process("many", "--code", "masked", "in", "out", "--known", "known")
         self.assert_run(run, 0, "2 of 2")

@@ -99,7 +99,6 @@ class Masked(Case):
     def setUp(self) -> None:
         super().setUp()
         self.recording("in.jfr", TYPES + CODE + EVENTS + CLASSES + SHUTDOWN)
-        self.stand_in()
 
     def texts(self, name: str) -> Dict[str, List[str]]:
         found = texts_by_field(Program(self.program), name)
