@@ -226,6 +226,31 @@ def array_short(size):
     return chunk(described, record(EVENT, integer(many + 1) + b"\1" * many))
 
 
+# Masked texts.
+
+
+def texts_of(texts):
+    """A chunk with an event for each of these spelled texts."""
+    described = metadata(event_class(("text", STRING, {})))
+    events = b"".join(record(EVENT, spelled) for spelled in texts)
+    return chunk(described, events)
+
+
+def distinct_texts(size):
+    """A million events, each with another text."""
+    return texts_of(text("text %d" % n) for n in range(count(10**6, size)))
+
+
+def equal_texts(size):
+    """A million events with the same text."""
+    return texts_of(text("the same text") for _ in range(count(10**6, size)))
+
+
+def long_masked_text(size):
+    """An event with a text of 100 megabytes."""
+    return texts_of([text("t" * count(10**8, size))])
+
+
 # Metadata.
 
 
@@ -816,7 +841,7 @@ KINDS = {make.__name__: make for make in (
     references, array, array_short, strings, elements, attributes, long_key, long_names, alike_fields, classes,
     patterns_classes, patterns_name, same_names, fields, categories, long_categories, long_class_names, alike_classes, inline_32, inline_33,
     inline_wide, inline_array, ring, string_ring, fan, chain, thread_name, shared_name, shared_text,
-    stacks, long_stack, long_methods, frame_ring, late_names, late_method, equal_constants, alike_constants, equal_megabytes, alike_megabytes,
+    distinct_texts, equal_texts, long_masked_text, stacks, long_stack, long_methods, frame_ring, late_names, late_method, equal_constants, alike_constants, equal_megabytes, alike_megabytes,
     chunks,
     delta_self, delta_forward, delta_amid,
 )}

@@ -142,6 +142,8 @@ for kind in "${kinds[@]}"; do
     [ ! -e "$work/receipt" ] || memory=120 run 'verify, itself' verify "$file" "$file" "$work/receipt"
     rm -f "$work/scrubbed.jfr" "$work/receipt"
     run 'scrub, new keys' scrub --renumber yes "$file" "$work/out.jfr"
+    run mask mask --strings '*' "$file" "$work/out.jfr"
+    run 'mask, table' mask --strings '*' --table "$work/made/table" "$file" "$work/out.jfr"
     run 'scrub, threads' scrub --include-threads '*a*a*a*b,*a*a*a*c' "$file" "$work/out.jfr"
     run 'scrub, events' scrub --include-events '*a*a*a*b,*a*a*a*c' "$file" "$work/out.jfr"
     run 'scrub, categories' scrub --include-categories '*a*a*a*b,*a*a*a*c' "$file" "$work/out.jfr"
