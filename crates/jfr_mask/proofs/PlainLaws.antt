@@ -1,11 +1,12 @@
 -- The values of plain classes have no masked string, so masking changes nothing in them.
-use Rattle.std.specs.Prelude.{◌≡◌, ◌==◌, ◌≤◌, ⊤, ℕ, zero, suc, ◌+◌, ◌<◌, ◌&&◌, ◌⊎◌, Bool, true, false, List, [], ◌∷◌, ◌++◌, length, map, replicate, slice_get, Option, Some, None, IfSome, if◌then◌else◌}
+use Rattle.std.specs.Prelude.{◌≡◌, ◌==◌, ◌≤◌, ⊤, ℕ, zero, suc, ◌+◌, ◌<◌, ◌&&◌, ◌⊎◌, Bool, true, false, List, [], ◌∷◌, ◌++◌, length, map, replicate, slice_get, slice_range, Option, Some, None, IfSome, if◌then◌else◌}
 use Rattle.std.specs.List.{AllByRecursion, position_or_len}
 use Rattle.std.specs.Option.{option_map, option_map_or}
 use Rattle.std.proofs.Common.{ap, arith, cond, refl, sym, ◌∙◌, subst, inl, inr}
 use Rattle.std.proofs.lemmas.Bool.{cases_lt, lt-ltb}
 use Rattle.std.proofs.lemmas.List.Folds.{find_at}
 use Rattle.std.proofs.lemmas.Option.{slice_get_within}
+use Rattle.jfr_base.proofs.Ranges.{range_split}
 use Rattle.jfr_layout.specs.Classes.{AreFieldLayouts, Class, Classes, Field, IsFieldLayout, Sound, class_index, find_class, item_of, kind_of}
 use Rattle.jfr_layout.specs.declared.field_layout.FieldLayout.{FieldLayout}
 use Rattle.jfr_layout.specs.declared.kind.Kind.{Kind}
@@ -13,14 +14,15 @@ use Rattle.jfr_layout.specs.declared.kind.Kind.TheVariants as kinds
 use Rattle.jfr_layout.specs.declared.shape.Shape.{Shape}
 use Rattle.jfr_value.specs.declared.leaf.Holder.{Holder}
 use Rattle.jfr_value.specs.declared.leaf.LeafKind.{LeafKind}
-use Rattle.jfr_value.specs.Values.{Value, Values, Single, Group, Nil, Cons, Fits, AllFit, IsHead, IsSingle, shape_of, shapes_of, targets_of}
+use Rattle.jfr_value.specs.Values.{Value, Values, Single, Group, Nil, Cons, Fits, AllFit, IsHead, IsSingle, bytes_of, shape_of, shapes_of, targets_of}
 use Rattle.jfr_value.specs.Leaves.{part_holder}
 use Rattle.jfr_value.specs.Nodes.{IsNode, NodeAt, targets, value_of}
 use Rattle.jfr_value.proofs.NodeLaws.{value_is}
 use Rattle.jfr_chunk.specs.Parts.{Parts}
 use Rattle.jfr_rewrite.specs.Changed.{Change, Plain, changed, changed_all, plain, single_of}
+use Rattle.jfr_rewrite.specs.Rewrite.{changed_bytes}
 use Rattle.jfr_mask.specs.Fields.{Masks, is_masked_field, is_text}
-use Rattle.jfr_mask.specs.Masked.{is_held_masked, is_masked_string, is_string_leaf, masked_texts, masked_texts_all, masking, numbered_text, string_bytes, string_text}
+use Rattle.jfr_mask.specs.Masked.{is_held_masked, is_masked_string, is_string_leaf, masked_texts, masked_texts_all, masking, node_texts, numbered_text, string_bytes, string_text}
 use Rattle.jfr_mask.specs.Plain.{ArePlain, ClassIsPlain, FieldIsPlain, HasNoMasked, HaveNoMasked, IsPlain, LayoutIsPlain}
 use Rattle.jfr_mask.specs.ReachBut.{node_targets_but, targets_but, unkeyed}
 
@@ -182,6 +184,19 @@ mutual
   no_texts masked known p f Nil q = refl
   no_texts masked known p f (Cons v vs) q =
       ap (λ z. z ++ masked_texts_all masked known p (λ n. f (suc n)) vs) (plain_texts masked known p (f zero) v q.0) ∙ no_texts masked known p (λ n. f (suc n)) vs q.1
+
+-- The node of a value without masked strings has no texts for the dictionary.
+pub node_no_texts : (p : Parts) (masked : Option Holder → Bool) (known : List ℕ → Bool) (n : NodeAt) (v : Value) → Sound p.classes → IsNode p.classes p.bytes n v → HasNoMasked masked None v → node_texts masked known p n ≡ []
+node_no_texts p masked known n v sound i h = ap (λ o. option_map_or (masked_texts masked known p None) o []) (value_is p.classes p.bytes n v sound i) ∙ plain_texts masked known p None v h
+
+-- The bytes around the node of such a value, with the masked value between them, are the bytes as they were.
+pub node_unchanged : (p : Parts) (masked : Option Holder → Bool) (show : List ℕ → List ℕ) (n : NodeAt) (v : Value) → Sound p.classes → IsNode p.classes p.bytes n v → HasNoMasked masked None v → (from to : ℕ) → from ≤ n.at → n.end ≤ to
+    → slice_range p.bytes from to ≡ slice_range p.bytes from n.at ++ (changed_bytes (masking masked show p) p.classes p.bytes n ++ slice_range p.bytes n.end to)
+node_unchanged p masked show n v sound i h from to u w =
+    let same : changed_bytes (masking masked show p) p.classes p.bytes n ≡ slice_range p.bytes n.at n.end =
+    ap (λ o. option_map_or (λ x. bytes_of (changed (masking masked show p) None x)) o []) (value_is p.classes p.bytes n v sound i) ∙ (ap bytes_of (plain_masked masked show p None v h) ∙ sym i.bytes) in
+    range_split p.bytes from n.at to u (omega (arith, i.order, w))
+    ∙ ap (λ z. slice_range p.bytes from n.at ++ z) (range_split p.bytes n.at n.end to i.order w ∙ ap (λ z. z ++ slice_range p.bytes n.end to) (sym same))
 
 -- What the node of a value of a plain class refers to, when masked strings don't count, is all that it refers to.
 pub node_plain : (p : Parts) (masks : Masks) (flags : List Bool) (n : NodeAt) (v : Value) (m : ℕ) → Sound p.classes → ArePlain masks p.classes flags → IsNode p.classes p.bytes n v

@@ -19,12 +19,17 @@ use Rattle.jfr_mask.specs.Fields.{masks_of}
 use Rattle.jfr_mask.specs.Masked.{is_held_masked, is_masked_string, masking, node_texts}
 use Rattle.jfr_mask.specs.MaskedLeaves.{leaf_texts, masked_from}
 use Rattle.jfr_mask.specs.MaskOf.{Masking}
+use Rattle.jfr_mask.specs.Plain.{ArePlain}
 use Rattle.jfr_mask.specs.Pseudonyms.{has_text, shown}
 use Rattle.jfr_mask.specs.ReachBut.{remain_but}
 
 -- Which holders' strings are masked.
 abbrev pub held_by : MaskedStrings → Option Holder → Bool
 held_by s = is_held_masked s.masked.now s.chunk.now.classes
+
+-- The flags of the plain classes are right.
+abbrev pub KnowsPlain : MaskedStrings → Type 0
+KnowsPlain s = ArePlain s.masked.now s.chunk.now.classes s.plain.now.flags.items
 
 -- The texts of a leaf, and of a node, that are numbered.
 abbrev pub leaf_texts_by : Numbering → LeafAt → List (List ℕ)

@@ -26,13 +26,14 @@ pub(crate) fn entries_left(
     chunk: &Chunk<'_>,
     kept: &Kept,
     masked: &MaskedFields,
+    plain: &PlainClasses,
 ) -> Result<Vec<EntryAt>, NoMemory>
-    requires { length kept.now ≡ length (events_of chunk.now) }
+    requires size { length kept.now ≡ length (events_of chunk.now) }
+    requires plain { ArePlain masked.now chunk.now.classes plain.now.flags.items }
     ensures ok { IfOk result (λ entries. entries.items ≡ remain_but (is_masked_string (is_held_masked masked.now chunk.now.classes)) chunk.now (kept_by chunk.now kept.now)) }
 {
     let mut list = Worklist::new(alloc, chunk.pools().len())?;
-    let plain = PlainClasses::of(alloc, masked, chunk.classes())?;
-    put_reached(&mut list, chunk, kept, masked, &plain);
+    put_reached(&mut list, chunk, kept, masked, plain);
     marked_entries(alloc, &list, chunk.pools())
 }
 

@@ -5,12 +5,13 @@ ghost use Rattle.jfr_chunk.specs.Reach.{kept_by};
 ghost use Rattle.jfr_rewrite.specs.Rewrite.{rewritten};
 ghost use Rattle.jfr_rewrite.specs.Writing.{AreSomeOf, with_metadata};
 ghost use Rattle.jfr_mask.specs.declared.fault.MaskFault.TheVariants.{TooLong};
-ghost use Rattle.jfr_mask.specs.Maskers.{masking_of, rewrite_by};
+ghost use Rattle.jfr_mask.specs.Maskers.{KnowsPlain, masking_of, rewrite_by};
 ghost use Rattle.jfr_mask.specs.MaskOf.{dictionary_after, mask_of};
 
 use crate::left::entries_left;
 use crate::masker::Masker;
 use crate::numbering::Numbering;
+use crate::plain::PlainClasses;
 use crate::texts::MaskedStrings;
 use crate::{Dictionary, Known, MaskFault, MaskedFields};
 use jfr_chunk::{Chunk, Kept};
@@ -53,10 +54,12 @@ pub fn mask_chunk<'m>(
     ensures too_long { result ≡ Err TooLong → 2 ^ 30 ≤ length (mask_of (masking_of options.entry) dictionary.old chunk.now (kept_by chunk.now kept.now)) }
 {
     let masked = MaskedFields::of(alloc, options.strings, options.except, chunk.classes())?;
-    let entries = entries_left(alloc, chunk, kept, &masked)?;
+    let plain = PlainClasses::of(alloc, &masked, chunk.classes())?;
+    let entries = entries_left(alloc, chunk, kept, &masked, &plain)?;
     let strings = MaskedStrings {
-        chunk,
+        chunk: &*chunk,
         masked: &masked,
+        plain: &plain,
     };
     let known = options.known;
     let numbering = Numbering {
@@ -73,8 +76,8 @@ pub fn mask_chunk<'m>(
         dictionary,
     };
     let source = Source {
-        chunk,
-        kept,
+        chunk: &*chunk,
+        kept: &*kept,
         metadata: metadata.as_deref(),
         entries: &entries,
         rewriting: &masker,
@@ -89,6 +92,7 @@ fn put_masked(
     source: Source<'_, Masker<'_, '_>>,
 ) -> Result<Vec<u8>, MaskFault>
     requires chunk { source.chunk.now ≡ source.rewriting.now.strings.chunk.now }
+    requires plain { KnowsPlain source.rewriting.now.strings }
     requires entries { AreSomeOf source.chunk.now source.entries.now }
     ensures ok { IfOk result (λ out. out.items ≡ rewritten (with_metadata (rewrite_by source.entry.rewriting.now) (option_map (λ s. s.now) source.entry.metadata)) source.entry.chunk.now (kept_by source.entry.chunk.now source.entry.kept.now) source.entry.entries.now) }
     ensures below { IfOk result (λ out. length out.items < 2 ^ 30) }

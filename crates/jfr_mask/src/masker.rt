@@ -8,7 +8,7 @@ ghost use Rattle.jfr_value.specs.Nodes.{IsValue, node_of};
 ghost use Rattle.jfr_rewrite.specs.Rewrite.{changed_bytes};
 ghost use Rattle.jfr_mask.specs.Masked.{is_string_leaf, string_bytes};
 ghost use Rattle.jfr_mask.specs.MaskedLeaves.{IsInChunk, leaf_text};
-ghost use Rattle.jfr_mask.specs.Maskers.{change_by, masked_by, shown_by};
+ghost use Rattle.jfr_mask.specs.Maskers.{KnowsPlain, change_by, masked_by, shown_by};
 
 use crate::texts::{MaskedStrings, leaf_text};
 use crate::widths::width_of;
@@ -33,11 +33,11 @@ pub(crate) struct Masker<'m, 'd> {
 
 impl Rewriter for Masker<'_, '_> {
     ghost use Rattle.std.specs.Prelude.{◌≡◌};
-    ghost use Rattle.jfr_mask.specs.Maskers.{rewrite_by};
+    ghost use Rattle.jfr_mask.specs.Maskers.{KnowsPlain, rewrite_by};
 
     ghost rewrite = { λ m. rewrite_by m };
 
-    ghost suits = { λ m p. p ≡ m.strings.chunk.now };
+    ghost suits = { λ m p. (p ≡ m.strings.chunk.now) × KnowsPlain m.strings };
 
     fn put_changed(
         &self,
@@ -61,7 +61,7 @@ impl Rewriter for Masker<'_, '_> {
 
 impl Masker<'_, '_> {
     /// Appends the chunk's bytes from `from` up to a value, the masked value, and the bytes after it up to `to`. Bytes
-    /// between masked strings are copied in one piece.
+    /// between masked strings are copied in one piece, and so is all if the value's class is plain.
     fn put_masked(
         &self,
         out: &mut Vec<u8>,
@@ -69,6 +69,7 @@ impl Masker<'_, '_> {
         from: usize,
         to: usize,
     ) -> Result<(), NoMemory>
+        requires plain { KnowsPlain self.now.strings }
         requires of_chunk { node.bytes.now ≡ self.now.strings.chunk.now.bytes }
         requires value { IsValue self.now.strings.chunk.now.classes node }
         requires start { from ≤ node.at }
@@ -77,6 +78,10 @@ impl Masker<'_, '_> {
         ensures ok { OnOk result (out.new.items ≡ out.old.items ++ (slice_range self.now.strings.chunk.now.bytes from node.entry.at ++ (changed_bytes (change_by self.now) self.now.strings.chunk.now.classes self.now.strings.chunk.now.bytes (node_of node.entry) ++ slice_range self.now.strings.chunk.now.bytes node.entry.end to))) }
     {
         self.strings.chunk.parts_are_valid();
+        if self.strings.are_none_in(node) {
+            out.extend_from_slice(&self.strings.chunk.bytes()[from..to])?;
+            return Ok(());
+        }
         let mut copied = from;
         let mut leaves = Leaves::new(self.strings.chunk.classes(), node);
         while let Some(leaf) = leaves.next() {

@@ -11,7 +11,7 @@ ghost use Rattle.jfr_output.specs.OutputRecords.{ShowsEvent, ShowsMetadata, outp
 ghost use Rattle.jfr_output.specs.Remaining.{NotFalling};
 ghost use Rattle.jfr_mask.specs.Masked.{numbered_text};
 ghost use Rattle.jfr_mask.specs.MaskedLeaves.{IsInChunk};
-ghost use Rattle.jfr_mask.specs.Maskers.{IsEntryValue, IsMaskingBy, entries_by, leaf_texts_by, node_texts_by};
+ghost use Rattle.jfr_mask.specs.Maskers.{IsEntryValue, IsMaskingBy, KnowsPlain, entries_by, leaf_texts_by, node_texts_by};
 ghost use Rattle.jfr_mask.specs.MaskOf.{Masking, dictionary_after, origin_of, origin_texts};
 ghost use Rattle.jfr_mask.specs.Pseudonyms.{has_text, with_texts};
 
@@ -44,6 +44,7 @@ impl Numbering<'_> {
         kept: &Kept,
         entries: &[EntryAt],
     ) -> Result<(), NoMemory>
+        requires plain { KnowsPlain self.now.strings }
         requires entries { entries.now ≡ entries_by self.now.strings (kept_by self.now.strings.chunk.now kept.now) }
         ensures ok { OnOk result ((m : Masking) → IsMaskingBy self.now m → dictionary.new ≡ dictionary_after m dictionary.old self.now.strings.chunk.now (kept_by self.now.strings.chunk.now kept.now)) }
     {
@@ -70,6 +71,7 @@ impl Numbering<'_> {
         entries: &[EntryAt],
         output_record: OutputRecord,
     ) -> Result<(), NoMemory>
+        requires plain { KnowsPlain self.now.strings }
         requires order { NotFalling 0 entries.now }
         requires values { AllByRecursion (IsEntryValue self.now.strings.chunk.now) entries.now }
         ensures ok { OnOk result ((m : Masking) (flags : List Bool) (slim : Option (List ℕ)) → IsMaskingBy self.now m → ShowsEvent self.now.strings.chunk.now flags output_record → ShowsMetadata (metadata_at self.now.strings.chunk.now.bytes) output_record → dictionary.new ≡ with_texts dictionary.old (origin_texts m self.now.strings.chunk.now (origin_of self.now.strings.chunk.now (kept_by self.now.strings.chunk.now flags) entries.now (output_record_as slim output_record)))) }
@@ -86,6 +88,7 @@ impl Numbering<'_> {
 
     /// Adds the texts of the event with this number, if there is one.
     fn add_event(&self, dictionary: &mut Dictionary, number: usize) -> Result<(), NoMemory>
+        requires plain { KnowsPlain self.now.strings }
         ensures ok { OnOk result (IfSome (slice_get (events_of self.now.strings.chunk.now) number) (λ e. dictionary.new ≡ with_texts dictionary.old (node_texts_by self.now e.node))) }
     {
         match self.strings.chunk.event(number) {
@@ -96,6 +99,7 @@ impl Numbering<'_> {
 
     /// Adds the texts of entries.
     fn add_entries(&self, dictionary: &mut Dictionary, entries: &[EntryAt]) -> Result<(), NoMemory>
+        requires plain { KnowsPlain self.now.strings }
         requires values { AllByRecursion (IsEntryValue self.now.strings.chunk.now) entries.now }
         ensures ok { OnOk result (dictionary.new ≡ with_texts dictionary.old (flat_map (λ e. node_texts_by self.now (entry_node e)) entries.now)) }
     {
@@ -107,6 +111,7 @@ impl Numbering<'_> {
 
     /// Adds the texts of an entry.
     fn add_entry(&self, dictionary: &mut Dictionary, entry: &EntryAt) -> Result<(), NoMemory>
+        requires plain { KnowsPlain self.now.strings }
         requires value { IsEntryValue self.now.strings.chunk.now entry.now }
         ensures ok { OnOk result (dictionary.new ≡ with_texts dictionary.old (node_texts_by self.now (entry_node entry.now))) }
     {
@@ -119,13 +124,17 @@ impl Numbering<'_> {
         self.add_node(dictionary, node)
     }
 
-    /// Adds the texts of a node, from left to right.
+    /// Adds the texts of a node, from left to right. A node of a plain class isn't read.
     fn add_node(&self, dictionary: &mut Dictionary, node: Node<'_>) -> Result<(), NoMemory>
+        requires plain { KnowsPlain self.now.strings }
         requires value { IsValue self.now.strings.chunk.now.classes node }
         requires of_chunk { node.bytes.now ≡ self.now.strings.chunk.now.bytes }
         ensures ok { OnOk result (dictionary.new ≡ with_texts dictionary.old (node_texts_by self.now (node_of node.entry))) }
     {
         self.strings.chunk.parts_are_valid();
+        if self.strings.are_none_in(node) {
+            return Ok(());
+        }
         let mut leaves = Leaves::new(self.strings.chunk.classes(), node);
         while let Some(leaf) = leaves.next() {
             self.add_leaf(dictionary, &leaf)?;

@@ -1,12 +1,16 @@
 //! Masked strings, and their texts.
-ghost use Rattle.std.specs.Prelude.{◌≡◌, true, IfOk};
+ghost use Rattle.std.specs.Prelude.{◌≡◌, true, None, IfOk, IsTrue};
 ghost use Rattle.jfr_value.specs.Leaves.{leaf_of};
+ghost use Rattle.jfr_value.specs.Nodes.{IsNode, node_of};
+ghost use Rattle.jfr_value.specs.Values.{Value};
 ghost use Rattle.jfr_mask.specs.Masked.{is_string_leaf};
 ghost use Rattle.jfr_mask.specs.MaskedLeaves.{IsInChunk, is_masked_leaf, leaf_text};
-ghost use Rattle.jfr_mask.specs.Maskers.{held_by};
+ghost use Rattle.jfr_mask.specs.Maskers.{KnowsPlain, held_by};
+ghost use Rattle.jfr_mask.specs.Plain.{HasNoMasked};
 
 use crate::MaskedFields;
 use crate::holders::is_held_masked;
+use crate::plain::PlainClasses;
 use jfr_base::{NoMemory, Text};
 use jfr_chunk::Chunk;
 use jfr_layout::{Kind, Shape};
@@ -19,9 +23,19 @@ use std::alloc::Global;
 pub(crate) struct MaskedStrings<'m> {
     pub(crate) chunk: &'m Chunk<'m>,
     pub(crate) masked: &'m MaskedFields,
+    /// The classes whose values have no masked string.
+    pub(crate) plain: &'m PlainClasses,
 }
 
 impl MaskedStrings<'_> {
+    /// Whether the node is of a plain class, so its value has no masked string.
+    pub(crate) fn are_none_in(&self, node: Node<'_>) -> bool
+        requires { KnowsPlain self.now }
+        ensures { IsTrue result → (v : Value) → IsNode self.now.chunk.now.classes self.now.chunk.now.bytes (node_of node.entry) v → HasNoMasked (held_by self.now) None v }
+    {
+        self.plain.has_id(self.chunk.classes(), node.shape.class)
+    }
+
     /// Whether the leaf is a masked string.
     pub(crate) fn has(&self, leaf: &Leaf<'_>) -> bool
         ensures { result ≡ is_masked_leaf (held_by self.now) (leaf_of leaf.now) }

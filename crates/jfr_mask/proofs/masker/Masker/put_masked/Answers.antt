@@ -6,7 +6,23 @@ use Rattle.jfr_mask.specs.MaskedLeaves.{masked_from}
 use Rattle.jfr_mask.specs.Pseudonyms.{has_text, shown}
 use Rattle.jfr_mask.proofs.LaidLeaves.{AreLaid, laid_here, laid_order, leaves_here}
 use Rattle.jfr_mask.proofs.LeafMasks.{node_masked_is}
+use Rattle.jfr_mask.proofs.PlainLaws.{node_unchanged}
 use Rattle.jfr_mask.proofs.masker.Masker.put_masked.Goals as goal
+
+pub returns-then-are_none_in : goal.returns-then-are_none_in
+returns-then-are_none_in c =
+    let p = c.args.self.now.strings.chunk.now in
+    let masked = is_held_masked c.args.self.now.strings.masked.now p.classes in
+    let show = shown (has_text c.args.self.now.known.now) c.args.self.now.dictionary.now in
+    let n = node_of c.args.node in
+    let v = c.requires.value.0 in
+    let node = subst (λ z. IsNode p.classes z n v) c.requires.of_chunk c.requires.value.1 in
+    record {
+      ok =
+          c.in_ok-extend_from_slice.ensures.items
+          ∙ (ap (λ z. c.args.out.now.items ++ slice_range z c.args.from c.args.to) c.bytes.ensures.exact
+          ∙ ap (λ z. c.args.out.now.items ++ z) (node_unchanged p masked show n v c.parts_are_valid.ensures.sound node (c.are_none_in.ensures c.if-are_none_in.true v node) c.args.from c.args.to c.requires.start c.requires.end));
+    }
 
 pub loop-leaf-init : goal.loop-leaf-init
 loop-leaf-init c =
@@ -51,8 +67,8 @@ returns c =
     let out = c.loop-leaf.out.items in
     record {
       ok =
-          c.in_ok-extend_from_slice.ensures.items
-          ∙ (ap (λ z. out ++ slice_range z c.loop-leaf.copied c.args.to) c.bytes.ensures.exact
+          c.in_ok-extend_from_slice-2.ensures.items
+          ∙ (ap (λ z. out ++ slice_range z c.loop-leaf.copied c.args.to) c.bytes-2.ensures.exact
           ∙ (ap (λ z. out ++ masked_from masked show p c.loop-leaf.copied c.args.to z) (sym c.in_default.ensures.steps.0)
           ∙ (c.loop-leaf.invariant.3
           ∙ ap (λ z. c.args.out.now.items ++ z) (node_masked_is masked p show c.parts_are_valid.ensures.sound (node_of c.args.node) c.requires.value.0 node c.args.from c.args.to c.requires.start c.requires.end))));

@@ -11,11 +11,11 @@ use Rattle.jfr_mask.specs.Pseudonyms.{with_texts}
 use Rattle.jfr_mask.proofs.NumberLaws.{with_append}
 use Rattle.jfr_mask.proofs.numbering.Numbering.add_entries.Goals as goal
 
-pub add_entry-requires : goal.add_entry-requires
-add_entry-requires c =
+pub add_entry-requires-clause-value : goal.add_entry-requires-clause-value
+add_entry-requires-clause-value c =
     let none : EntryAt = record { class = 0; key = 0; key_at = 0; value_at = 0; end = 0; checkpoint = 0; pool = 0 } in
     let here = slice_get-get_or c.args.entries.now c.loop-entry.entry-index none c.loop-entry-test.true in
-    record { value = all_get (IsEntryValue c.args.self.now.strings.chunk.now) c.args.entries.now c.loop-entry.entry-index (get_or c.args.entries.now c.loop-entry.entry-index none) c.requires.values here }
+    all_get (IsEntryValue c.args.self.now.strings.chunk.now) c.args.entries.now c.loop-entry.entry-index (get_or c.args.entries.now c.loop-entry.entry-index none) c.requires.values here
 
 pub loop-entry-preserved : goal.loop-entry-preserved
 loop-entry-preserved c =

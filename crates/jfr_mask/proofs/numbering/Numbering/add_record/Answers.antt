@@ -12,10 +12,10 @@ use Rattle.jfr_mask.specs.Pseudonyms.{with_texts}
 use Rattle.jfr_mask.proofs.NumberedRecords.{chained_texts, metadata_texts}
 use Rattle.jfr_mask.proofs.numbering.Numbering.add_record.Goals as goal
 
-pub add_entries-requires : goal.add_entries-requires
-add_entries-requires c =
+pub add_entries-requires-clause-values : goal.add_entries-requires-clause-values
+add_entries-requires-clause-values c =
     let p = c.args.self.now.strings.chunk.now in
-    record { values = subst (AllByRecursion (IsEntryValue p)) (sym c.entries_of.ensures) (filter_all (IsEntryValue p) (λ e. e.checkpoint == c.in-Chained.number) c.args.entries.now c.requires.values) }
+    subst (AllByRecursion (IsEntryValue p)) (sym c.entries_of.ensures) (filter_all (IsEntryValue p) (λ e. e.checkpoint == c.in-Chained.number) c.args.entries.now c.requires.values)
 
 pub returns-in-Metadata : goal.returns-in-Metadata
 returns-in-Metadata c =
