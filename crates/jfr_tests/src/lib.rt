@@ -20,6 +20,8 @@ mod filters;
 #[cfg(test)]
 mod jdk;
 #[cfg(test)]
+mod masks;
+#[cfg(test)]
 mod outputs;
 #[cfg(test)]
 mod parts;

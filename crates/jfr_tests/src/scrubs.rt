@@ -207,11 +207,11 @@ fn the_first_event_decides(rt: HostRuntime) -> Result<(), Fail> {
 }
 
 const USAGE: &str =
-    "usage: jfr print|summary|metadata|scrub|disassemble|assemble|sample|receipt|verify|build|stacks\n";
+    "usage: jfr print|summary|metadata|scrub|disassemble|assemble|sample|receipt|verify|build|stacks|mask\n";
 
 /// Every other list of words is a usage fault, and nothing is asked of the place: calls that would fail do so
 /// after it.
-static OTHER_WORDS: [&[&str]; 21] = [
+static OTHER_WORDS: [&[&str]; 23] = [
     &[],
     &["--help"],
     &["frobnicate", "x"],
@@ -241,6 +241,8 @@ static OTHER_WORDS: [&[&str]; 21] = [
         "b.jfr",
     ],
     &["scrub", "--include-events", "A", "a.jfr", "b.jfr", "c.jfr"],
+    &["mask", "--known", "k", "--table", "t", "a.jfr", "b.jfr"],
+    &["mask", "--strings", "*", "a.jfr"],
 ];
 
 /// What a place says then whose next open and whose next create fail.

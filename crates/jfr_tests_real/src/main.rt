@@ -1,5 +1,6 @@
 //! A test of two small recordings of a JDK: the events that they print stay when they are scrubbed and when their
-//! keys are new, and receipts of them are verified. The gate compares what this program writes with `stdout`.
+//! keys are new, receipts of them are verified, and all their strings are masked. The gate compares what this program
+//! writes with `stdout`.
 //!
 //! `data/jdk17.jfr` is what `scrub --include-events ThreadSleep --include-threads worker-1` leaves of a recording of
 //! OpenJDK 17, and `data/jdk25.jfr` with the threads `worker-*` of one of Temurin 25: a chunk with two and three
@@ -14,7 +15,7 @@ use std::process::ExitCode;
 
 /// The commands, in order.
 #[rattlefmt::skip]
-static COMMANDS: [&[&str]; 14] = [
+static COMMANDS: [&[&str]; 18] = [
     &["print", "--json", "--depth", "4", "jdk17.jfr"],
     &["scrub", "jdk17.jfr", "scrubbed17.jfr"],
     &["print", "--json", "--depth", "4", "scrubbed17.jfr"],
@@ -22,6 +23,8 @@ static COMMANDS: [&[&str]; 14] = [
     &["print", "--json", "--depth", "4", "renumbered17.jfr"],
     &["receipt", "jdk17.jfr", "receipt17"],
     &["verify", "jdk17.jfr", "scrubbed17.jfr", "receipt17"],
+    &["mask", "--strings", "*", "jdk17.jfr", "masked17.jfr"],
+    &["print", "--json", "--depth", "4", "masked17.jfr"],
     &["print", "--json", "--depth", "4", "jdk25.jfr"],
     &["scrub", "jdk25.jfr", "scrubbed25.jfr"],
     &["print", "--json", "--depth", "4", "scrubbed25.jfr"],
@@ -29,6 +32,8 @@ static COMMANDS: [&[&str]; 14] = [
     &["print", "--json", "--depth", "4", "renumbered25.jfr"],
     &["receipt", "jdk25.jfr", "receipt25"],
     &["verify", "jdk25.jfr", "scrubbed25.jfr", "receipt25"],
+    &["mask", "--strings", "*", "jdk25.jfr", "masked25.jfr"],
+    &["print", "--json", "--depth", "4", "masked25.jfr"],
 ];
 
 /// The words of a command line.

@@ -44,7 +44,7 @@ const WHOLE: &[Left] = &[Left::Chunks(2)];
 const TEXT: &[Left] = &[Left::PartOf(2)];
 
 #[rattlefmt::skip]
-static CASES: [Case; 13] = [
+static CASES: [Case; 14] = [
     Case {
         command: Command { words: &["print", "a.jfr"], at_end: false },
         reads: &[OF_BOTH], calls: [ONCE, &[], &[], &[], &[]], writes: EACH,
@@ -71,6 +71,10 @@ static CASES: [Case; 13] = [
     },
     Case {
         command: Command { words: &["scrub", "--renumber", "yes", "a.jfr", "b.jfr"], at_end: false },
+        reads: &[OF_BOTH], calls: [ONCE, &[], ONCE, EACH, WHOLE], writes: &[],
+    },
+    Case {
+        command: Command { words: &["mask", "--strings", "*", "a.jfr", "b.jfr"], at_end: false },
         reads: &[OF_BOTH], calls: [ONCE, &[], ONCE, EACH, WHOLE], writes: &[],
     },
     Case {
