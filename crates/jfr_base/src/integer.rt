@@ -1,5 +1,5 @@
 //! Compressed integers.
-ghost use Rattle.std.specs.Prelude.{◌≡◌, ℕ, ◌+◌, ◌<◌, ◌≤◌, IfOk, IfSome, length, MatchResult, None, OnErr, Some, take};
+ghost use Rattle.std.specs.Prelude.{◌≡◌, ℕ, ◌+◌, ◌<◌, ◌≤◌, IfOk, IfSome, IsSome, length, MatchResult, None, OnErr, Some, take};
 ghost use Rattle.std.specs.Int.{cast_signed, w64};
 ghost use Rattle.jfr_base.specs.Formats.{int_at};
 ghost use Rattle.jfr_base.specs.Integer.{FitsIn, IntAt, spell, spell_in, Spells};
@@ -51,6 +51,21 @@ pub fn read_within(bytes: &[u8], at: usize, end: usize) -> Result<Var, Flaw>
     ensures exact { MatchResult result (λ v. int_at bytes.now at end ≡ Some v) (λ e. (int_at bytes.now at end ≡ None) × (e ≡ record { offset = at; reason = Reason.Short })) }
 {
     var_within(bytes, at, end)
+}
+
+/// The compressed integer that starts at the offset `at` and ends by `end`, where there is known to be one.
+#[inline(always)]
+pub fn known_integer(bytes: &[u8], at: usize, end: usize) -> Var
+    requires order { at ≤ end }
+    requires within { end ≤ length bytes.now }
+    requires known { IsSome (int_at bytes.now at end) }
+    ensures range { (at < result.end) × (result.end ≤ end) }
+    ensures exact { int_at bytes.now at end ≡ Some result }
+{
+    let Ok(integer) = read_within(bytes, at, end) else {
+        unreachable!()
+    };
+    integer
 }
 
 /// The body of `read_within`. Its clauses are in terms of `int_at` only; `read_within` derives those about

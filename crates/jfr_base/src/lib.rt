@@ -19,8 +19,8 @@ pub use decimal::decimal_number;
 pub use flaw::{Flaw, ReadFault, Refusal};
 pub use header::HEADER_LEN;
 pub use integer::{
-    SHORT_GROUPS, Short, Var, read_short, read_var, read_within, signed, var_len, write_in,
-    write_var,
+    SHORT_GROUPS, Short, Var, known_integer, read_short, read_var, read_within, signed, var_len,
+    write_in, write_var,
 };
 pub use memory::NoMemory;
 pub use push::{push_in, push_var};

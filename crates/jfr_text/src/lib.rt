@@ -16,7 +16,7 @@ mod utf16;
 
 pub use characters::Characters;
 pub use laws::{format_reads_strings, one_content, spelled_integers, strings_are_read};
-pub use read::{is_bare, is_key, read_string, short_units_end};
+pub use read::{is_bare, is_key, known_string, read_string, short_units_end};
 pub use span::{
     EMPTY_BYTE, KEY_BYTE, LATIN_BYTE, NULL_BYTE, StringKind, StringSpan, UNITS_BYTE, UTF8_BYTE,
 };

@@ -1,5 +1,5 @@
 //! Reading a string in place.
-ghost use Rattle.std.specs.Prelude.{◌≡◌, ◌↔◌, ℕ, ◌+◌, ◌-◌, ◌<◌, ◌≤◌, ◌^◌, List, [], length, IfOk, IfErr, IfSome, IsTrue, MatchOption, MatchResult, Ok, Err, slice_index, slice_range, true};
+ghost use Rattle.std.specs.Prelude.{◌≡◌, ◌↔◌, ℕ, ◌+◌, ◌-◌, ◌<◌, ◌≤◌, ◌^◌, List, [], length, IfOk, IfErr, IfSome, IsOk, IsTrue, MatchOption, MatchResult, Ok, Err, slice_index, slice_range, true};
 ghost use Rattle.jfr_base.specs.Integer.{IntAt};
 ghost use Rattle.jfr_base.specs.Formats.{Reads, Fails, times, integer, checked, run, end_or_flaw};
 ghost use Rattle.jfr_text.specs.Spans.{content_of, first_integers, answer_of, AreShort, IsShortUnits, IsSpanAt};
@@ -35,6 +35,22 @@ pub fn read_string<'a>(bytes: &'a [u8], at: usize, end: usize) -> Result<StringS
         return Err(Flaw::short(at));
     }
     read_kind(bytes[at], bytes, at, end)
+}
+
+/// The string that starts at the offset `at` and ends by `end`, where there is known to be one.
+#[inline(always)]
+pub fn known_string<'a>(bytes: &'a [u8], at: usize, end: usize) -> StringSpan<'a>
+    requires order { at ≤ end }
+    requires within { end ≤ length bytes.now }
+    requires known { IsOk (run (string_format true) bytes.now end at) }
+    ensures span { IsSpanAt bytes.now at result }
+    ensures range { (at < result.end) × (result.end ≤ end) }
+    ensures exact { run (string_format true) bytes.now end at ≡ Ok (record { value = content_of result; place = result.end }) }
+{
+    let Ok(string) = read_string(bytes, at, end) else {
+        unreachable!()
+    };
+    string
 }
 
 /// Whether the string that starts at the offset `at` is only a kind byte: the null string, or the empty one.
