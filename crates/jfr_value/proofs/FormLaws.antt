@@ -49,6 +49,9 @@ pub record Plain (s : FieldLayout) : Type 0 where
 plain_of : (s : FieldLayout) (f : Form) → Inline s f → f ≢ forms.Text → f ≢ forms.Fields → Plain s
 plain_of s f i n m = record { array = i.array; constant = i.constant; not_text = other_kind f s.kind kinds.Text i.form n; not_composite = other_kind f s.kind kinds.Composite i.form m }
 
+no_fields : {s : FieldLayout} (f : Form) → Inline s f → f ≢ forms.Fields → (s.shape.array ≡ false) × (s.shape.constant ≡ false) × (s.kind ≢ kinds.Composite)
+no_fields {s = s} f i n = (i.array, i.constant, other_kind f s.kind kinds.Composite i.form n)
+
 module _ (s : FieldLayout) (h : s.form ≡ form_of s.shape s.kind) where
   pub inline_there : (f : Form) → s.form ≡ f → IsInline f → Inline s f
   inline_there f e i = by_marks s.shape.array s.shape.constant refl refl (sym e ∙ h)
@@ -70,6 +73,12 @@ module _ (s : FieldLayout) (h : s.form ≡ form_of s.shape s.kind) where
   pub plain_there : (s.form ≡ forms.Integer) ⊎ ((n : ℕ) × (s.form ≡ forms.Raw n)) → Plain s
   plain_there (inl e) = plain_of s forms.Integer (inline_there forms.Integer e tt) (λ q. cc) (λ q. cc)
   plain_there (inr e) = plain_of s (forms.Raw e.0) (inline_there (forms.Raw e.0) e.1 tt) (λ q. cc) (λ q. cc)
+
+  -- A value of a base name.
+  pub base_there : (s.form ≡ forms.Integer) ⊎ ((n : ℕ) × (s.form ≡ forms.Raw n)) ⊎ (s.form ≡ forms.Text) → (s.shape.array ≡ false) × (s.shape.constant ≡ false) × (s.kind ≢ kinds.Composite)
+  base_there (inl e) = no_fields forms.Integer (inline_there forms.Integer e tt) (λ q. cc)
+  base_there (inr (inl e)) = no_fields (forms.Raw e.0) (inline_there (forms.Raw e.0) e.1 tt) (λ q. cc)
+  base_there (inr (inr e)) = no_fields forms.Text (inline_there forms.Text e tt) (λ q. cc)
 
 -- The kinds of a form.
 pub text_kind : (kind : Kind) → forms.Text ≡ inline_form kind → kind ≡ kinds.Text

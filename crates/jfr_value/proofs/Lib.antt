@@ -11,7 +11,9 @@ pub mod InsideLaws
 mod AppendLaws
 mod FusedLaws
 mod LastGroups
+pub mod LeafKeys
 pub mod LeafLaws
+mod LeafVisitLaws
 pub mod NodeForms
 pub mod NodeLaws
 pub mod PartLaws

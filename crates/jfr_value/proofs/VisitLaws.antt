@@ -1,7 +1,7 @@
 -- A visit of a value, part by part.
 use Rattle.std.specs.Prelude.{◌≡◌, ◌≢◌, ℕ, zero, suc, ◌+◌, ◌-◌, ◌<◌, ◌≤◌, Bool, true, false, List, [], ◌∷◌, ◌++◌, length, map, replicate, drop, slice_get, slice_range, Option, Some, None, IsSome, IfSome, Ok, option_map, option_to_list, if◌then◌else◌}
 use Rattle.std.specs.Option.{option_map_or}
-use Rattle.std.specs.List.{AllByRecursion, filter_map}
+use Rattle.std.specs.List.{AllByRecursion, cons_option, filter_map}
 use Rattle.std.proofs.Common.{ap, arith, refl, sym, ◌∙◌, subst}
 use Rattle.std.proofs.lemmas.List.{drop_all, length-append, length-map, nil_from_length}
 use Rattle.jfr_base.specs.declared.integer.Var.{Var}
@@ -19,7 +19,7 @@ use Rattle.jfr_value.specs.declared.leaf.LeafKind.TheVariants as leaf_kinds
 use Rattle.jfr_value.specs.Values.{Value, Values, Single, Nil, Cons, shape_of, shapes_of, bytes_of, bytes_of_all, targets_of, targets_of_all, key_of, IsBase, IsHollow, AllFit}
 use Rattle.jfr_value.specs.Reading.{base_format}
 use Rattle.jfr_value.specs.Nodes.{node_at, IsNode, AreValues}
-use Rattle.jfr_value.specs.Leaves.{leaf_target, leaves_at, leaves_from}
+use Rattle.jfr_value.specs.Leaves.{LeafAt, leaf_target, leaves_at, leaves_from}
 use Rattle.jfr_value.specs.Visits.{TakesAll, field_shapes}
 use Rattle.jfr_value.specs.Walks.{IsLayoutIfKnown, DepthBound}
 use Rattle.jfr_value.proofs.ChildLaws.{inline_known}
@@ -33,16 +33,19 @@ use Rattle.jfr_value.proofs.StackLaws.{field_there, inner_depth}
 use Rattle.jfr_value.proofs.StringLaws.{is_exact}
 use Rattle.jfr_value.proofs.WalkLaws.{first_of}
 
--- Targets that are taken after others, none, and one.
-pub takes_append : {A : Type 0} (takes : ℕ × ℕ → A → A → Type 0) (ts us : List (ℕ × ℕ)) (a b c : A) → TakesAll takes ts a b → TakesAll takes us b c → TakesAll takes (ts ++ us) a c
-takes_append takes [] us a b c e h = subst (λ z. TakesAll takes us z c) (sym e) h
-takes_append takes (t ∷ ts) us a b c g h = (g.0, g.1, takes_append takes ts us g.0 b c g.2 h)
+-- Members that are taken after others.
+pub takes_append : {A X : Type 0} (takes : X → A → A → Type 0) (xs ys : List X) (a b c : A) → TakesAll takes xs a b → TakesAll takes ys b c → TakesAll takes (xs ++ ys) a c
+takes_append takes [] ys a b c e h = subst (λ z. TakesAll takes ys z c) (sym e) h
+takes_append takes (x ∷ xs) ys a b c g h = (g.0, g.1, takes_append takes xs ys g.0 b c g.2 h)
 
-pub takes_none : {A : Type 0} (takes : ℕ × ℕ → A → A → Type 0) (ts : List (ℕ × ℕ)) (a : A) → ts ≡ [] → TakesAll takes ts a a
-takes_none takes ts a e = subst (λ z. TakesAll takes z a a) (sym e) refl
-
-pub takes_one : {A : Type 0} (takes : ℕ × ℕ → A → A → Type 0) (ts : List (ℕ × ℕ)) (t : ℕ × ℕ) (a b : A) → ts ≡ t ∷ [] → takes t a b → TakesAll takes ts a b
-takes_one takes ts t a b e h = subst (λ z. TakesAll takes z a b) (sym e) (b, h, refl)
+-- A visitor that takes what each leaf refers to, takes all to which they refer.
+pub takes_targets : {A : Type 0} (takes : ℕ × ℕ → A → A → Type 0) (ls : List LeafAt) (old new : A) → TakesAll (λ l. TakesAll takes (option_to_list (leaf_target l))) ls old new → TakesAll takes (filter_map leaf_target ls) old new
+takes_targets takes [] old new h = h
+takes_targets takes (l ∷ ls) old new h = by_target (leaf_target l) h.1 (takes_targets takes ls h.0 new h.2)
+  where
+    by_target : (o : Option (ℕ × ℕ)) → TakesAll takes (option_to_list o) old h.0 → TakesAll takes (filter_map leaf_target ls) h.0 new → TakesAll takes (cons_option o (filter_map leaf_target ls)) old new
+    by_target None e rest = subst (λ z. TakesAll takes (filter_map leaf_target ls) z new) (sym e) rest
+    by_target (Some t) e rest = (e.0, e.1, subst (λ z. TakesAll takes (filter_map leaf_target ls) z new) (sym e.2) rest)
 
 module _ (k : Classes) (c : List ℕ) (at to end : ℕ) (s : Shape) (l : to ≤ end) (w : end ≤ length c) where
   -- A reference: its key is there.
@@ -231,51 +234,6 @@ module _ (k : Classes) (c : List ℕ) (at to : ℕ) where
       let d = placed_some k s.class place q in
       no_bytes n (item_of s) d.0 vs r refl o (placed_class k s.class place q ∙ d.1) (subst (λ z. IfSome z IsHollow) d.1 h)
 
--- A loop over values one after another: those that are left lie from an offset on, and what they refer to
--- still has to be taken, with a step for each of their leaves.
-pub record StillToVisit {A : Type 0} (takes : ℕ × ℕ → A → A → Type 0) (k : Classes) (c : List ℕ) (at to : ℕ) (vs : Values) (old : A) (before : ℕ) (ss : List Shape) (from : ℕ) (now : A) (after : ℕ) : Type 0 where
-  pub others : Values
-  pub row : AreValues k c from to ss others
-  pub taken : (new : A) → TakesAll takes (targets_of_all others) now new → TakesAll takes (targets_of_all vs) old new
-  pub steps : after + length (leaves_from (λ n. None) from others) ≡ before + length (leaves_from (λ n. None) at vs)
-
-module _ {A : Type 0} (takes : ℕ × ℕ → A → A → Type 0) (k : Classes) (c : List ℕ) (at to : ℕ) (vs : Values) (old : A) (before : ℕ) where
-  pub left_ends : (ss : List Shape) (from : ℕ) (now : A) (after : ℕ) → StillToVisit takes k c at to vs old before ss from now after → ss ≡ [] → (from ≡ to) × TakesAll takes (targets_of_all vs) old now × (after ≡ before + length (leaves_from (λ n. None) at vs))
-  left_ends ss from now after f e =
-      let n = none_left k c from to ss f.others f.row e in
-      (n.ends, f.taken now (takes_none takes (targets_of_all f.others) now n.targets), (let x = n.leaves in let y = f.steps in omega arith))
-
-  -- The first value.
-  pub record FirstRemaining (s : Shape) (from : ℕ) : Type 0 where
-    pub place : ℕ
-    pub value : Value
-    pub node : IsNode k c (node_at s from place) value
-    pub within : place ≤ to
-
-  pub left_there : (s : Shape) (ss us : List Shape) (from : ℕ) (now : A) (after : ℕ) → StillToVisit takes k c at to vs old before us from now after → us ≡ s ∷ ss → FirstRemaining s from
-  left_there s ss us from now after f e =
-      let g = first_of k c from to s ss f.others (subst (λ z. AreValues k c from to z f.others) e f.row) in
-      record { place = from + length (bytes_of g.value); value = g.value; node = record { shape = sym g.shape; order = g.holds.order; within = g.holds.within; bytes = g.holds.bytes; fits = g.fits }; within = g.row.order }
-
-  -- What is left after it.
-  pub left_goes : (s : Shape) (ss us : List Shape) (from : ℕ) (now : A) (after end result : ℕ) (new : A) (next : ℕ) → StillToVisit takes k c at to vs old before us from now after → us ≡ s ∷ ss → to ≤ end
-      → ((p : ℕ) (v : Value) → IsNode k c (node_at s from p) v → p ≤ end → (result ≡ p) × TakesAll takes (targets_of v) now new × (next ≡ after + length (leaves_at None from v)))
-      → StillToVisit takes k c at to vs old before ss result new next
-  left_goes s ss us from now after end result new next f d l x =
-      let g = first_of k c from to s ss f.others (subst (λ z. AreValues k c from to z f.others) d f.row) in
-      let p = from + length (bytes_of g.value) in
-      let n : IsNode k c (node_at s from p) g.value = record { shape = sym g.shape; order = g.holds.order; within = g.holds.within; bytes = g.holds.bytes; fits = g.fits } in
-      let m : p ≤ end = (let q = g.row.order in omega arith) in
-      let (e, t, u) = x p g.value n m in
-      let y : length (leaves_from (λ n. None) from f.others) ≡ length (leaves_at None from g.value) + length (leaves_from (λ n. None) p g.others) = ap (λ q. length (leaves_from (λ n. None) from q)) g.are ∙ length-append (leaves_at None from g.value) (leaves_from (λ n. None) p g.others) in
-      let z : length (leaves_from (λ n. None) result g.others) ≡ length (leaves_from (λ n. None) p g.others) = ap (λ q. length (leaves_from (λ n. None) q g.others)) e in
-      record {
-        others = g.others;
-        row = subst (λ q. AreValues k c q to ss g.others) (sym e) g.row;
-        taken = λ last h. f.taken last (subst (λ q. TakesAll takes (targets_of_all q) now last) (sym g.are) (takes_append takes (targets_of g.value) (targets_of_all g.others) now new last t h));
-        steps = (let i = f.steps in omega arith);
-      }
-
 -- The shapes of fields and of items from a number on.
 drop_map : (fs : List Field) (i : ℕ) (f : Field) → slice_get fs i ≡ Some f → drop i (map (λ f. f.shape) fs) ≡ f.shape ∷ drop (i + 1) (map (λ f. f.shape) fs)
 drop_map [] i f e = cc
@@ -288,10 +246,10 @@ field_next k place number f s e q =
     let h : field_shapes k place ≡ map (λ f. f.shape) t.0.fields = ap (λ o. option_map_or (λ c. map (λ f. f.shape) c.fields) o []) t.1 in
     ap (drop number) h ∙ (drop_map t.0.fields number f t.2 ∙ (ap (λ z. z ∷ drop (number + 1) (map (λ f. f.shape) t.0.fields)) (sym q) ∙ ap (λ z. s ∷ drop (number + 1) z) (sym h)))
 
-pub item_next : (n i : ℕ) (s : Shape) → i < n → replicate (n - i) s ≡ s ∷ replicate (n - (i + 1)) s
+pub item_next : {X : Type 0} (n i : ℕ) (s : X) → i < n → replicate (n - i) s ≡ s ∷ replicate (n - (i + 1)) s
 item_next n i s h = let e : n - i ≡ suc (n - (i + 1)) = omega arith in ap (λ z. replicate z s) e
 
-pub items_past : (n i : ℕ) (s : Shape) → n ≤ i → replicate (n - i) s ≡ []
+pub items_past : {X : Type 0} (n i : ℕ) (s : X) → n ≤ i → replicate (n - i) s ≡ []
 items_past n i s h = let e : n - i ≡ 0 = omega arith in ap (λ z. replicate z s) e
 
 pub fields_past : (k : Classes) (place number : ℕ) → place < length k → IfSome (slice_get k place) (λ c. length c.fields ≤ number) → drop number (field_shapes k place) ≡ []

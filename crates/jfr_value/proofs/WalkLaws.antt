@@ -40,6 +40,11 @@ use Rattle.jfr_value.proofs.PlaceLaws.{get_within, placed_class, placed_some, pl
 use Rattle.jfr_value.proofs.FitLaws.{is_base}
 use Rattle.jfr_value.proofs.RowLaws.{row_stands, hollow_bytes}
 
+-- What can't be missing is there.
+pub some_there : {X : Type 0} (o : Option X) → (o ≡ None → ⊥) → IsSome o
+some_there None h = absurd (h refl)
+some_there (Some x) h = refl
+
 -- Values followed by others.
 abbrev pub behind : Values → Values → Values
 behind Nil us = us

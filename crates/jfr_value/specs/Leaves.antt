@@ -1,7 +1,7 @@
 -- The leaves of a value: the values of base names, the keys of references and the counts of arrays.
-use Rattle.std.specs.Prelude.{ℕ, zero, suc, ◌+◌, List, [], ◌∷◌, ◌++◌, length, Option, Some, None, ◌==◌, if◌then◌else◌}
+use Rattle.std.specs.Prelude.{◌≡◌, ℕ, zero, suc, ◌+◌, List, [], ◌∷◌, ◌++◌, length, Option, Some, None, ◌==◌, if◌then◌else◌}
 use Rattle.std.specs.Option.{option_map, option_map_or}
-use Rattle.jfr_base.specs.Integer.{worth_within}
+use Rattle.jfr_base.specs.Integer.{IsSpellingWithin, worth_within}
 use Rattle.jfr_layout.specs.Classes.{Classes}
 use Rattle.jfr_layout.specs.declared.kind.Kind.TheVariants as kinds
 use Rattle.jfr_layout.specs.declared.shape.Shape.{Shape}
@@ -59,6 +59,10 @@ leaf_key (leaf_kinds.Key key) spelled = Some key
 leaf_key (leaf_kinds.Count n) spelled = None
 leaf_key (leaf_kinds.Base kinds.Text) spelled = spelled_key spelled
 leaf_key (leaf_kinds.Base kind) spelled = None
+
+-- In a string that is a key, one integer follows the kind byte.
+abbrev pub KeyIsSpelled : LeafAt → Type 0
+KeyIsSpelled l = l.kind ≡ leaf_kinds.Base kinds.Text → (rest : List ℕ) → l.spelled ≡ 2 ∷ rest → IsSpellingWithin 8 rest
 
 -- The class and the key to which a leaf refers, if it does.
 abbrev pub leaf_target : LeafAt → Option (ℕ × ℕ)

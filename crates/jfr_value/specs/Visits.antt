@@ -1,15 +1,20 @@
--- A visit of a value: the visitor takes what the value refers to, from left to right.
-use Rattle.std.specs.Prelude.{◌≡◌, ℕ, List, [], ◌∷◌, IfOk, map, slice_get}
+-- A visit of a value: the visitor takes its leaves, or what they refer to, from left to right.
+use Rattle.std.specs.Prelude.{◌≡◌, ℕ, ◌+◌, List, [], ◌∷◌, ◌++◌, length, IfOk, Option, map, slice_get}
+use Rattle.std.specs.List.{AllByRecursion}
 use Rattle.std.specs.Option.{option_map_or}
 use Rattle.jfr_base.specs.Formats.{Answer}
 use Rattle.jfr_layout.specs.Classes.{Classes}
 use Rattle.jfr_layout.specs.declared.shape.Shape.{Shape}
-use Rattle.jfr_value.specs.Values.{Value, targets_of, targets_of_all, values_of}
+use Rattle.jfr_value.specs.declared.leaf.Holder.{Holder}
+use Rattle.jfr_value.specs.Values.{Value, Values, targets_of, targets_of_all, values_of}
+use Rattle.jfr_value.specs.Nodes.{AreValues}
+use Rattle.jfr_value.specs.Leaves.{LeafAt}
+use Rattle.jfr_value.specs.Walks.{leaves_held}
 
--- The visitor takes the targets one after another, which changes it from old to new.
-abbrev pub TakesAll : {A : Type 0} → (ℕ × ℕ → A → A → Type 0) → List (ℕ × ℕ) → A → A → Type 0
+-- The visitor takes the members of a list one after another, which changes it from old to new.
+abbrev pub TakesAll : {A X : Type 0} → (X → A → A → Type 0) → List X → A → A → Type 0
 TakesAll takes [] old new = old ≡ new
-TakesAll {A = A} takes (t ∷ ts) old new = (next : A) × takes t old next × TakesAll takes ts next new
+TakesAll {A = A} takes (x ∷ xs) old new = (next : A) × takes x old next × TakesAll takes xs next new
 
 -- If a value was read, the visitor takes what it refers to.
 abbrev pub TakesRead : {A : Type 0} → (ℕ × ℕ → A → A → Type 0) → Answer Value → A → A → Type 0
@@ -22,3 +27,28 @@ TakesReadAll takes answer old new = IfOk answer (λ got. TakesAll takes (targets
 -- The shapes of the fields of the class with this index.
 abbrev pub field_shapes : Classes → ℕ → List Shape
 field_shapes k place = option_map_or (λ c. map (λ f. f.shape) c.fields) (slice_get k place) []
+
+-- Values of these shapes and with these holders are at an offset, and maybe others follow up to the end; all of their
+-- leaves are admitted.
+pub record AreToVisit (admits : LeafAt → Type 0) (k : Classes) (c : List ℕ) (end : ℕ) (gs : List (Option Holder)) (ss : List Shape) (at : ℕ) : Type 0 where
+  pub other_holders : List (Option Holder)
+  pub other_shapes : List Shape
+  pub values : Values
+  pub row : AreValues k c at end (ss ++ other_shapes) values
+  pub admitted : AllByRecursion admits (leaves_held (gs ++ other_holders) at values)
+
+-- Of these leaves, the first ones were taken, with a step for each. Values of these shapes and with these holders are
+-- left from an offset on, and their leaves are the others.
+pub record Passed {A : Type 0} (takes : LeafAt → A → A → Type 0) (k : Classes) (c : List ℕ) (end : ℕ) (all : List LeafAt) (old : A) (before : ℕ) (hs : List (Option Holder)) (us : List Shape) (to : ℕ) (new : A) (after : ℕ) : Type 0 where
+  pub first : List LeafAt
+  pub others : Values
+  pub row : AreValues k c to end us others
+  pub leaves : all ≡ first ++ leaves_held hs to others
+  pub taken : TakesAll takes first old new
+  pub steps : after ≡ before + length first
+
+-- A visit that begins with values of the first shapes and holders, and has those of the second ones left, whatever
+-- follows them.
+abbrev pub Visits : {A : Type 0} → (LeafAt → A → A → Type 0) → Classes → List ℕ → ℕ → List (Option Holder) → List Shape → ℕ → A → ℕ → List (Option Holder) → List Shape → ℕ → A → ℕ → Type 0
+Visits takes k c end gs ss at old before hs ts to new after =
+    (is : List (Option Holder)) (us : List Shape) (vs : Values) → AreValues k c at end (ss ++ us) vs → Passed takes k c end (leaves_held (gs ++ is) at vs) old before (hs ++ is) (ts ++ us) to new after

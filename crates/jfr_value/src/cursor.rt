@@ -15,7 +15,7 @@ use crate::part::item_of;
 use crate::stack::{Frame, NextValue, RemainingFields, Stack};
 use crate::walk::Walk;
 use crate::{Holder, Leaf, LeafKind};
-use jfr_base::read_within;
+use jfr_base::known_integer;
 use jfr_layout::{Classes, Kind, Shape};
 
 /// The state of a walk: the offset that it has reached, and the values that are left. Those of the last frame
@@ -171,9 +171,7 @@ fn enter_array<'a>(cursor: &mut Cursor, walk: &Walk<'_, 'a, ()>, value: NextValu
     ensures frames { AreFrames walk.now.classes.now 0 cursor.new.stack }
     ensures remaining { (vs : Values) → AreValues walk.now.classes.now walk.now.bytes.now cursor.old.at walk.now.end (value.shape ∷ remaining_shapes walk.now.classes.now cursor.old.stack) vs → GoesOn walk.now.classes.now walk.now.bytes.now walk.now.end (value.holder ∷ remaining_holders walk.now.classes.now cursor.old.stack) cursor.old.at vs (size_of_all vs + length cursor.old.stack) cursor.new result }
 {
-    let Ok(count) = read_within(walk.bytes, cursor.at, walk.end) else {
-        unreachable!()
-    };
+    let count = known_integer(walk.bytes, cursor.at, walk.end);
     let kind = LeafKind::Count(count.value);
     let leaf = leaf_to(walk.bytes, cursor.at, count.end, kind, value);
     cursor.at = count.end;
@@ -191,7 +189,7 @@ fn enter_array<'a>(cursor: &mut Cursor, walk: &Walk<'_, 'a, ()>, value: NextValu
 }
 
 /// The number of items of an array that are walked: none if items have no bytes.
-fn items_to_walk(classes: &Classes, shape: Shape, place: usize, count: u64) -> u64
+pub(crate) fn items_to_walk(classes: &Classes, shape: Shape, place: usize, count: u64) -> u64
     ensures { (result ≡ count) ⊎ ((result ≡ 0) × (shape.constant ≡ false) × (place < length classes.now) × IfSome (slice_get classes.now place) IsHollow) }
 {
     if shape.constant || place >= classes.len() {
@@ -211,9 +209,7 @@ fn enter_key<'a>(cursor: &mut Cursor, walk: &Walk<'_, 'a, ()>, value: NextValue)
     ensures stack { cursor.new.stack ≡ cursor.old.stack }
     ensures remaining { (vs : Values) → AreValues walk.now.classes.now walk.now.bytes.now cursor.old.at walk.now.end (value.shape ∷ remaining_shapes walk.now.classes.now cursor.old.stack) vs → GoesOn walk.now.classes.now walk.now.bytes.now walk.now.end (value.holder ∷ remaining_holders walk.now.classes.now cursor.old.stack) cursor.old.at vs (size_of_all vs + length cursor.old.stack) cursor.new result }
 {
-    let Ok(key) = read_within(walk.bytes, cursor.at, walk.end) else {
-        unreachable!()
-    };
+    let key = known_integer(walk.bytes, cursor.at, walk.end);
     let kind = LeafKind::Key(key.value);
     let leaf = leaf_to(walk.bytes, cursor.at, key.end, kind, value);
     cursor.at = key.end;

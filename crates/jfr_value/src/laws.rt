@@ -6,7 +6,8 @@ ghost use Rattle.jfr_layout.specs.Classes.{Agree, Class, Classes, Sound, find_cl
 ghost use Rattle.jfr_layout.specs.declared.kind.Kind.TheVariants as kinds;
 ghost use Rattle.jfr_layout.specs.declared.shape.Shape.{Shape};
 ghost use Rattle.jfr_value.specs.Laws.{AreRead, Cover, HasOneAnswer, ItemsCover, LeavesInOrder, RefersByParts, SameNode, SameSteps};
-ghost use Rattle.jfr_value.specs.Leaves.{leaves};
+ghost use Rattle.std.specs.List.{AllByRecursion};
+ghost use Rattle.jfr_value.specs.Leaves.{KeyIsSpelled, leaves};
 ghost use Rattle.jfr_value.specs.declared.leaf.Holder.{Holder};
 ghost use Rattle.jfr_value.specs.Nodes.{Both, IsNode, NodeAt, children, node_at, target, targets, value_of};
 ghost use Rattle.jfr_value.specs.Reading.{value_format};
@@ -38,6 +39,11 @@ pub fn refers_by_parts()
 /// A node has no more leaves than bytes.
 pub fn leaves_within_bytes()
     ensures { (k : Classes) (c : List ℕ) (n : NodeAt) (v : Value) → Sound k → IsNode k c n v → length (leaves k c n) ≤ n.end - n.at }
+{}
+
+/// In each leaf that is a string and a key, the key is spelled after the kind byte.
+pub fn keys_are_spelled()
+    ensures { (k : Classes) (c : List ℕ) (n : NodeAt) (v : Value) → Sound k → IsNode k c n v → AllByRecursion KeyIsSpelled (leaves k c n) }
 {}
 
 /// A value is read from one offset up to another exactly if it is the value of the node between them.

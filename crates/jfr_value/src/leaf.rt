@@ -1,6 +1,11 @@
 //! The leaves of a value.
+ghost use Rattle.std.specs.Prelude.{◌≡◌, ◌∷◌, ℕ, List};
+ghost use Rattle.jfr_base.specs.Integer.{IsSpellingWithin};
+ghost use Rattle.jfr_value.specs.Leaves.{KeyIsSpelled, leaf_key, leaf_of, spelled_key};
 
+use jfr_base::known_integer;
 use jfr_layout::Kind;
+use jfr_text::is_key;
 
 /// The kind of a leaf.
 #[derive(Clone, Copy, Debug, PartialEq, Eq)]
@@ -36,4 +41,31 @@ pub struct Leaf<'a> {
     pub at: usize,
     /// Its bytes.
     pub spelled: &'a [u8],
+}
+
+impl Leaf<'_> {
+    /// The key of a reference, or of a string that is a key. `None` for all other leaves.
+    #[inline(always)]
+    pub fn key(&self) -> Option<u64>
+        requires { KeyIsSpelled (leaf_of self.now) }
+        ensures { result ≡ leaf_key self.now.kind self.now.spelled.now }
+    {
+        match self.kind {
+            LeafKind::Key(key) => Some(key),
+            LeafKind::Base(Kind::Text) => string_key(self.spelled),
+            _ => None,
+        }
+    }
+}
+
+/// The key of a string, if the string is one.
+#[inline(always)]
+fn string_key(spelled: &[u8]) -> Option<u64>
+    requires { (rest : List ℕ) → spelled.now ≡ 2 ∷ rest → IsSpellingWithin 8 rest }
+    ensures { result ≡ spelled_key spelled.now }
+{
+    if !is_key(spelled, 0, spelled.len()) {
+        return None;
+    }
+    Some(known_integer(spelled, 1, spelled.len()).value)
 }

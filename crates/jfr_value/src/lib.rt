@@ -24,6 +24,7 @@ mod integers;
 mod keys;
 mod laws;
 mod leaf;
+mod leaf_visit;
 mod leaves;
 mod node;
 mod part;
@@ -35,10 +36,11 @@ mod walk;
 
 pub use extent::{end_by_layout, end_of, end_visiting, item_layout, layout_of};
 pub use laws::{
-    children_are_parts, leaves_in_order, leaves_within_bytes, nodes_are_read, one_answer,
-    refers_by_parts, refers_in_order, same_bytes, values_are_read,
+    children_are_parts, keys_are_spelled, leaves_in_order, leaves_within_bytes, nodes_are_read,
+    one_answer, refers_by_parts, refers_in_order, same_bytes, values_are_read,
 };
 pub use leaf::{Holder, Leaf, LeafKind};
+pub use leaf_visit::{VisitLeaf, visit_leaves};
 pub use leaves::Leaves;
 pub use node::{Node, Step};
 pub use part::child;

@@ -8,7 +8,7 @@ ghost use Rattle.jfr_value.specs.Values.{IsLayoutOrKey, Values, list_of};
 use crate::extent::{NoVisit, is_hollow, layout_end, layout_of};
 use crate::walk::{LEVELS, Walk};
 use crate::{Node, Step};
-use jfr_base::{Var, read_within};
+use jfr_base::{Var, known_integer};
 use jfr_layout::{Classes, FieldLayout, Kind, Shape};
 
 /// The field or the item of a node to which a step leads; the node must be one of a value. `None` exactly if
@@ -59,9 +59,7 @@ fn item<'a>(classes: &Classes, node: &Node<'a>, number: u64) -> Option<Node<'a>>
     if !node.shape.array {
         return None;
     }
-    let Ok(count) = read_within(node.bytes, node.at, node.end) else {
-        unreachable!()
-    };
+    let count = known_integer(node.bytes, node.at, node.end);
     if number >= count.value {
         return None;
     }

@@ -7,9 +7,9 @@ ghost use Rattle.jfr_value.specs.Values.{key_of};
 
 use crate::Node;
 use crate::extent::layout_of;
-use jfr_base::read_within;
+use jfr_base::known_integer;
 use jfr_layout::{Classes, Form};
-use jfr_text::{StringKind, read_string};
+use jfr_text::{StringKind, known_string};
 
 /// The class and the key to which a value itself refers: those of a reference, or of a string that is a key.
 /// `None` exactly if it refers to nothing, or only its parts do.
@@ -35,10 +35,7 @@ fn reference_key(node: &Node<'_>) -> u64
     requires holds { IsSome (int_at node.now.bytes.now node.now.at node.now.end) }
     ensures { IfSome (int_at node.now.bytes.now node.now.at node.now.end) (λ key. result ≡ key.value) }
 {
-    match read_within(node.bytes, node.at, node.end) {
-        Ok(key) => key.value,
-        Err(_) => unreachable!(),
-    }
+    known_integer(node.bytes, node.at, node.end).value
 }
 
 /// The key of a string, if the string is one.
@@ -48,11 +45,9 @@ fn string_key(node: &Node<'_>) -> Option<u64>
     requires holds { IsOk (run (string_format true) node.now.bytes.now node.now.end node.now.at) }
     ensures { IfOk (run (string_format true) node.now.bytes.now node.now.end node.now.at) (λ got. result ≡ key_of got.value) }
 {
-    match read_string(node.bytes, node.at, node.end) {
-        Ok(string) => match string.kind {
-            StringKind::Key => Some(string.key),
-            _ => None,
-        },
-        Err(_) => unreachable!(),
+    let string = known_string(node.bytes, node.at, node.end);
+    match string.kind {
+        StringKind::Key => Some(string.key),
+        _ => None,
     }
 }

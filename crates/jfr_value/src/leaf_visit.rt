@@ -1,0 +1,278 @@
+//! The walk over the leaves of a value that is known to be there. `visit_targets` is built on it.
+ghost use Rattle.std.specs.Prelude.{◌≡◌, ◌≢◌, ◌+◌, ◌<◌, ◌≤◌, ◌∷◌, [], length, slice_range, true, false};
+ghost use Rattle.std.specs.List.{AllByRecursion};
+ghost use Rattle.jfr_layout.specs.Classes.{Sound};
+ghost use Rattle.jfr_layout.specs.declared.kind.Kind.TheVariants as kinds;
+ghost use Rattle.jfr_value.specs.Leaves.{LeafAt, leaf_of, leaves};
+ghost use Rattle.jfr_value.specs.Nodes.{IsValue, node_of};
+ghost use Rattle.jfr_value.specs.Visits.{AreToVisit, TakesAll, Visits, field_shapes};
+ghost use Rattle.jfr_value.specs.Walks.{IsLayoutIfKnown, DepthBound, fields_from};
+
+use crate::cursor::items_to_walk;
+use crate::extent::{base_end, item_layout, layout_of};
+use crate::walk::{LEVELS, Walk};
+use crate::{Holder, Leaf, LeafKind, Node, Steps};
+use jfr_base::known_integer;
+use jfr_layout::{Classes, FieldLayout, Form};
+use std::marker::Brand;
+use std::sync::ledger::{Blank, Ledger};
+
+/// A visitor takes the leaves of a value one by one. For each it may look something up in `with`, such as the pools.
+/// Every visitor of targets (`Visit`) is one: it takes what the leaves refer to.
+pub trait VisitLeaf<C> {
+    // Which leaves a visitor can take.
+    ghost admits: { C → LeafAt → Type 0 };
+
+    // Whether the visitor can take one now.
+    ghost ready: { Self → C → Type 0 };
+
+    // How taking a leaf changes the visitor.
+    ghost takes: { C → LeafAt → Self → Self → Type 0 };
+
+    /// Takes a leaf.
+    fn visit_leaf(&mut self, with: &C, leaf: Leaf<'_>)
+        requires admits { admits with.now (leaf_of leaf) }
+        requires ready { ready self.old with.now }
+        ensures ready { ready self.new with.now }
+        ensures takes { takes with.now (leaf_of leaf.entry) self.old self.new };
+}
+
+/// Where a value starts, the most composite classes that can be nested from there on, and the innermost field around
+/// it.
+#[derive(Clone, Copy)]
+struct Start {
+    at: usize,
+    levels: u32,
+    holder: Option<Holder>,
+}
+
+/// Passes the leaves of a node to the visitor, from left to right. It allocates nothing. The node must be one of a
+/// value.
+pub fn visit_leaves<C, V: VisitLeaf<C>>(classes: &Classes, node: Node<'_>, visitor: &mut V, with: &C)
+    requires value { IsValue classes.now node }
+    requires admits { AllByRecursion (V.admits with.now) (leaves classes.now node.bytes.now (node_of node)) }
+    requires ready { V.ready visitor.old with.now }
+    ensures exact { TakesAll (V.takes with.now) (leaves classes.now node.entry.bytes.now (node_of node.entry)) visitor.old visitor.new }
+    ensures ready { V.ready visitor.new with.now }
+{
+    visit_with_ledger::<C, V, Brand>(classes, node, visitor, with, Blank::new(1));
+}
+
+/// As `visit_leaves`, with a ledger for the steps.
+fn visit_with_ledger<C, V: VisitLeaf<C>, L: Ledger>(
+    classes: &Classes,
+    node: Node<'_>,
+    visitor: &mut V,
+    with: &C,
+    blank: Blank,
+)
+    requires value { IsValue classes.now node }
+    requires admits { AllByRecursion (V.admits with.now) (leaves classes.now node.bytes.now (node_of node)) }
+    requires ready { V.ready visitor.old with.now }
+    requires name { blank.name ≡ L.name }
+    requires parts { blank.parts ≡ L.parts }
+    requires some { 0 < blank.parts }
+    ensures exact { TakesAll (V.takes with.now) (leaves classes.now node.entry.bytes.now (node_of node.entry)) visitor.old visitor.new }
+    ensures ready { V.ready visitor.new with.now }
+{
+    let mut steps: Steps<L> = Steps::new(blank);
+    visit_leaves_and_count(classes, node, visitor, with, &mut steps);
+}
+
+/// As `visit_leaves`. It counts a step for each leaf.
+pub(crate) fn visit_leaves_and_count<C, V: VisitLeaf<C>, L: Ledger>(
+    classes: &Classes,
+    node: Node<'_>,
+    visitor: &mut V,
+    with: &C,
+    steps: &mut Steps<L>,
+)
+    requires value { IsValue classes.now node }
+    requires admits { AllByRecursion (V.admits with.now) (leaves classes.now node.bytes.now (node_of node)) }
+    requires ready { V.ready visitor.old with.now }
+    ensures exact { TakesAll (V.takes with.now) (leaves classes.now node.entry.bytes.now (node_of node.entry)) visitor.old visitor.new }
+    ensures ready { V.ready visitor.new with.now }
+    ensures cost { steps.new ≡ steps.old + length (leaves classes.now node.entry.bytes.now (node_of node.entry)) }
+{
+    let layout = layout_of(classes, node.shape);
+    let walk = Walk {
+        classes,
+        bytes: node.bytes,
+        end: node.end,
+        with,
+    };
+    let start = Start {
+        at: node.at,
+        levels: LEVELS,
+        holder: None,
+    };
+    let _end = visit_value(&walk, &layout, start, visitor, steps);
+}
+
+/// Visits a value with this layout, and returns where it ends.
+#[cycle(visits)]
+#[inline(always)]
+fn visit_value<C, V: VisitLeaf<C>, L: Ledger>(
+    walk: &Walk<'_, '_, C>,
+    layout: &FieldLayout,
+    start: Start,
+    visitor: &mut V,
+    steps: &mut Steps<L>,
+) -> usize
+    requires sound { Sound walk.now.classes.now }
+    requires layout { IsLayoutIfKnown walk.now.classes.now layout.now }
+    requires depth { DepthBound walk.now.classes.now start.levels layout.now.shape }
+    requires values { AreToVisit (V.admits walk.now.with.now) walk.now.classes.now walk.now.bytes.now walk.now.end (start.holder ∷ []) (layout.now.shape ∷ []) start.at }
+    requires ready { V.ready visitor.old walk.now.with.now }
+    ensures visited { Visits (V.takes walk.now.with.now) walk.now.classes.now walk.now.bytes.now walk.now.end (start.holder ∷ []) (layout.now.shape ∷ []) start.at visitor.old steps.old [] [] result visitor.new steps.new }
+    ensures ready { V.ready visitor.new walk.now.with.now }
+{
+    match layout.form {
+        Form::Integer | Form::Raw(_) | Form::Text => visit_base(walk, layout, start, visitor, steps),
+        Form::Key => visit_key(walk, layout, start, visitor, steps),
+        Form::Fields => {
+            let inner = Start {
+                at: start.at,
+                levels: start.levels - 1,
+                holder: start.holder,
+            };
+            visit_fields(walk, layout, inner, visitor, steps)
+        }
+        Form::Array => visit_array(walk, layout, start, visitor, steps),
+    }
+}
+
+/// Visits the fields of a value with this layout, and returns where they end.
+#[cycle(visits)]
+fn visit_fields<C, V: VisitLeaf<C>, L: Ledger>(
+    walk: &Walk<'_, '_, C>,
+    layout: &FieldLayout,
+    start: Start,
+    visitor: &mut V,
+    steps: &mut Steps<L>,
+) -> usize
+    requires sound { Sound walk.now.classes.now }
+    requires placed { layout.now.class_index < length walk.now.classes.now }
+    requires depth { AllByRecursion (DepthBound walk.now.classes.now start.levels) (field_shapes walk.now.classes.now layout.now.class_index) }
+    requires values { AreToVisit (V.admits walk.now.with.now) walk.now.classes.now walk.now.bytes.now walk.now.end (fields_from layout.now.shape.class 0 (field_shapes walk.now.classes.now layout.now.class_index)) (field_shapes walk.now.classes.now layout.now.class_index) start.at }
+    requires ready { V.ready visitor.old walk.now.with.now }
+    ensures visited { Visits (V.takes walk.now.with.now) walk.now.classes.now walk.now.bytes.now walk.now.end (fields_from layout.now.shape.class 0 (field_shapes walk.now.classes.now layout.now.class_index)) (field_shapes walk.now.classes.now layout.now.class_index) start.at visitor.old steps.old [] [] result visitor.new steps.new }
+    ensures ready { V.ready visitor.new walk.now.with.now }
+{
+    let class = layout.shape.class;
+    let mut to = start.at;
+    for (field, layout) in walk.classes.layouts(layout.class_index).iter().enumerate() {
+        let next = Start {
+            at: to,
+            levels: start.levels,
+            holder: Some(Holder { class, field }),
+        };
+        to = visit_value(walk, layout, next, visitor, steps);
+    }
+    to
+}
+
+/// Visits an array, whose count is a leaf, and returns where it ends.
+#[cycle(visits)]
+fn visit_array<C, V: VisitLeaf<C>, L: Ledger>(
+    walk: &Walk<'_, '_, C>,
+    layout: &FieldLayout,
+    start: Start,
+    visitor: &mut V,
+    steps: &mut Steps<L>,
+) -> usize
+    requires sound { Sound walk.now.classes.now }
+    requires array { layout.now.shape.array ≡ true }
+    requires layout { IsLayoutIfKnown walk.now.classes.now layout.now }
+    requires depth { DepthBound walk.now.classes.now start.levels layout.now.shape }
+    requires values { AreToVisit (V.admits walk.now.with.now) walk.now.classes.now walk.now.bytes.now walk.now.end (start.holder ∷ []) (layout.now.shape ∷ []) start.at }
+    requires ready { V.ready visitor.old walk.now.with.now }
+    ensures visited { Visits (V.takes walk.now.with.now) walk.now.classes.now walk.now.bytes.now walk.now.end (start.holder ∷ []) (layout.now.shape ∷ []) start.at visitor.old steps.old [] [] result visitor.new steps.new }
+    ensures ready { V.ready visitor.new walk.now.with.now }
+{
+    let count = known_integer(walk.bytes, start.at, walk.end);
+    let kind = LeafKind::Count(count.value);
+    let leaf = leaf_to(walk.bytes, start, count.end, kind, layout.shape.class);
+    visitor.visit_leaf(walk.with, leaf);
+    steps.tick();
+    let items = items_to_walk(walk.classes, layout.shape, layout.class_index, count.value);
+    let item = item_layout(layout);
+    let mut to = count.end;
+    'items: for _ in 0..items {
+        let next = Start {
+            at: to,
+            levels: start.levels,
+            holder: start.holder,
+        };
+        to = visit_value(walk, &item, next, visitor, steps);
+    }
+    to
+}
+
+/// Visits a reference, whose key is a leaf, and returns where it ends.
+#[inline(always)]
+fn visit_key<C, V: VisitLeaf<C>, L: Ledger>(
+    walk: &Walk<'_, '_, C>,
+    layout: &FieldLayout,
+    start: Start,
+    visitor: &mut V,
+    steps: &mut Steps<L>,
+) -> usize
+    requires array { layout.now.shape.array ≡ false }
+    requires constant { layout.now.shape.constant ≡ true }
+    requires values { AreToVisit (V.admits walk.now.with.now) walk.now.classes.now walk.now.bytes.now walk.now.end (start.holder ∷ []) (layout.now.shape ∷ []) start.at }
+    requires ready { V.ready visitor.old walk.now.with.now }
+    ensures visited { Visits (V.takes walk.now.with.now) walk.now.classes.now walk.now.bytes.now walk.now.end (start.holder ∷ []) (layout.now.shape ∷ []) start.at visitor.old steps.old [] [] result visitor.new steps.new }
+    ensures ready { V.ready visitor.new walk.now.with.now }
+{
+    let key = known_integer(walk.bytes, start.at, walk.end);
+    let kind = LeafKind::Key(key.value);
+    let leaf = leaf_to(walk.bytes, start, key.end, kind, layout.shape.class);
+    visitor.visit_leaf(walk.with, leaf);
+    steps.tick();
+    key.end
+}
+
+/// Visits a value of a base name, which is a leaf, and returns where it ends.
+#[inline(always)]
+fn visit_base<C, V: VisitLeaf<C>, L: Ledger>(
+    walk: &Walk<'_, '_, C>,
+    layout: &FieldLayout,
+    start: Start,
+    visitor: &mut V,
+    steps: &mut Steps<L>,
+) -> usize
+    requires array { layout.now.shape.array ≡ false }
+    requires constant { layout.now.shape.constant ≡ false }
+    requires layout { IsLayoutIfKnown walk.now.classes.now layout.now }
+    requires base { layout.now.kind ≢ kinds.Composite }
+    requires values { AreToVisit (V.admits walk.now.with.now) walk.now.classes.now walk.now.bytes.now walk.now.end (start.holder ∷ []) (layout.now.shape ∷ []) start.at }
+    requires ready { V.ready visitor.old walk.now.with.now }
+    ensures visited { Visits (V.takes walk.now.with.now) walk.now.classes.now walk.now.bytes.now walk.now.end (start.holder ∷ []) (layout.now.shape ∷ []) start.at visitor.old steps.old [] [] result visitor.new steps.new }
+    ensures ready { V.ready visitor.new walk.now.with.now }
+{
+    let Ok(to) = base_end(layout.kind, walk.bytes, start.at, walk.end) else {
+        unreachable!()
+    };
+    let kind = LeafKind::Base(layout.kind);
+    let leaf = leaf_to(walk.bytes, start, to, kind, layout.shape.class);
+    visitor.visit_leaf(walk.with, leaf);
+    steps.tick();
+    to
+}
+
+/// The value that starts here and ends at an offset, as a leaf of this kind and class.
+#[inline(always)]
+fn leaf_to(bytes: &[u8], start: Start, to: usize, kind: LeafKind, class: u64) -> Leaf<'_>
+    requires order { start.at ≤ to }
+    requires within { to ≤ length bytes.now }
+    ensures { leaf_of result ≡ record { kind = kind; class = class; holder = start.holder; at = start.at; spelled = slice_range bytes.now start.at to } }
+{
+    Leaf {
+        kind,
+        class,
+        holder: start.holder,
+        at: start.at,
+        spelled: &bytes[start.at..to],
+    }
+}
