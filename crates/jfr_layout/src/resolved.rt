@@ -160,6 +160,13 @@ impl Resolved {
         })
     }
 
+    /// The classes, in order.
+    pub fn as_slice(&self) -> &[ClassInfo]
+        ensures { result.now ≡ self.now }
+    {
+        self.list.as_slice()
+    }
+
     /// The number of classes.
     pub fn len(&self) -> usize
         ensures { result ≡ length self.now }
