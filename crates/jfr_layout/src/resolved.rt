@@ -75,8 +75,8 @@ fn layouts_of(
 {
     let fields = &list.at(class).fields;
     let mut layouts = Vec::with_capacity(alloc, fields.len())?;
-    for number in 0..fields.len() {
-        let shape = fields.at(number).shape;
+    for (number, field) in fields.as_slice().iter().enumerate() {
+        let shape = field.shape;
         match index.index_of(shape.class) {
             Some(class_index) => layouts.push(FieldLayout::new(
                 shape,
