@@ -62,13 +62,11 @@ fn put_each(list: &mut Worklist, classes: &Classes, strings: &Words, elements: &
     }
 }
 
-/// Marks the class with this index if it isn't an event class or is used.
-fn put_first_at(list: &mut Worklist, classes: &Classes, used: &Ids, at: usize)
+/// Marks the class with this id if it isn't an event class or is used.
+fn put_first_id(list: &mut Worklist, classes: &Classes, used: &Ids, id: u64)
     requires size { length list.old.flags.items ≡ length classes.now }
-    requires within { at < length classes.now }
-    ensures puts { IfSome (slice_get classes.now at) (λ c. Puts (those (class_index classes.now) (if not (is_event_class classes.now c.id) || is_in used.now c.id then c.id ∷ [] else [])) list.old list.new) }
+    ensures puts { Puts (those (class_index classes.now) (if not (is_event_class classes.now id) || is_in used.now id then id ∷ [] else [])) list.old list.new }
 {
-    let id = classes.class_at(at).id;
     if !classes.is_event(id) {
         put_class(list, classes, id);
         return;
@@ -83,8 +81,8 @@ fn put_first(list: &mut Worklist, classes: &Classes, used: &Ids)
     requires size { length list.old.flags.items ≡ length classes.now }
     ensures puts { Puts (those (class_index classes.now) (first_ids classes.now (is_in used.now))) list.old list.new }
 {
-    for at in 0..classes.len() {
-        put_first_at(list, classes, used, at);
+    for class in classes.as_slice() {
+        put_first_id(list, classes, used, class.id);
     }
 }
 
