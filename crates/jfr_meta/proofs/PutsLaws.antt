@@ -1,5 +1,5 @@
 -- What is put one after another.
-use Rattle.std.specs.Prelude.{◌≡◌, ℕ, zero, suc, ◌+◌, ◌<◌, ◌≤◌, Bool, true, false, not, ◌&&◌, ◌||◌, ◌==◌, nat_lt, List, [], ◌∷◌, ◌++◌, length, take, map, filter, replicate, slice_get, slice_index, Option, Some, None, IfSome, if◌then◌else◌, codes}
+use Rattle.std.specs.Prelude.{◌≡◌, ℕ, zero, suc, ◌+◌, ◌<◌, ◌≤◌, Bool, true, false, not, ◌&&◌, ◌||◌, ◌==◌, nat_lt, List, [], ◌∷◌, ◌++◌, length, take, map, filter, replicate, slice_get, slice_index, Option, Some, None, if◌then◌else◌, codes}
 use Rattle.std.specs.List.{flat_map, filter_map, cons_option}
 use Rattle.std.specs.Option.{option_map_or, option_to_list}
 use Rattle.std.proofs.Common.{ap, refl, sym, ◌∙◌, arith, subst, append-nil}
@@ -9,7 +9,7 @@ use Rattle.std.proofs.lemmas.List.{length-replicate, take_all}
 use Rattle.std.proofs.lemmas.List.Elements.{filter_map-append}
 use Rattle.std.proofs.lemmas.Grind.{flat_map-append}
 use Rattle.jfr_layout.specs.Classes.{Class, Classes, Sound, class_index, is_event_class}
-use Rattle.jfr_layout.proofs.Lists.{take_next, present}
+use Rattle.jfr_layout.proofs.Lists.{take_next}
 use Rattle.jfr_layout.proofs.SoundLaws.{are_found}
 use Rattle.jfr_meta.specs.Trees.{Tree, Node, Trees, Nil, Cons, list_of, children_of}
 use Rattle.jfr_meta.specs.Described.{id_attribute}
@@ -21,7 +21,7 @@ use Rattle.jfr_worklist.specs.declared.worklist.Worklist.{Worklist}
 use Rattle.jfr_worklist.proofs.Members.{in_those, those_append}
 use Rattle.jfr_worklist.proofs.SweepLaws.{AllBelow, marks_reach}
 use Rattle.jfr_worklist.proofs.MarkLaws.{all_size, same_flags, swept_size}
-use Rattle.jfr_worklist.proofs.PuttingLaws.{puts_then, puts_size}
+use Rattle.jfr_worklist.proofs.PuttingLaws.{puts_then}
 use Rattle.jfr_worklist.proofs.WalkLaws.{Walking, walking_ends, started, went_on}
 use Rattle.jfr_meta.proofs.StayLaws.{index_at}
 

@@ -2,7 +2,7 @@
 //!
 //! A class is needed if it isn't an event class, if a kept event has it, or if the class element of a needed
 //! class refers to it.
-ghost use Rattle.std.specs.Prelude.{◌≡◌, ◌+◌, ◌<◌, ◌||◌, ◌∷◌, [], ℕ, List, false, not, Ok, Some, codes, length, map, replicate, slice_get, if◌then◌else◌, IfOk, IfSome, OnOk};
+ghost use Rattle.std.specs.Prelude.{◌≡◌, ◌+◌, ◌<◌, ◌||◌, ◌∷◌, [], ℕ, List, false, not, Ok, Some, codes, length, map, replicate, if◌then◌else◌, IfOk, OnOk};
 ghost use Rattle.std.specs.List.{flat_map};
 ghost use Rattle.std.specs.Option.{option_map_or, option_to_list};
 ghost use Rattle.jfr_layout.specs.Classes.{Sound, class_index, is_event_class};
