@@ -29,11 +29,8 @@ impl Index {
             exact: BTreeSet::new(alloc),
             globs: Vec::new(alloc),
         };
-        for number in 0..patterns.len() {
-            let Some(pattern) = patterns.get(number) else {
-                unreachable!()
-            };
-            index.add(alloc, number, pattern)?;
+        for (number, pattern) in patterns.as_slice().iter().enumerate() {
+            index.add(alloc, number, pattern.as_str())?;
         }
         Ok(index)
     }

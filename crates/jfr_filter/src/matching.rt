@@ -1,5 +1,5 @@
 //! Matching a list of patterns.
-ghost use Rattle.std.specs.Prelude.{◌≡◌, ◌<◌, length, slice_get, Some};
+ghost use Rattle.std.specs.Prelude.{◌≡◌};
 ghost use Rattle.std.specs.List.{list_any};
 ghost use Rattle.std.specs.Str.{chars};
 ghost use Rattle.jfr_base.specs.Texts.{text_in};
@@ -23,12 +23,10 @@ pub(crate) fn any_event(patterns: &Patterns, name: &str) -> bool
 pub(crate) fn any_category(patterns: &Patterns, categories: &Words) -> bool
     ensures { result ≡ list_any (category_matches categories.now) patterns.now }
 {
-    for at in 0..categories.len() {
-        if patterns.matches(text_at(categories, at)) {
-            return true;
-        }
-    }
-    false
+    categories
+        .as_slice()
+        .iter()
+        .any(|category| patterns.matches(category.as_str()))
 }
 
 /// Whether there is a thread text, and some pattern matches it.
@@ -38,16 +36,5 @@ pub(crate) fn any_thread(patterns: &Patterns, thread: Option<&str>) -> bool
     match thread {
         Some(text) => patterns.matches(text),
         None => false,
-    }
-}
-
-/// The text with this index.
-fn text_at(words: &Words, at: usize) -> &str
-    requires { at < length words.now }
-    ensures { slice_get words.now at ≡ Some (chars result.now) }
-{
-    match words.get(at) {
-        Some(text) => text,
-        None => unreachable!(),
     }
 }

@@ -1,12 +1,12 @@
 -- Chains of inline steps, found for all classes at once, one step more in each round.
-use Rattle.std.proofs.Common.{◌≡◌, ℕ, suc, ◌+◌, ◌<◌, ◌≤◌, List, [], ◌∷◌, ◌++◌, length, take, map, get_or, Some, None, Bool, true, false, ◌||◌, sym, ◌∙◌, ap, refl, replicate}
+use Rattle.std.proofs.Common.{◌≡◌, ℕ, suc, ◌+◌, ◌<◌, ◌≤◌, List, [], ◌∷◌, ◌++◌, length, take, map, Some, None, Bool, true, false, ◌||◌, sym, ◌∙◌, ap, refl, replicate, arith}
 use Rattle.std.specs.Prelude.{if◌then◌else◌}
 use Rattle.std.specs.List.{slice_get, list_any}
 use Rattle.std.specs.Option.{IfSome}
-use Rattle.std.proofs.lemmas.List.{take_all, map-id}
+use Rattle.std.proofs.lemmas.List.{take_all, map-id, length-map}
 use Rattle.std.proofs.lemmas.List.Folds.{list_any-append, list_any_at}
 use Rattle.std.proofs.lemmas.Bool.{or_from}
-use Rattle.std.proofs.lemmas.Option.{get_or_from_slice_get}
+use Rattle.std.proofs.lemmas.Option.{get_or_from_slice_get, slice_get_within}
 use Rattle.jfr_base.specs.declared.reason.Reason.TheVariants.{InlineDeep}
 use Rattle.jfr_layout.specs.declared.fault.ClassFault.TheVariants.{Flawed}
 use Rattle.jfr_layout.specs.declared.kind.Kind.{Kind}
@@ -80,15 +80,18 @@ found_deep k i c = flaw_if (begins_chain 33 k c) i None InlineDeep
 pub record Shallow (k : Classes) (n : ℕ) : Type 0 where
   pub left : deep k ≡ rest (found_deep k) k n
 
-flag_at : (k : Classes) (goes : List Bool) (n : ℕ) (c : Class) (t : Bool) → goes ≡ map (begins_chain 33 k) k → slice_get k n ≡ Some c → t ≡ get_or goes n t → t ≡ begins_chain 33 k c
-flag_at k goes n c t g e r = mapped_at (λ (b : Bool). b) (begins_chain 33 k) goes k n t c (map-id goes ∙ g) e r
+flag_at : (k : Classes) (goes : List Bool) (n : ℕ) (c : Class) (t : Bool) → goes ≡ map (begins_chain 33 k) k → slice_get k n ≡ Some c → slice_get goes n ≡ Some t → t ≡ begins_chain 33 k c
+flag_at k goes n c t g e r = mapped_at (λ (b : Bool). b) (begins_chain 33 k) goes k n t c (map-id goes ∙ g) e (sym (get_or_from_slice_get goes n t t r))
 
-pub shallow_next : (k : Classes) (goes : List Bool) (n : ℕ) (t : Bool) → goes ≡ map (begins_chain 33 k) k → Shallow k n → n < length k → t ≡ get_or goes n t → t ≡ false → Shallow k (n + 1)
-shallow_next k goes n t g s l r u = let c = present k n l in
+flagged : (k : Classes) (goes : List Bool) (n : ℕ) (t : Bool) → goes ≡ map (begins_chain 33 k) k → slice_get goes n ≡ Some t → n < length k
+flagged k goes n t g r = omega (arith, slice_get_within goes n t r, ap length g, length-map k (begins_chain 33 k))
+
+pub shallow_next : (k : Classes) (goes : List Bool) (n : ℕ) (t : Bool) → goes ≡ map (begins_chain 33 k) k → Shallow k n → slice_get goes n ≡ Some t → t ≡ false → Shallow k (n + 1)
+shallow_next k goes n t g s r u = let c = present k n (flagged k goes n t g r) in
     record { left = stage_next (found_deep k) k n c.0 (deep k) s.left c.1 (ap (λ b. flaw_if b n None InlineDeep) (sym (flag_at k goes n c.0 t g c.1 r) ∙ u)) }
 
-pub shallow_tell : (k : Classes) (goes : List Bool) (n : ℕ) (t : Bool) → goes ≡ map (begins_chain 33 k) k → Shallow k n → n < length k → t ≡ get_or goes n t → t ≡ true → IsFirstFlaw (deep k) (Flawed n None InlineDeep)
-shallow_tell k goes n t g s l r u = let c = present k n l in
+pub shallow_tell : (k : Classes) (goes : List Bool) (n : ℕ) (t : Bool) → goes ≡ map (begins_chain 33 k) k → Shallow k n → slice_get goes n ≡ Some t → t ≡ true → IsFirstFlaw (deep k) (Flawed n None InlineDeep)
+shallow_tell k goes n t g s r u = let c = present k n (flagged k goes n t g r) in
     stage_tells (found_deep k) k n c.0 (deep k) (Flawed n None InlineDeep) s.left c.1 (ap (λ b. slice_get (flaw_if b n None InlineDeep) 0) (sym (flag_at k goes n c.0 t g c.1 r) ∙ u))
 
 pub shallow_end : (k : Classes) (n : ℕ) → Shallow k n → length k ≤ n → deep k ≡ []

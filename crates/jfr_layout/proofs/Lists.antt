@@ -22,6 +22,10 @@ map_next f xs i x e = map_more f xs i x (slice_get_within xs i x e) ∙ ap (λ y
 pub item_at : {X : Type 0} (xs : List X) (i : ℕ) (x : X) → i < length xs → x ≡ get_or xs i x → slice_get xs i ≡ Some x
 item_at xs i x l is = slice_get-get_or xs i x l ∙ ap Some (sym is)
 
+-- The same of a slice that is the list.
+pub listed_at : {X : Type 0} {items xs : List X} → items ≡ xs → (i : ℕ) (x : X) → i < length items → x ≡ get_or items i x → slice_get xs i ≡ Some x
+listed_at {items = items} e i x l is = rw (← e) (item_at items i x l is)
+
 -- Two lists that are seen alike are seen alike at each index.
 pub mapped_at : {X Y Z : Type 0} (f : X → Z) (g : Y → Z) (xs : List X) (ys : List Y) (i : ℕ) (x : X) (y : Y) → map f xs ≡ map g ys → slice_get ys i ≡ Some y → x ≡ get_or xs i x → f x ≡ g y
 mapped_at f g xs ys i x y m e r =

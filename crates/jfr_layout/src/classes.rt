@@ -73,6 +73,13 @@ impl Classes {
         Ok(Classes { resolved, events })
     }
 
+    /// The classes, in order.
+    pub fn as_slice(&self) -> &[ClassInfo]
+        ensures { result.now ≡ self.now }
+    {
+        self.resolved.as_slice()
+    }
+
     /// The number of classes.
     pub fn len(&self) -> usize
         ensures exact { result ≡ length self.now }

@@ -127,8 +127,7 @@ pub fn index_classes(
     ensures judged { ReportsFirst (repeats list.now) result }
 {
     let mut index = Index::new(alloc, near_ids(list))?;
-    for at in 0..list.len() {
-        let class = list.at(at);
+    for (at, class) in list.as_slice().iter().enumerate() {
         if index.insert(class.id, at)? {
             return Err(ClassFault::Flawed {
                 class: at,

@@ -110,8 +110,8 @@ pub fn check_depth(alloc: Global, classes: &Resolved) -> Result<(), ClassFault>
     ensures { ReportsFirst (deep classes.now) result }
 {
     let goes = too_deep(alloc, classes)?;
-    for at in 0..goes.len() {
-        if goes[at] {
+    for (at, is_deep) in goes.iter().enumerate() {
+        if *is_deep {
             return Err(ClassFault::Flawed {
                 class: at,
                 field: None,

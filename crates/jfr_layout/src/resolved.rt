@@ -75,8 +75,8 @@ fn layouts_of(
 {
     let fields = &list.at(class).fields;
     let mut layouts = Vec::with_capacity(alloc, fields.len())?;
-    for number in 0..fields.len() {
-        let shape = fields.at(number).shape;
+    for (number, field) in fields.as_slice().iter().enumerate() {
+        let shape = field.shape;
         match index.index_of(shape.class) {
             Some(class_index) => layouts.push(FieldLayout::new(
                 shape,
@@ -158,6 +158,13 @@ impl Resolved {
             kinds,
             class_layouts,
         })
+    }
+
+    /// The classes, in order.
+    pub fn as_slice(&self) -> &[ClassInfo]
+        ensures { result.now ≡ self.now }
+    {
+        self.list.as_slice()
     }
 
     /// The number of classes.

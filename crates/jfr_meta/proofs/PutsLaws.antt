@@ -1,5 +1,5 @@
 -- What is put one after another.
-use Rattle.std.specs.Prelude.{◌≡◌, ℕ, zero, suc, ◌+◌, ◌<◌, ◌≤◌, Bool, true, false, not, ◌&&◌, ◌||◌, ◌==◌, nat_lt, List, [], ◌∷◌, ◌++◌, length, take, map, filter, replicate, slice_get, slice_index, Option, Some, None, IfSome, if◌then◌else◌, codes}
+use Rattle.std.specs.Prelude.{◌≡◌, ℕ, zero, suc, ◌+◌, ◌<◌, ◌≤◌, Bool, true, false, not, ◌&&◌, ◌||◌, ◌==◌, nat_lt, List, [], ◌∷◌, ◌++◌, length, take, map, filter, replicate, slice_get, slice_index, Option, Some, None, if◌then◌else◌, codes}
 use Rattle.std.specs.List.{flat_map, filter_map, cons_option}
 use Rattle.std.specs.Option.{option_map_or, option_to_list}
 use Rattle.std.proofs.Common.{ap, refl, sym, ◌∙◌, arith, subst, append-nil}
@@ -9,7 +9,7 @@ use Rattle.std.proofs.lemmas.List.{length-replicate, take_all}
 use Rattle.std.proofs.lemmas.List.Elements.{filter_map-append}
 use Rattle.std.proofs.lemmas.Grind.{flat_map-append}
 use Rattle.jfr_layout.specs.Classes.{Class, Classes, Sound, class_index, is_event_class}
-use Rattle.jfr_layout.proofs.Lists.{take_next, present}
+use Rattle.jfr_layout.proofs.Lists.{take_next}
 use Rattle.jfr_layout.proofs.SoundLaws.{are_found}
 use Rattle.jfr_meta.specs.Trees.{Tree, Node, Trees, Nil, Cons, list_of, children_of}
 use Rattle.jfr_meta.specs.Described.{id_attribute}
@@ -21,7 +21,7 @@ use Rattle.jfr_worklist.specs.declared.worklist.Worklist.{Worklist}
 use Rattle.jfr_worklist.proofs.Members.{in_those, those_append}
 use Rattle.jfr_worklist.proofs.SweepLaws.{AllBelow, marks_reach}
 use Rattle.jfr_worklist.proofs.MarkLaws.{all_size, same_flags, swept_size}
-use Rattle.jfr_worklist.proofs.PuttingLaws.{puts_then, puts_size}
+use Rattle.jfr_worklist.proofs.PuttingLaws.{puts_then}
 use Rattle.jfr_worklist.proofs.WalkLaws.{Walking, walking_ends, started, went_on}
 use Rattle.jfr_meta.proofs.StayLaws.{index_at}
 
@@ -82,12 +82,11 @@ module _ (k : Classes) (used : ℕ → Bool) where
       by_test true e = ap (λ z. x.id ∷ z) e
       by_test false e = e
 
-  pub first_next : (i : ℕ) (a b d : Worklist) → i < length k → Puts (those (class_index k) (first_of (take i k))) a b → IfSome (slice_get k i) (λ c. Puts (those (class_index k) (one_first c)) b d)
+  pub first_next : (i : ℕ) (c : Class) (a b d : Worklist) → slice_get k i ≡ Some c → Puts (those (class_index k) (first_of (take i k))) a b → Puts (those (class_index k) (one_first c)) b d
       → Puts (those (class_index k) (first_of (take (i + 1) k))) a d
-  first_next i a b d h p q =
-      let c = present k i h in
-      subst (λ z. Puts (those (class_index k) z) a d) (sym (ap first_of (take_next k i c.0 c.1) ∙ first_append (take i k) c.0))
-      (ids_then k (first_of (take i k)) (one_first c.0) a b d p (subst (λ o. IfSome o (λ c. Puts (those (class_index k) (one_first c)) b d)) c.1 q))
+  first_next i c a b d e p q =
+      subst (λ z. Puts (those (class_index k) z) a d) (sym (ap first_of (take_next k i c e) ∙ first_append (take i k) c))
+      (ids_then k (first_of (take i k)) (one_first c) a b d p q)
 
   pub first_end : (i : ℕ) (a b : Worklist) → length k ≤ i → Puts (those (class_index k) (first_of (take i k))) a b → Puts (those (class_index k) (first_ids k used)) a b
   first_end i a b h p = subst (λ z. Puts (those (class_index k) (first_of z)) a b) (take_all i k h) p
@@ -213,11 +212,6 @@ module _ (marks : List Bool) (k : Classes) (sound : Sound k) where
           by_test false h = refl
           by_test true h = let z : None ≡ Some at = sym q ∙ (ap (class_index k) (sym (eqb-true c.id id h)) ∙ own) in cc
       by_index (Some i) q = by_place i q (c.id == id) refl
-
-pub first_size : (k : Classes) (used : ℕ → Bool) (i : ℕ) (b d : Worklist) → i < length k → IfSome (slice_get k i) (λ c. Puts (those (class_index k) (one_first k used c)) b d) → length d.flags.items ≡ length b.flags.items
-first_size k used i b d h q =
-    let c = present k i h in
-    puts_size (those (class_index k) (one_first k used c.0)) b d (subst (λ o. IfSome o (λ c. Puts (those (class_index k) (one_first k used c)) b d)) c.1 q)
 
 -- What is added if a class is marked, and if it isn't.
 module _ (marks : List Bool) (k : Classes) (sound : Sound k) (at id : ℕ) (c : Class) (there : slice_get k at ≡ Some c) where

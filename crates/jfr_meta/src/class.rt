@@ -95,8 +95,8 @@ fn read_fields<'a>(
     let elements = named(alloc, strings, element, "field")?;
     let mut fields = Fields::new(alloc);
     let mut numbers = Vec::with_capacity(alloc, elements.len())?;
-    for at in 0..elements.len() {
-        let (field, number) = read_field(alloc, strings, elements[at], names)?;
+    for element in &elements {
+        let (field, number) = read_field(alloc, strings, element, names)?;
         fields.push(field)?;
         numbers.push(number)?;
     }
@@ -188,8 +188,7 @@ fn category_annotation<'a>(
     ensures ok { IfOk result (λ found. (hs : List (ℕ × List ℕ)) → AreCategoryIds hs ids.now → option_copied found ≡ category_annotation strings.now hs element.now) }
 {
     let annotations = named(alloc, strings, element, "annotation")?;
-    for at in 0..annotations.len() {
-        let annotation = annotations[at];
+    for annotation in &annotations {
         if is_category(strings, ids, annotation) {
             return Ok(Some(annotation));
         }

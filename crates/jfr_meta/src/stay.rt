@@ -2,14 +2,14 @@
 //!
 //! A class is needed if it isn't an event class, if a kept event has it, or if the class element of a needed
 //! class refers to it.
-ghost use Rattle.std.specs.Prelude.{◌≡◌, ◌+◌, ◌<◌, ◌||◌, ◌∷◌, [], ℕ, List, false, not, Ok, Some, codes, length, map, replicate, slice_get, if◌then◌else◌, IfOk, IfSome, OnOk};
+ghost use Rattle.std.specs.Prelude.{◌≡◌, ◌||◌, ◌∷◌, [], ℕ, List, false, not, Ok, Some, codes, length, map, replicate, if◌then◌else◌, IfOk};
 ghost use Rattle.std.specs.List.{flat_map};
 ghost use Rattle.std.specs.Option.{option_map_or, option_to_list};
 ghost use Rattle.jfr_layout.specs.Classes.{Sound, class_index, is_event_class};
 ghost use Rattle.jfr_meta.specs.Described.{class_elements, described, id_attribute};
 ghost use Rattle.jfr_worklist.specs.Marks.{those, is_marked};
 ghost use Rattle.jfr_worklist.specs.Putting.{Puts};
-ghost use Rattle.jfr_meta.specs.Stays.{IsStay, first_ids, ids_below, ids_with, is_in, marked_below, next_classes, stay_marks};
+ghost use Rattle.jfr_meta.specs.Stays.{IsStay, first_ids, ids_below, ids_with, is_in, next_classes, stay_marks};
 ghost use Rattle.jfr_meta.specs.Held.{body_in, stays_of};
 ghost use Rattle.jfr_meta.specs.Trees.{Tree};
 
@@ -62,13 +62,11 @@ fn put_each(list: &mut Worklist, classes: &Classes, strings: &Words, elements: &
     }
 }
 
-/// Marks the class with this index if it isn't an event class or is used.
-fn put_first_at(list: &mut Worklist, classes: &Classes, used: &Ids, at: usize)
+/// Marks the class with this id if it isn't an event class or is used.
+fn put_first_id(list: &mut Worklist, classes: &Classes, used: &Ids, id: u64)
     requires size { length list.old.flags.items ≡ length classes.now }
-    requires within { at < length classes.now }
-    ensures puts { IfSome (slice_get classes.now at) (λ c. Puts (those (class_index classes.now) (if not (is_event_class classes.now c.id) || is_in used.now c.id then c.id ∷ [] else [])) list.old list.new) }
+    ensures puts { Puts (those (class_index classes.now) (if not (is_event_class classes.now id) || is_in used.now id then id ∷ [] else [])) list.old list.new }
 {
-    let id = classes.class_at(at).id;
     if !classes.is_event(id) {
         put_class(list, classes, id);
         return;
@@ -83,8 +81,8 @@ fn put_first(list: &mut Worklist, classes: &Classes, used: &Ids)
     requires size { length list.old.flags.items ≡ length classes.now }
     ensures puts { Puts (those (class_index classes.now) (first_ids classes.now (is_in used.now))) list.old list.new }
 {
-    for at in 0..classes.len() {
-        put_first_at(list, classes, used, at);
+    for class in classes.as_slice() {
+        put_first_id(list, classes, used, class.id);
     }
 }
 
@@ -125,29 +123,18 @@ fn put_staying(
     }
 }
 
-/// Adds the id of the class with this index, if the class is marked.
-fn add_marked(ids: &mut Ids, classes: &Classes, flags: &[bool], at: usize) -> Result<(), NoMemory>
-    requires size { length flags.now ≡ length classes.now }
-    requires within { at < length classes.now }
-    requires sound { Sound classes.now }
-    requires before { (id : ℕ) → is_in ids.old id ≡ marked_below flags.now classes.now at id }
-    ensures ok { OnOk result ((id : ℕ) → is_in ids.new id ≡ marked_below flags.now classes.now (at + 1) id) }
-{
-    let id = classes.class_at(at).id;
-    if flags[at] {
-        ids.insert(id)?;
-    }
-    Ok(())
-}
-
 /// The ids of the marked classes.
 fn marked_ids(alloc: Global, classes: &Classes, flags: &[bool]) -> Result<Ids, NoMemory>
     requires size { length flags.now ≡ length classes.now }
+    requires sound { Sound classes.now }
     ensures ok { IfOk result (λ ids. (id : ℕ) → is_in ids id ≡ option_map_or (is_marked flags.now) (class_index classes.now id) false) }
 {
     let mut ids = Ids::new(alloc);
-    for at in 0..classes.len() {
-        add_marked(&mut ids, classes, flags, at)?;
+    for (at, is_marked) in flags.iter().enumerate() {
+        if !*is_marked {
+            continue;
+        }
+        ids.insert(classes.class_at(at).id)?;
     }
     Ok(ids)
 }

@@ -24,8 +24,8 @@ fn first_values<'a>(
     ensures ok { IfOk result (HasFirst strings.now pairs.now) }
 {
     let mut values = BTreeMap::new(alloc);
-    for from_end in 0..pairs.len() {
-        let (index, value) = pairs[pairs.len() - 1 - from_end];
+    for at in (0..pairs.len()).rev() {
+        let (index, value) = pairs[at];
         let key = text_at(strings, index);
         if key.len() > KEY_LEN {
             continue;

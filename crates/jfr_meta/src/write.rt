@@ -5,7 +5,6 @@ ghost use Rattle.std.specs.Str.{chars};
 ghost use Rattle.jfr_base.specs.Integer.{spell, spell_in, FitsIn};
 ghost use Rattle.jfr_meta.specs.Written.{IsText, text_bytes, pair_bytes, tree_bytes, table_bytes, opening_bytes, record_bytes, capped, depth, HasIndices, ReadsBack};
 
-use crate::attributes::text_at;
 use crate::{Element, Elements, Pairs};
 use jfr_base::{NoMemory, Words, push_in, push_var, var_len};
 use jfr_frame::METADATA_TYPE;
@@ -50,8 +49,8 @@ fn push_texts(out: &mut Vec<u8>, strings: &Words) -> Result<(), AllocError>
     ensures texts { OnOk result (AllByRecursion IsText strings.now) }
     ensures ok { OnOk result (out.new.items ≡ out.old.items ++ flat_map text_bytes strings.now) }
 {
-    for at in 0..strings.len() {
-        push_text(out, text_at(strings, at as u64))?;
+    for text in strings.as_slice() {
+        push_text(out, text.as_str())?;
     }
     Ok(())
 }
@@ -101,8 +100,8 @@ pub(crate) fn texts_len(strings: &Words) -> u64
     ensures { result ≡ capped (length (flat_map text_bytes strings.now)) }
 {
     let mut len: u64 = 0;
-    for at in 0..strings.len() {
-        len = len.saturating_add(text_len(text_at(strings, at as u64)));
+    for text in strings.as_slice() {
+        len = len.saturating_add(text_len(text.as_str()));
     }
     len
 }

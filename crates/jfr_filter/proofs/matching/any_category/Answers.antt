@@ -1,22 +1,15 @@
-use Rattle.std.proofs.Common.{ℕ, List, Bool, sym, ◌∙◌, arith}
+use Rattle.std.proofs.Common.{◌∙◌, rules}
 use Rattle.std.specs.List.{list_any}
-use Rattle.std.specs.Str.{chars}
+use Rattle.std.proofs.lemmas.Iterator.{YieldsList-from_slice}
+use Rattle.std.proofs.lemmas.Iterator.Search.{any_from_yields_List}
+use borrow.Author.Tests.{tests}
 use Rattle.jfr_filter.specs.Patterns.{glob}
-use Rattle.jfr_filter.proofs.AnyLaws.{any_found, any_next, any_end, any_swap}
+use Rattle.jfr_filter.proofs.AnyLaws.{any_swap}
 use Rattle.jfr_filter.proofs.matching.any_category.Goals as goal
-
-pub returns-then-matches : goal.returns-then-matches
-returns-then-matches c =
-    let test : List ℕ → Bool = λ category. list_any (λ pattern. glob pattern category) c.args.patterns.now in
-    sym (any_found test c.args.categories.now c.loop-at.at (chars c.text_at.result.now) c.text_at.ensures (sym c.if-matches.ensures))
-    ∙ (c.loop-at.invariant ∙ any_swap glob c.args.patterns.now c.args.categories.now)
-
-pub loop-at-preserved : goal.loop-at-preserved
-loop-at-preserved c =
-    let test : List ℕ → Bool = λ category. list_any (λ pattern. glob pattern category) c.args.patterns.now in
-    any_next test c.args.categories.now c.loop-at.at (chars c.text_at.result.now) c.text_at.ensures (sym c.if-matches.ensures) ∙ c.loop-at.invariant
 
 pub returns : goal.returns
 returns c =
-    let test : List ℕ → Bool = λ category. list_any (λ pattern. glob pattern category) c.args.patterns.now in
-    sym (any_end test c.args.categories.now c.loop-at.at (omega arith)) ∙ (c.loop-at.invariant ∙ any_swap glob c.args.patterns.now c.args.categories.now)
+    any_from_yields_List (λ category. list_any (λ pattern. glob pattern category) c.args.patterns.now) _ _ c.any.result c.any.ensures.ran
+    (YieldsList-from_slice c.args.categories.now cc)
+    (λ x b q k. search (rules, tests))
+    ∙ any_swap glob c.args.patterns.now c.args.categories.now

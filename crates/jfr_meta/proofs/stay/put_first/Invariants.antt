@@ -6,5 +6,5 @@ use Rattle.jfr_worklist.specs.Putting.{Puts}
 use Rattle.jfr_meta.proofs.PutsLaws.{first_of}
 use Rattle.jfr_meta.proofs.stay.put_first.Given as goal
 
-abbrev pub invariant-loop-at : goal.invariant-loop-at
-invariant-loop-at l = Puts (those (class_index l.classes) (first_of l.classes (is_in l.used) (take l.at l.classes))) l.initial.list l.list × (length l.list.flags.items ≡ length l.classes)
+abbrev pub invariant-loop-class : goal.invariant-loop-class
+invariant-loop-class l = Puts (those (class_index l.classes) (first_of l.classes (is_in l.used) (take l.class-index l.classes))) l.initial.list l.list × (length l.list.flags.items ≡ length l.classes)

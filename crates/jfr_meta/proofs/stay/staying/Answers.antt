@@ -15,6 +15,7 @@ use Rattle.jfr_meta.proofs.stay.staying.Goals as goal
 pub marked_ids-requires : goal.marked_ids-requires
 marked_ids-requires c = record {
   size = ap length (c.deref-2.ensures.value ∙ c.put_staying.ensures.exact) ∙ marks_size c.args.metadata.now.strings (map (λ e. e.now) c.deref.result.now) c.args.metadata.now.classes (is_in c.args.used.now);
+  sound = c.len.ensures.sound;
 }
 
 pub returns-clause-exact : goal.returns-clause-exact
