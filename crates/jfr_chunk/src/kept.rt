@@ -64,6 +64,13 @@ impl Kept {
         self.flags.get(at).copied()
     }
 
+    /// Whether each event is kept, in the order of the file.
+    pub fn as_slice(&self) -> &[bool]
+        ensures { result.now ≡ self.now }
+    {
+        &self.flags
+    }
+
     /// Whether there is such an event, and it is kept.
     #[inline]
     pub fn is_kept(&self, at: usize) -> bool

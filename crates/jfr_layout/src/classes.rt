@@ -73,6 +73,14 @@ impl Classes {
         Ok(Classes { resolved, events })
     }
 
+    /// A call that does nothing, for proofs: its clause holds for all classes, and laws of values require it.
+    pub fn are_sound(&self)
+        ensures { Sound self.now }
+    {
+        // The proof gets the invariant of `self` by reading a field.
+        let _ = &self.events;
+    }
+
     /// The classes, in order.
     pub fn as_slice(&self) -> &[ClassInfo]
         ensures { result.now ≡ self.now }

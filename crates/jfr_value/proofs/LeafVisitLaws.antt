@@ -98,7 +98,7 @@ module _ {A : Type 0} (takes : LeafAt → A → A → Type 0) (k : Classes) (c :
   visits_fields g s d place at before old a o q t m =
       subst (λ z. Visits takes k c end (g ∷ []) (s ∷ []) at old before (fields_from s.class 0 z) z at old before) (sym (ap (λ o. option_map_or (λ c. map (λ f. f.shape) c.fields) o []) t))
       (λ is us vs r. (let n = fields_next k c at end s us g is vs d r a o q m in
-          record { first = []; others = n.0; row = n.1; leaves = n.2; taken = refl; steps = omega arith }))
+      record { first = []; others = n.0; row = n.1; leaves = n.2; taken = refl; steps = omega arith }))
 
 -- The node of the first value.
 pub record FirstNode (k : Classes) (c : List ℕ) (end : ℕ) (s : Shape) (at : ℕ) : Type 0 where
@@ -129,4 +129,3 @@ visits_node takes k c n v to before after old new i w =
 -- The next field.
 pub fields_next_held : (k : Classes) (class place number : ℕ) (f : Field) (s : Shape) → field_at k place number ≡ Some f → s ≡ f.shape → fields_from class number (drop number (field_shapes k place)) ≡ Some (record { class = class; field = number }) ∷ fields_from class (number + 1) (drop (number + 1) (field_shapes k place))
 fields_next_held k class place number f s e q = ap (fields_from class number) (field_next k place number f s e q)
-

@@ -1,5 +1,5 @@
-//! The walk from leaf to leaf on which `Leaves` is built. Its caller can stop at any leaf. Of jfr's commands
-//! only `scrub --renumber yes` uses it; it is also for other programs that read values.
+//! The walk from leaf to leaf on which `Leaves` is built. Its caller can stop at any leaf. It is for programs that
+//! read values; jfr's commands need all leaves, and `visit_leaves` is faster.
 ghost use Rattle.std.specs.Prelude.{◌≡◌, ◌≢◌, ◌⊎◌, ◌+◌, ◌*◌, ◌≤◌, ◌<◌, [], ◌∷◌, ◌++◌, length, true, false, Some, if◌then◌else◌, IfSome, MatchOption, slice_get, slice_range};
 ghost use Rattle.jfr_layout.specs.Classes.{Sound, find_class, kind_of};
 ghost use Rattle.jfr_layout.specs.declared.class.ClassInfo.{ClassInfo};

@@ -1,4 +1,4 @@
-//! The walk over the leaves of a value that is known to be there. `visit_targets` is built on it.
+//! The visit of the leaves of a value that is known to be there. `visit_targets` is built on it.
 ghost use Rattle.std.specs.Prelude.{◌≡◌, ◌≢◌, ◌+◌, ◌<◌, ◌≤◌, ◌∷◌, [], length, slice_range, true, false};
 ghost use Rattle.std.specs.List.{AllByRecursion};
 ghost use Rattle.jfr_layout.specs.Classes.{Sound};
@@ -48,7 +48,12 @@ struct Start {
 
 /// Passes the leaves of a node to the visitor, from left to right. It allocates nothing. The node must be one of a
 /// value.
-pub fn visit_leaves<C, V: VisitLeaf<C>>(classes: &Classes, node: Node<'_>, visitor: &mut V, with: &C)
+pub fn visit_leaves<C, V: VisitLeaf<C>>(
+    classes: &Classes,
+    node: Node<'_>,
+    visitor: &mut V,
+    with: &C,
+)
     requires value { IsValue classes.now node }
     requires admits { AllByRecursion (V.admits with.now) (leaves classes.now node.bytes.now (node_of node)) }
     requires ready { V.ready visitor.old with.now }
@@ -128,7 +133,9 @@ fn visit_value<C, V: VisitLeaf<C>, L: Ledger>(
     ensures ready { V.ready visitor.new walk.now.with.now }
 {
     match layout.form {
-        Form::Integer | Form::Raw(_) | Form::Text => visit_base(walk, layout, start, visitor, steps),
+        Form::Integer | Form::Raw(_) | Form::Text => visit_base(
+            walk, layout, start, visitor, steps,
+        ),
         Form::Key => visit_key(walk, layout, start, visitor, steps),
         Form::Fields => {
             let inner = Start {

@@ -7,6 +7,7 @@
 //! | `child`, `Step` | a field or an item of a node, by a step |
 //! | `target` | the class and the key to which a node itself refers |
 //! | `Leaves`, `Leaf` | the parts of a node without parts of their own, from left to right |
+//! | `visit_leaves`, `VisitLeaf` | passes the leaves of a node to a visitor |
 //! | `visit_targets`, `Visit` | passes all that a node refers to, to a visitor |
 //! | `end_of`, `end_by_layout` | where the value at an offset ends, by its shape or by its layout |
 //! | `end_visiting` | the same, and passes the value's references to a visitor |

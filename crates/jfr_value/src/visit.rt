@@ -53,6 +53,7 @@ pub fn visit_targets<C, V: Visit<C>>(classes: &Classes, node: Node<'_>, visitor:
     ensures exact { TakesAll (V.takes with.now) (targets classes.now node.entry.bytes.now (node_of node.entry)) visitor.old visitor.new }
     ensures ready { V.ready visitor.new with.now }
 {
+    classes.are_sound();
     visit_leaves(classes, node, visitor, with);
 }
 
@@ -70,5 +71,6 @@ pub fn visit_and_count<C, V: Visit<C>, L: Ledger>(
     ensures ready { V.ready visitor.new with.now }
     ensures cost { steps.new ≡ steps.old + length (leaves classes.now node.entry.bytes.now (node_of node.entry)) }
 {
+    classes.are_sound();
     visit_leaves_and_count(classes, node, visitor, with, steps);
 }

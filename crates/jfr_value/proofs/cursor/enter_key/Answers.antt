@@ -6,8 +6,9 @@ use Rattle.jfr_value.proofs.WalkLaws.{key_taken, key_there, some_there}
 use Rattle.jfr_value.proofs.cursor.enter_key.Goals as goal
 
 pub known_integer-key-requires-clause-known : goal.known_integer-key-requires-clause-known
-unreachable-requires c =
-    key_there c.args.walk.now.classes.now c.args.walk.now.bytes.now c.args.cursor.now.at c.args.walk.now.end c.args.value.shape (remaining_shapes c.args.walk.now.classes.now c.args.cursor.now.stack) c.args.value.holder (remaining_holders c.args.walk.now.classes.now c.args.cursor.now.stack) c.requires.remaining.0 c.requires.remaining.1 c.requires.array c.requires.constant c.in_default.ensures.exact.0
+known_integer-key-requires-clause-known c =
+    some_there (int_at c.args.walk.now.bytes.now c.args.cursor.now.at c.args.walk.now.end)
+    (key_there c.args.walk.now.classes.now c.args.walk.now.bytes.now c.args.cursor.now.at c.args.walk.now.end c.args.value.shape (remaining_shapes c.args.walk.now.classes.now c.args.cursor.now.stack) c.args.value.holder (remaining_holders c.args.walk.now.classes.now c.args.cursor.now.stack) c.requires.remaining.0 c.requires.remaining.1 c.requires.array c.requires.constant)
 
 pub returns-clause-remaining : goal.returns-clause-remaining
 returns-clause-remaining c = λ vs r.

@@ -38,6 +38,6 @@ returns-clause-visited g c =
     let d = inline_node walk.classes.now walk.bytes.now c.args.start.at f.to walk.end layout.shape f.within walk.within f.value layout.class_index layout.kind layout.form f.node c.requires.array c.requires.constant c.requires.layout in
     visits_leaf takes walk.classes.now walk.bytes.now walk.end c.args.start.holder [] layout.shape [] c.args.start.at c.in-Ok.to c.args.steps.now c.tick.new.self layout.shape.class (leaf_kinds.Base layout.kind) c.args.visitor.now c.visit_leaf.new.self
     (λ is us vs r. (let t = base_found walk.classes.now walk.bytes.now c.args.start.at walk.end layout.shape us c.args.start.holder is vs d.class layout.kind r c.requires.array c.requires.constant d.found d.kind_is c.requires.base in
-        let e : t.0 ≡ c.in-Ok.to = cc (sym c.in-Ok.is ∙ (c.base_end.ensures.exact ∙ t.1)) in
-        subst (λ z. Taken walk.classes.now walk.bytes.now c.args.start.at walk.end z (leaf_kinds.Base layout.kind) layout.shape.class us vs c.args.start.holder is is) e t.2))
+    let e : t.0 ≡ c.in-Ok.to = cc (sym c.in-Ok.is ∙ (c.base_end.ensures.exact ∙ t.1)) in
+    subst (λ z. Taken walk.classes.now walk.bytes.now c.args.start.at walk.end z (leaf_kinds.Base layout.kind) layout.shape.class us vs c.args.start.holder is is) e t.2))
     (subst (λ l. takes l c.args.visitor.now c.visit_leaf.new.self) c.leaf_to-leaf.ensures c.visit_leaf.ensures.takes) c.tick.ensures
