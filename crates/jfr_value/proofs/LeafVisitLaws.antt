@@ -6,6 +6,7 @@ use Rattle.std.proofs.Common.{ap, arith, refl, sym, ◌∙◌, subst}
 use Rattle.std.proofs.lemmas.List.{append_assoc, append-nil, length-append}
 use Rattle.jfr_base.specs.declared.integer.Var.{Var}
 use Rattle.jfr_base.specs.Formats.{int_at}
+use Rattle.jfr_base.proofs.Ranges.{range_length}
 use Rattle.jfr_layout.specs.Classes.{Class, Classes, Field, field_at, find_class, item_of, kind_of}
 use Rattle.jfr_layout.specs.declared.kind.Kind.TheVariants as kinds
 use Rattle.jfr_layout.specs.declared.shape.Shape.{Shape}
@@ -18,7 +19,7 @@ use Rattle.jfr_value.specs.Leaves.{LeafAt, leaves, leaves_at}
 use Rattle.jfr_value.specs.Visits.{AreToVisit, Passed, TakesAll, Visits, field_shapes}
 use Rattle.jfr_value.specs.Walks.{fields_from, leaves_held}
 use Rattle.jfr_value.proofs.TargetLaws.{leaves_are}
-use Rattle.jfr_value.proofs.VisitLaws.{field_next, takes_append}
+use Rattle.jfr_value.proofs.VisitLaws.{field_next, none_left, takes_append}
 use Rattle.jfr_value.proofs.WalkLaws.{Taken, fields_next, first_of, no_leaves}
 
 all_rest : {X : Type 0} (P : X → Type 0) (xs ys : List X) → AllByRecursion P (xs ++ ys) → AllByRecursion P ys
@@ -120,12 +121,19 @@ pub to_visit_node : (admits : LeafAt → Type 0) (k : Classes) (c : List ℕ) (n
 to_visit_node admits k c n v i a = record { other_holders = []; other_shapes = []; values = Cons v Nil; row = node_row k c n v i; admitted = subst (AllByRecursion admits) (sym (append-nil (leaves_at None n.at v))) a }
 
 pub visits_node : {A : Type 0} (takes : LeafAt → A → A → Type 0) (k : Classes) (c : List ℕ) (n : NodeAt) (v : Value) (to before after : ℕ) (old new : A) → IsNode k c n v → Visits takes k c n.end (None ∷ []) (n.shape ∷ []) n.at old before [] [] to new after
-    → TakesAll takes (leaves_at None n.at v) old new × (after ≡ before + length (leaves_at None n.at v))
+    → TakesAll takes (leaves_at None n.at v) old new × (after ≡ before + length (leaves_at None n.at v)) × (to ≡ n.end)
 visits_node takes k c n v to before after old new i w =
     let p = w [] [] (Cons v Nil) (node_row k c n v i) in
     let l : leaves_at None n.at v ≡ p.first = sym (append-nil (leaves_at None n.at v)) ∙ (p.leaves ∙ (ap (λ z. p.first ++ z) (no_leaves k c to n.end [] p.others p.row) ∙ append-nil p.first)) in
-    (subst (λ z. TakesAll takes z old new) (sym l) p.taken, (let s = p.steps in let x = ap length l in omega arith))
+    (subst (λ z. TakesAll takes z old new) (sym l) p.taken, (let s = p.steps in let x = ap length l in omega arith), (none_left k c to n.end [] p.others p.row refl).ends)
 
 -- The next field.
 pub fields_next_held : (k : Classes) (class place number : ℕ) (f : Field) (s : Shape) → field_at k place number ≡ Some f → s ≡ f.shape → fields_from class number (drop number (field_shapes k place)) ≡ Some (record { class = class; field = number }) ∷ fields_from class (number + 1) (drop (number + 1) (field_shapes k place))
 fields_next_held k class place number f s e q = ap (fields_from class number) (field_next k place number f s e q)
+
+-- A leaf ends where its bytes do.
+pub leaf_end : (c : List ℕ) (l m : LeafAt) (to : ℕ) → l ≡ m → m.spelled ≡ slice_range c m.at to → m.at ≤ to → to ≤ length c → l.at + length l.spelled ≡ to
+leaf_end c l m to e s o w =
+    let x : length m.spelled ≡ to - m.at = ap length s ∙ range_length c m.at to w in
+    let y : l.at + length l.spelled ≡ m.at + length m.spelled = ap (λ (z : LeafAt). z.at + length z.spelled) e in
+    omega arith

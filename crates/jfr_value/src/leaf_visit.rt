@@ -1,5 +1,5 @@
 //! The visit of the leaves of a value that is known to be there. `visit_targets` is built on it.
-ghost use Rattle.std.specs.Prelude.{◌≡◌, ◌≢◌, ◌+◌, ◌<◌, ◌≤◌, ◌∷◌, [], length, slice_range, true, false};
+ghost use Rattle.std.specs.Prelude.{◌≡◌, ◌≢◌, ℕ, ◌+◌, ◌<◌, ◌≤◌, ◌∷◌, [], length, slice_range, true, false};
 ghost use Rattle.std.specs.List.{AllByRecursion};
 ghost use Rattle.jfr_layout.specs.Classes.{Sound};
 ghost use Rattle.jfr_layout.specs.declared.kind.Kind.TheVariants as kinds;
@@ -23,8 +23,8 @@ pub trait VisitLeaf<C> {
     // Which leaves a visitor can take.
     ghost admits: { C → LeafAt → Type 0 };
 
-    // Whether the visitor can take one now.
-    ghost ready: { Self → C → Type 0 };
+    // Whether the visitor can take a leaf at this offset now.
+    ghost ready: { Self → C → ℕ → Type 0 };
 
     // How taking a leaf changes the visitor.
     ghost takes: { C → LeafAt → Self → Self → Type 0 };
@@ -32,8 +32,8 @@ pub trait VisitLeaf<C> {
     /// Takes a leaf.
     fn visit_leaf(&mut self, with: &C, leaf: Leaf<'_>)
         requires admits { admits with.now (leaf_of leaf) }
-        requires ready { ready self.old with.now }
-        ensures ready { ready self.new with.now }
+        requires ready { ready self.old with.now leaf.at }
+        ensures ready { ready self.new with.now (leaf.entry.at + length leaf.entry.spelled.now) }
         ensures takes { takes with.now (leaf_of leaf.entry) self.old self.new };
 }
 
@@ -56,9 +56,9 @@ pub fn visit_leaves<C, V: VisitLeaf<C>>(
 )
     requires value { IsValue classes.now node }
     requires admits { AllByRecursion (V.admits with.now) (leaves classes.now node.bytes.now (node_of node)) }
-    requires ready { V.ready visitor.old with.now }
+    requires ready { V.ready visitor.old with.now node.at }
     ensures exact { TakesAll (V.takes with.now) (leaves classes.now node.entry.bytes.now (node_of node.entry)) visitor.old visitor.new }
-    ensures ready { V.ready visitor.new with.now }
+    ensures ready { V.ready visitor.new with.now node.entry.end }
 {
     visit_with_ledger::<C, V, Brand>(classes, node, visitor, with, Blank::new(1));
 }
@@ -73,12 +73,12 @@ fn visit_with_ledger<C, V: VisitLeaf<C>, L: Ledger>(
 )
     requires value { IsValue classes.now node }
     requires admits { AllByRecursion (V.admits with.now) (leaves classes.now node.bytes.now (node_of node)) }
-    requires ready { V.ready visitor.old with.now }
+    requires ready { V.ready visitor.old with.now node.at }
     requires name { blank.name ≡ L.name }
     requires parts { blank.parts ≡ L.parts }
     requires some { 0 < blank.parts }
     ensures exact { TakesAll (V.takes with.now) (leaves classes.now node.entry.bytes.now (node_of node.entry)) visitor.old visitor.new }
-    ensures ready { V.ready visitor.new with.now }
+    ensures ready { V.ready visitor.new with.now node.entry.end }
 {
     let mut steps: Steps<L> = Steps::new(blank);
     visit_leaves_and_count(classes, node, visitor, with, &mut steps);
@@ -94,9 +94,9 @@ pub(crate) fn visit_leaves_and_count<C, V: VisitLeaf<C>, L: Ledger>(
 )
     requires value { IsValue classes.now node }
     requires admits { AllByRecursion (V.admits with.now) (leaves classes.now node.bytes.now (node_of node)) }
-    requires ready { V.ready visitor.old with.now }
+    requires ready { V.ready visitor.old with.now node.at }
     ensures exact { TakesAll (V.takes with.now) (leaves classes.now node.entry.bytes.now (node_of node.entry)) visitor.old visitor.new }
-    ensures ready { V.ready visitor.new with.now }
+    ensures ready { V.ready visitor.new with.now node.entry.end }
     ensures cost { steps.new ≡ steps.old + length (leaves classes.now node.entry.bytes.now (node_of node.entry)) }
 {
     let layout = layout_of(classes, node.shape);
@@ -128,9 +128,9 @@ fn visit_value<C, V: VisitLeaf<C>, L: Ledger>(
     requires layout { IsLayoutIfKnown walk.now.classes.now layout.now }
     requires depth { DepthBound walk.now.classes.now start.levels layout.now.shape }
     requires values { AreToVisit (V.admits walk.now.with.now) walk.now.classes.now walk.now.bytes.now walk.now.end (start.holder ∷ []) (layout.now.shape ∷ []) start.at }
-    requires ready { V.ready visitor.old walk.now.with.now }
+    requires ready { V.ready visitor.old walk.now.with.now start.at }
     ensures visited { Visits (V.takes walk.now.with.now) walk.now.classes.now walk.now.bytes.now walk.now.end (start.holder ∷ []) (layout.now.shape ∷ []) start.at visitor.old steps.old [] [] result visitor.new steps.new }
-    ensures ready { V.ready visitor.new walk.now.with.now }
+    ensures ready { V.ready visitor.new walk.now.with.now result }
 {
     match layout.form {
         Form::Integer | Form::Raw(_) | Form::Text => visit_base(
@@ -162,9 +162,9 @@ fn visit_fields<C, V: VisitLeaf<C>, L: Ledger>(
     requires placed { layout.now.class_index < length walk.now.classes.now }
     requires depth { AllByRecursion (DepthBound walk.now.classes.now start.levels) (field_shapes walk.now.classes.now layout.now.class_index) }
     requires values { AreToVisit (V.admits walk.now.with.now) walk.now.classes.now walk.now.bytes.now walk.now.end (fields_from layout.now.shape.class 0 (field_shapes walk.now.classes.now layout.now.class_index)) (field_shapes walk.now.classes.now layout.now.class_index) start.at }
-    requires ready { V.ready visitor.old walk.now.with.now }
+    requires ready { V.ready visitor.old walk.now.with.now start.at }
     ensures visited { Visits (V.takes walk.now.with.now) walk.now.classes.now walk.now.bytes.now walk.now.end (fields_from layout.now.shape.class 0 (field_shapes walk.now.classes.now layout.now.class_index)) (field_shapes walk.now.classes.now layout.now.class_index) start.at visitor.old steps.old [] [] result visitor.new steps.new }
-    ensures ready { V.ready visitor.new walk.now.with.now }
+    ensures ready { V.ready visitor.new walk.now.with.now result }
 {
     let class = layout.shape.class;
     let mut to = start.at;
@@ -193,9 +193,9 @@ fn visit_array<C, V: VisitLeaf<C>, L: Ledger>(
     requires layout { IsLayoutIfKnown walk.now.classes.now layout.now }
     requires depth { DepthBound walk.now.classes.now start.levels layout.now.shape }
     requires values { AreToVisit (V.admits walk.now.with.now) walk.now.classes.now walk.now.bytes.now walk.now.end (start.holder ∷ []) (layout.now.shape ∷ []) start.at }
-    requires ready { V.ready visitor.old walk.now.with.now }
+    requires ready { V.ready visitor.old walk.now.with.now start.at }
     ensures visited { Visits (V.takes walk.now.with.now) walk.now.classes.now walk.now.bytes.now walk.now.end (start.holder ∷ []) (layout.now.shape ∷ []) start.at visitor.old steps.old [] [] result visitor.new steps.new }
-    ensures ready { V.ready visitor.new walk.now.with.now }
+    ensures ready { V.ready visitor.new walk.now.with.now result }
 {
     let count = known_integer(walk.bytes, start.at, walk.end);
     let kind = LeafKind::Count(count.value);
@@ -228,9 +228,9 @@ fn visit_key<C, V: VisitLeaf<C>, L: Ledger>(
     requires array { layout.now.shape.array ≡ false }
     requires constant { layout.now.shape.constant ≡ true }
     requires values { AreToVisit (V.admits walk.now.with.now) walk.now.classes.now walk.now.bytes.now walk.now.end (start.holder ∷ []) (layout.now.shape ∷ []) start.at }
-    requires ready { V.ready visitor.old walk.now.with.now }
+    requires ready { V.ready visitor.old walk.now.with.now start.at }
     ensures visited { Visits (V.takes walk.now.with.now) walk.now.classes.now walk.now.bytes.now walk.now.end (start.holder ∷ []) (layout.now.shape ∷ []) start.at visitor.old steps.old [] [] result visitor.new steps.new }
-    ensures ready { V.ready visitor.new walk.now.with.now }
+    ensures ready { V.ready visitor.new walk.now.with.now result }
 {
     let key = known_integer(walk.bytes, start.at, walk.end);
     let kind = LeafKind::Key(key.value);
@@ -254,9 +254,9 @@ fn visit_base<C, V: VisitLeaf<C>, L: Ledger>(
     requires layout { IsLayoutIfKnown walk.now.classes.now layout.now }
     requires base { layout.now.kind ≢ kinds.Composite }
     requires values { AreToVisit (V.admits walk.now.with.now) walk.now.classes.now walk.now.bytes.now walk.now.end (start.holder ∷ []) (layout.now.shape ∷ []) start.at }
-    requires ready { V.ready visitor.old walk.now.with.now }
+    requires ready { V.ready visitor.old walk.now.with.now start.at }
     ensures visited { Visits (V.takes walk.now.with.now) walk.now.classes.now walk.now.bytes.now walk.now.end (start.holder ∷ []) (layout.now.shape ∷ []) start.at visitor.old steps.old [] [] result visitor.new steps.new }
-    ensures ready { V.ready visitor.new walk.now.with.now }
+    ensures ready { V.ready visitor.new walk.now.with.now result }
 {
     let Ok(to) = base_end(layout.kind, walk.bytes, start.at, walk.end) else {
         unreachable!()

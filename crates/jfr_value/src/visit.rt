@@ -33,7 +33,7 @@ impl<C, V: Visit<C>> VisitLeaf<C> for V {
 
     ghost admits = { λ with leaf. KeyIsSpelled leaf };
 
-    ghost ready = { λ visitor with. V.Visit.ready visitor with };
+    ghost ready = { λ visitor with at. V.Visit.ready visitor with };
 
     ghost takes = { λ with leaf old new. TakesAll (V.Visit.takes with) (option_to_list (leaf_target leaf)) old new };
 

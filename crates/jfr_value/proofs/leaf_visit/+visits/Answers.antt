@@ -1,18 +1,19 @@
 -- The leaves of each part come one after another.
 use Rattle.std.proofs.Common.{◌≡◌, ◌∷◌, [], ◌+◌, ◌-◌, ◌<◌, ◌++◌, length, refl, sym, ◌∙◌, ap, subst, arith, drop, get_or, rules}
 use Rattle.std.specs.List.{AllByRecursion}
-use Rattle.std.specs.Prelude.{Option, Some, replicate}
+use Rattle.std.specs.Prelude.{Option, Some, replicate, slice_range}
 use Rattle.jfr_base.specs.Formats.{int_at}
 use Rattle.jfr_layout.specs.Classes.{item_of}
 use Rattle.jfr_layout.specs.declared.form.Form.TheVariants as forms
 use Rattle.jfr_layout.specs.declared.field_layout.FieldLayout.{FieldLayout}
 use Rattle.jfr_value.specs.declared.leaf.Holder.{Holder}
 use Rattle.jfr_value.specs.declared.leaf.LeafKind.TheVariants as leaf_kinds
+use Rattle.jfr_value.specs.Leaves.{LeafAt, leaf_of}
 use Rattle.jfr_value.specs.Visits.{AreToVisit, Visits, field_shapes}
 use Rattle.jfr_value.specs.Walks.{IsLayoutIfKnown, DepthBound, fields_from}
 use Rattle.jfr_value.proofs.FormLaws.{base_there, fields_kind, inline_there, key_there}
 use Rattle.jfr_value.proofs.LayoutLaws.{few_fields, field_of, no_layout}
-use Rattle.jfr_value.proofs.LeafVisitLaws.{fields_next_held, first_node, leaf_admitted, left_to_visit, next_to_visit, visits_end, visits_fields, visits_leaf, visits_next, visits_none, visits_then}
+use Rattle.jfr_value.proofs.LeafVisitLaws.{fields_next_held, first_node, leaf_admitted, leaf_end, left_to_visit, next_to_visit, visits_end, visits_fields, visits_leaf, visits_next, visits_none, visits_then}
 use Rattle.jfr_value.proofs.StackLaws.{inner_depth}
 use Rattle.jfr_value.proofs.VisitLaws.{InlineNode, bound_of_first, depth_within, field_next, fields_past, inline_node, item_next, items_past}
 use Rattle.jfr_value.proofs.WalkLaws.{array_found, array_taken, array_there, some_there}
@@ -37,7 +38,11 @@ visit_array-visit_leaf-requires-clause-admits g t c =
 
 pub visit_array-items-init : goal.visit_array-items-init
 visit_array-items-init g t c = record {
-  ready = c.visit_leaf.ensures.ready;
+  ready =
+      let walk = c.args.walk.now in
+      let leaf : LeafAt = record { kind = leaf_kinds.Count c.known_integer-count.result.value; class = c.args.layout.now.shape.class; holder = c.args.start.holder; at = c.args.start.at; spelled = slice_range walk.bytes.now c.args.start.at c.known_integer-count.result.end } in
+      subst (λ z. g.V.VisitLeaf.ready c.visit_leaf.new.self walk.with.now z)
+      (leaf_end walk.bytes.now (leaf_of c.leaf_to-leaf.result) leaf c.known_integer-count.result.end c.leaf_to-leaf.ensures refl (let r = c.known_integer-count.ensures.range in omega (arith, r.0)) (let r = c.known_integer-count.ensures.range in let w = walk.within in omega (arith, r.1))) c.visit_leaf.ensures.ready;
   visited =
       let walk = c.args.walk.now in
       let layout = c.args.layout.now in

@@ -40,3 +40,12 @@ returns-clause-cost g c =
     let s = (visits_node takes c.args.classes.now c.args.node.bytes.now n v.0 c.visit_value-end.result c.args.steps.now c.visit_value-end.new.steps c.args.visitor.now c.visit_value-end.new.visitor v.1 w).1 in
     let l = ap length (leaves_are c.args.classes.now c.layout_of-layout.ensures.sound c.args.node.bytes.now n v.0 v.1) in
     omega arith
+
+pub returns-clause-ready : goal.returns-clause-ready
+returns-clause-ready g c =
+    let n = node_of c.args.node in
+    let v = c.requires.value in
+    let takes = g.V.VisitLeaf.takes c.args.with.now in
+    let w = subst (λ s. Visits takes c.args.classes.now c.args.node.bytes.now c.args.node.end (None ∷ []) (s ∷ []) c.args.node.at c.args.visitor.now c.args.steps.now [] [] c.visit_value-end.result c.visit_value-end.new.visitor c.visit_value-end.new.steps) c.layout_of-layout.ensures.shape c.visit_value-end.ensures.visited in
+    let e = (visits_node takes c.args.classes.now c.args.node.bytes.now n v.0 c.visit_value-end.result c.args.steps.now c.visit_value-end.new.steps c.args.visitor.now c.visit_value-end.new.visitor v.1 w).2 in
+    subst (g.V.VisitLeaf.ready c.visit_value-end.new.visitor c.args.with.now) e c.visit_value-end.ensures.ready
