@@ -38,14 +38,14 @@ pub takes_append : {A X : Type 0} (takes : X → A → A → Type 0) (xs ys : Li
 takes_append takes [] ys a b c e h = subst (λ z. TakesAll takes ys z c) (sym e) h
 takes_append takes (x ∷ xs) ys a b c g h = (g.0, g.1, takes_append takes xs ys g.0 b c g.2 h)
 
--- A visitor that takes what each leaf refers to, takes all to which they refer.
-pub takes_targets : {A : Type 0} (takes : ℕ × ℕ → A → A → Type 0) (ls : List LeafAt) (old new : A) → TakesAll (λ l. TakesAll takes (option_to_list (leaf_target l))) ls old new → TakesAll takes (filter_map leaf_target ls) old new
-takes_targets takes [] old new h = h
-takes_targets takes (l ∷ ls) old new h = by_target (leaf_target l) h.1 (takes_targets takes ls h.0 new h.2)
+-- What is taken for each member, if it has something, is taken for the list of what they have.
+pub takes_filtered : {A X Y : Type 0} (takes : Y → A → A → Type 0) (f : X → Option Y) (xs : List X) (old new : A) → TakesAll (λ x. TakesAll takes (option_to_list (f x))) xs old new → TakesAll takes (filter_map f xs) old new
+takes_filtered takes f [] old new h = h
+takes_filtered {Y = Y} takes f (x ∷ xs) old new h = by_one (f x) h.1 (takes_filtered takes f xs h.0 new h.2)
   where
-    by_target : (o : Option (ℕ × ℕ)) → TakesAll takes (option_to_list o) old h.0 → TakesAll takes (filter_map leaf_target ls) h.0 new → TakesAll takes (cons_option o (filter_map leaf_target ls)) old new
-    by_target None e rest = subst (λ z. TakesAll takes (filter_map leaf_target ls) z new) (sym e) rest
-    by_target (Some t) e rest = (e.0, e.1, subst (λ z. TakesAll takes (filter_map leaf_target ls) z new) (sym e.2) rest)
+    by_one : (o : Option Y) → TakesAll takes (option_to_list o) old h.0 → TakesAll takes (filter_map f xs) h.0 new → TakesAll takes (cons_option o (filter_map f xs)) old new
+    by_one None e rest = subst (λ z. TakesAll takes (filter_map f xs) z new) (sym e) rest
+    by_one (Some y) e rest = (e.0, e.1, subst (λ z. TakesAll takes (filter_map f xs) z new) (sym e.2) rest)
 
 module _ (k : Classes) (c : List ℕ) (at to end : ℕ) (s : Shape) (l : to ≤ end) (w : end ≤ length c) where
   -- A reference: its key is there.
