@@ -28,7 +28,7 @@ use Rattle.jfr_chunk.proofs.AllLaws.{all_append}
 use Rattle.jfr_rewrite.specs.Changed.{changed_all, plain, single_of}
 use Rattle.jfr_mask.specs.Masked.{is_masked_string, is_string_leaf}
 use Rattle.jfr_mask.specs.ReachBut.{node_targets_but, targets_but, unkeyed}
-use Rattle.jfr_mask.specs.Reaching.{KeyIsSpelled, target_left}
+use Rattle.jfr_mask.specs.Reaching.{target_left}
 
 abbrev head_leaves : Option Holder → ℕ → Shape → List ℕ → List LeafAt
 head_leaves h at s head = if s.array then record { kind = leaf_kinds.Count (worth_within 8 head); class = s.class; holder = h; at = at; spelled = head } ∷ [] else []
@@ -83,69 +83,8 @@ first_left masked f l ls = ap (those f) (by_target (target_left masked l)) ∙ t
     by_target None = refl
     by_target (Some t) = refl
 
--- The integer after the kind byte is the key.
-behind : (rest : List ℕ) (q v : ℕ) → IsSpellingWithin 8 rest → IntAt (2 ∷ rest) 1 q v → v ≡ worth_within 8 rest
-behind rest q v s i =
-    let e : slice_range (2 ∷ rest) 1 (length (2 ∷ rest)) ≡ rest = ap (λ z. take z rest) (omega arith) ∙ take_all (length rest) rest (omega arith) in
-    let j : IntAt (2 ∷ rest) 1 (length (2 ∷ rest)) (worth_within 8 rest) =
-    record { order = omega arith; within = omega arith; spelled = subst (λ z. Spells z (worth_within 8 rest)) (sym e) (record { form = s; worth = refl }) } in
-    (int_one (2 ∷ rest) 1 q (length (2 ∷ rest)) v (worth_within 8 rest) i j).1
-
-begins_with : (b : List ℕ) → 0 < length b → slice_index b 0 ≡ 2 → (rest : List ℕ) × (b ≡ 2 ∷ rest)
-begins_with [] h e = absurd (omega (h, arith))
-begins_with (kind ∷ rest) h e = (rest, ap (λ z. z ∷ rest) e)
-
--- A string that is a key and isn't masked.
-pub string_left : (masked : Option Holder → Bool) (l : LeafAt) (q v : ℕ) → KeyIsSpelled l → l.kind ≡ leaf_kinds.Base kinds.Text → 0 < length l.spelled → slice_index l.spelled 0 ≡ 2 → IntAt l.spelled 1 q v → masked l.holder ≡ false → target_left masked l ≡ Some (l.class, v)
-string_left masked l q v spelled t h e i m =
-    let b = begins_with l.spelled h e in
-    let w : v ≡ worth_within 8 b.0 = behind b.0 q v (spelled t b.0 b.1) (subst (λ z. IntAt z 1 q v) b.1 i) in
-    ap (λ z. if z && is_string_leaf l.kind then None else leaf_target l) m
-    ∙ (ap (λ z. option_map (λ key. (l.class, key)) (leaf_key z l.spelled)) t
-    ∙ (ap (λ z. option_map (λ key. (l.class, key)) (spelled_key z)) b.1 ∙ ap (λ z. Some (l.class, z)) (sym w)))
-
--- In a string that is a key, one integer follows the kind byte.
-string_spelled : (b : List ℕ) (s : strings.Content) → IsString b s → (rest : List ℕ) → b ≡ 2 ∷ rest → IsSpellingWithin 8 rest
-string_spelled [] s i rest e = absurd i
-string_spelled (kind ∷ b) strings.Null i rest e = let q : kind ≡ 2 = cc in let p : kind ≡ 0 = i.0 in cc
-string_spelled (kind ∷ b) strings.Empty i rest e = let q : kind ≡ 2 = cc in let p : kind ≡ 1 = i.0 in cc
-string_spelled (kind ∷ b) (strings.Key key) i rest e = let q : b ≡ rest = cc in subst (IsSpellingWithin 8) q i.1.form
-string_spelled (kind ∷ b) (strings.Utf8 bytes) i rest e = let q : kind ≡ 2 = cc in let p : kind ≡ 3 = i.0 in cc
-string_spelled (kind ∷ b) (strings.Units units) i rest e = let q : kind ≡ 2 = cc in let p : kind ≡ 4 = i.0 in cc
-string_spelled (kind ∷ b) (strings.Latin bytes) i rest e = let q : kind ≡ 2 = cc in let p : kind ≡ 5 = i.0 in cc
-
-single_spelled : (k : Classes) (s : Shape) (kind : LeafKind) (b : List ℕ) (key : Option ℕ) → IsSingle k s kind b key → kind ≡ leaf_kinds.Base kinds.Text → (rest : List ℕ) → b ≡ 2 ∷ rest → IsSpellingWithin 8 rest
-single_spelled k s kind b key (inl i) t rest e = let q = i.4 in cc
-single_spelled k s kind b key (inr i) t rest e =
-    let p : leaf_kinds.Base (kind_of i.2.name) ≡ leaf_kinds.Base kinds.Text = sym i.4 ∙ t in
-    let q : kind_of i.2.name ≡ kinds.Text = cc in
-    let j : IsBase kinds.Text b key = subst (λ z. IsBase z b key) q i.5 in
-    string_spelled b j.0 j.1 rest e
-
-head_spelled : (h : Option Holder) (at : ℕ) (s : Shape) (head : List ℕ) → AllByRecursion KeyIsSpelled (head_leaves h at s head)
-head_spelled h at s head = by_mark s.array
-  where
-    by_mark : (t : Bool) → AllByRecursion KeyIsSpelled (if t then record { kind = leaf_kinds.Count (worth_within 8 head); class = s.class; holder = h; at = at; spelled = head } ∷ [] else [])
-    by_mark true = (λ e. cc, tt)
-    by_mark false = tt
-
-mutual
-  value_spelled : (k : Classes) (h : Option Holder) (at : ℕ) (v : Value) → Fits k v → AllByRecursion KeyIsSpelled (leaves_at h at v)
-  value_spelled k h at (Single s kind b key) f = (single_spelled k s kind b key f, tt)
-  value_spelled k h at (Group s head vs) f =
-      all_append KeyIsSpelled (head_leaves h at s head) (leaves_from (part_holder s h) (at + length head) vs) (head_spelled h at s head) (values_spelled k (part_holder s h) (at + length head) vs f.1)
-
-  values_spelled : (k : Classes) (g : ℕ → Option Holder) (at : ℕ) (vs : Values) → AllFit k vs → AllByRecursion KeyIsSpelled (leaves_from g at vs)
-  values_spelled k g at Nil f = tt
-  values_spelled k g at (Cons v vs) f =
-      all_append KeyIsSpelled (leaves_at (g zero) at v) (leaves_from (λ n. g (suc n)) (at + length (bytes_of v)) vs)
-      (value_spelled k (g zero) at v f.0) (values_spelled k (λ n. g (suc n)) (at + length (bytes_of v)) vs f.1)
-
 -- For the node of a value.
 module _ (p : Parts) (sound : Sound p.classes) (n : NodeAt) (v : Value) (i : IsNode p.classes p.bytes n v) where
-  pub node_spelled : AllByRecursion KeyIsSpelled (leaves p.classes p.bytes n)
-  node_spelled = subst (AllByRecursion KeyIsSpelled) (sym (leaves_are p.classes sound p.bytes n v i)) (value_spelled p.classes None n.at v i.fits)
-
   pub node_left : (masked : Option Holder → Bool) → filter_map (target_left masked) (leaves p.classes p.bytes n) ≡ node_targets_but (is_masked_string masked) p n
   node_left masked =
       ap (filter_map (target_left masked)) (leaves_are p.classes sound p.bytes n v i)

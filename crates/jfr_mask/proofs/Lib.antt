@@ -6,7 +6,6 @@ mod ExchangeLaws
 mod FieldLaws
 mod HeadlineLaws
 mod ItselfLaws
-mod LaidLeaves
 mod LeafMasks
 mod MaskedChunk
 mod KnownLaws
@@ -25,6 +24,7 @@ mod Rows
 mod SecrecyLaws
 mod ShownLaws
 mod TextLaws
+mod VisitorLaws
 mod WalkBut
 mod RecordingLaws
 mod RecordingSteps

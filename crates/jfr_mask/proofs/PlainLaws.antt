@@ -6,7 +6,6 @@ use Rattle.std.proofs.Common.{ap, arith, cond, refl, sym, ◌∙◌, subst, inl,
 use Rattle.std.proofs.lemmas.Bool.{cases_lt, lt-ltb}
 use Rattle.std.proofs.lemmas.List.Folds.{find_at}
 use Rattle.std.proofs.lemmas.Option.{slice_get_within}
-use Rattle.jfr_base.proofs.Ranges.{range_split}
 use Rattle.jfr_layout.specs.Classes.{AreFieldLayouts, Class, Classes, Field, IsFieldLayout, Sound, class_index, find_class, item_of, kind_of}
 use Rattle.jfr_layout.specs.declared.field_layout.FieldLayout.{FieldLayout}
 use Rattle.jfr_layout.specs.declared.kind.Kind.{Kind}
@@ -189,14 +188,10 @@ mutual
 pub node_no_texts : (p : Parts) (masked : Option Holder → Bool) (known : List ℕ → Bool) (n : NodeAt) (v : Value) → Sound p.classes → IsNode p.classes p.bytes n v → HasNoMasked masked None v → node_texts masked known p n ≡ []
 node_no_texts p masked known n v sound i h = ap (λ o. option_map_or (masked_texts masked known p None) o []) (value_is p.classes p.bytes n v sound i) ∙ plain_texts masked known p None v h
 
--- The bytes around the node of such a value, with the masked value between them, are the bytes as they were.
-pub node_unchanged : (p : Parts) (masked : Option Holder → Bool) (show : List ℕ → List ℕ) (n : NodeAt) (v : Value) → Sound p.classes → IsNode p.classes p.bytes n v → HasNoMasked masked None v → (from to : ℕ) → from ≤ n.at → n.end ≤ to
-    → slice_range p.bytes from to ≡ slice_range p.bytes from n.at ++ (changed_bytes (masking masked show p) p.classes p.bytes n ++ slice_range p.bytes n.end to)
-node_unchanged p masked show n v sound i h from to u w =
-    let same : changed_bytes (masking masked show p) p.classes p.bytes n ≡ slice_range p.bytes n.at n.end =
-    ap (λ o. option_map_or (λ x. bytes_of (changed (masking masked show p) None x)) o []) (value_is p.classes p.bytes n v sound i) ∙ (ap bytes_of (plain_masked masked show p None v h) ∙ sym i.bytes) in
-    range_split p.bytes from n.at to u (omega (arith, i.order, w))
-    ∙ ap (λ z. slice_range p.bytes from n.at ++ z) (range_split p.bytes n.at n.end to i.order w ∙ ap (λ z. z ++ slice_range p.bytes n.end to) (sym same))
+-- The node of such a value keeps its bytes.
+pub node_unchanged : (p : Parts) (masked : Option Holder → Bool) (show : List ℕ → List ℕ) (n : NodeAt) (v : Value) → Sound p.classes → IsNode p.classes p.bytes n v → HasNoMasked masked None v → changed_bytes (masking masked show p) p.classes p.bytes n ≡ slice_range p.bytes n.at n.end
+node_unchanged p masked show n v sound i h =
+    ap (λ o. option_map_or (λ x. bytes_of (changed (masking masked show p) None x)) o []) (value_is p.classes p.bytes n v sound i) ∙ (ap bytes_of (plain_masked masked show p None v h) ∙ sym i.bytes)
 
 -- What the node of a value of a plain class refers to, when masked strings don't count, is all that it refers to.
 pub node_plain : (p : Parts) (masks : Masks) (flags : List Bool) (n : NodeAt) (v : Value) (m : ℕ) → Sound p.classes → ArePlain masks p.classes flags → IsNode p.classes p.bytes n v

@@ -1,13 +1,8 @@
 -- Masked values, leaf by leaf.
-use Rattle.std.specs.Prelude.{◌≡◌, ℕ, ◌+◌, Bool, true, false, ◌&&◌, List, [], ◌∷◌, ◌++◌, length, Option, slice_range, if◌then◌else◌}
+use Rattle.std.specs.Prelude.{ℕ, Bool, ◌&&◌, List, [], Option, if◌then◌else◌}
 use Rattle.std.specs.Option.{option_map}
-use Rattle.jfr_layout.specs.declared.kind.Kind.TheVariants.{Text}
-use Rattle.jfr_layout.specs.declared.shape.Shape.{Shape}
 use Rattle.jfr_value.specs.declared.leaf.Holder.{Holder}
-use Rattle.jfr_value.specs.declared.leaf.LeafKind.TheVariants.{Base}
 use Rattle.jfr_value.specs.Leaves.{LeafAt, leaf_key}
-use Rattle.jfr_value.specs.Nodes.{IsNode, node_at}
-use Rattle.jfr_value.specs.Values.{Single}
 use Rattle.jfr_chunk.specs.Parts.{Parts}
 use Rattle.jfr_mask.specs.Masked.{is_string_leaf, numbered_text, string_bytes, string_text}
 
@@ -27,19 +22,3 @@ leaf_texts masked known p l = if is_masked_leaf masked l then numbered_text know
 -- masked string.
 abbrev pub leaf_bytes : (Option Holder → Bool) → (List ℕ → List ℕ) → Parts → LeafAt → List ℕ
 leaf_bytes masked show p l = if is_masked_leaf masked l then string_bytes (option_map show (leaf_text p l)) else l.spelled
-
--- The shape of a leaf that is a string.
-abbrev pub string_shape : LeafAt → Shape
-string_shape l = record { class = l.class; constant = false; array = false }
-
--- The leaf, if it is a string, is one at its offset in the chunk.
-abbrev pub IsInChunk : Parts → LeafAt → Type 0
-IsInChunk p l = is_string_leaf l.kind ≡ true
-    → (l.kind ≡ Base Text) × IsNode p.classes p.bytes (node_at (string_shape l) l.at (l.at + length l.spelled)) (Single (string_shape l) (Base Text) l.spelled (leaf_key l.kind l.spelled))
-
--- The bytes of the masked chunk for those from an offset up to another one, between which these leaves are.
-abbrev pub masked_from : (Option Holder → Bool) → (List ℕ → List ℕ) → Parts → ℕ → ℕ → List LeafAt → List ℕ
-masked_from masked show p from to [] = slice_range p.bytes from to
-masked_from masked show p from to (l ∷ ls) =
-    if is_masked_leaf masked l then slice_range p.bytes from l.at ++ (string_bytes (option_map show (leaf_text p l)) ++ masked_from masked show p (l.at + length l.spelled) to ls)
-    else masked_from masked show p from to ls

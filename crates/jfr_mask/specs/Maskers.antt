@@ -17,7 +17,7 @@ use Rattle.jfr_mask.specs.declared.numbering.Numbering.{Numbering}
 use Rattle.jfr_mask.specs.declared.texts.MaskedStrings.{MaskedStrings}
 use Rattle.jfr_mask.specs.Fields.{masks_of}
 use Rattle.jfr_mask.specs.Masked.{is_held_masked, is_masked_string, masking, node_texts}
-use Rattle.jfr_mask.specs.MaskedLeaves.{leaf_texts, masked_from}
+use Rattle.jfr_mask.specs.MaskedLeaves.{leaf_texts}
 use Rattle.jfr_mask.specs.MaskOf.{Masking}
 use Rattle.jfr_mask.specs.Plain.{ArePlain}
 use Rattle.jfr_mask.specs.Pseudonyms.{has_text, shown}
@@ -62,10 +62,6 @@ rewrite_by m = record { change = change_by m; key = λ t. t.1; width = fewest_or
 -- The masking that these options ask for.
 abbrev pub masking_of : MaskOptions → Masking
 masking_of o = record { strings = o.strings.now; except = option_map_or (λ p. p.now) o.except []; known = has_text o.known.now; described = describes o.filter.now }
-
--- The bytes of the masked chunk for those from an offset up to another one, between which these leaves are.
-abbrev pub masked_by : Masker → ℕ → ℕ → List LeafAt → List ℕ
-masked_by m from to ls = masked_from (held_by m.strings) (shown_by m) m.strings.chunk.now from to ls
 
 -- The entry's value is one of the chunk.
 abbrev pub IsEntryValue : Parts → EntryAt → Type 0

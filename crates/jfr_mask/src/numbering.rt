@@ -9,8 +9,8 @@ ghost use Rattle.jfr_chunk.specs.Parts.{events_of, metadata_at};
 ghost use Rattle.jfr_chunk.specs.Reach.{kept_by};
 ghost use Rattle.jfr_output.specs.OutputRecords.{ShowsEvent, ShowsMetadata, output_record_as};
 ghost use Rattle.jfr_output.specs.Remaining.{NotFalling};
+ghost use Rattle.jfr_rewrite.specs.Copying.{LiesIn};
 ghost use Rattle.jfr_mask.specs.Masked.{numbered_text};
-ghost use Rattle.jfr_mask.specs.MaskedLeaves.{IsInChunk};
 ghost use Rattle.jfr_mask.specs.Maskers.{IsEntryValue, IsMaskingBy, KnowsPlain, entries_by, leaf_texts_by, node_texts_by};
 ghost use Rattle.jfr_mask.specs.MaskOf.{Masking, dictionary_after, origin_of, origin_texts};
 ghost use Rattle.jfr_mask.specs.Pseudonyms.{has_text, with_texts};
@@ -23,8 +23,9 @@ use jfr_chunk::Kept;
 use jfr_layout::Shape;
 use jfr_output::{Cursor, OutputRecord, entries_of, next_output_record};
 use jfr_pool::EntryAt;
-use jfr_value::{Leaf, Leaves, Node};
+use jfr_value::{Leaf, Node, VisitLeaf, visit_leaves};
 use std::alloc::Global;
+use std::mem;
 
 /// Adds the masked texts of a chunk to a dictionary, except for those that are shown as they are. If memory runs out,
 /// some of the texts are added.
@@ -135,16 +136,21 @@ impl Numbering<'_> {
         if self.strings.are_none_in(node) {
             return Ok(());
         }
-        let mut leaves = Leaves::new(self.strings.chunk.classes(), node);
-        while let Some(leaf) = leaves.next() {
-            self.add_leaf(dictionary, &leaf)?;
+        let mut growing = GrowingDictionary {
+            dictionary: mem::replace(dictionary, Dictionary::new(self.alloc)),
+            failed: false,
+        };
+        visit_leaves(self.strings.chunk.classes(), node, &mut growing, self);
+        *dictionary = growing.dictionary;
+        if growing.failed {
+            return Err(NoMemory);
         }
         Ok(())
     }
 
     /// Adds the text of a leaf, if it is a masked string with a text.
     fn add_leaf(&self, dictionary: &mut Dictionary, leaf: &Leaf<'_>) -> Result<(), NoMemory>
-        requires in_chunk { IsInChunk self.now.strings.chunk.now (leaf_of leaf.now) }
+        requires lies { LiesIn self.now.strings.chunk.now (leaf_of leaf.now) }
         ensures ok { OnOk result (dictionary.new ≡ with_texts dictionary.old (leaf_texts_by self.now (leaf_of leaf.now))) }
     {
         if !self.strings.has(leaf) {
@@ -153,6 +159,35 @@ impl Numbering<'_> {
         match leaf_text(self.alloc, self.strings.chunk, leaf)? {
             Some(text) => add_unless_shown(self.known, dictionary, text.as_str()),
             None => Ok(()),
+        }
+    }
+}
+
+/// A dictionary to which the texts of leaves are added during a visit. Once memory has run out, nothing more is added.
+#[derive(Drop)]
+struct GrowingDictionary {
+    dictionary: Dictionary,
+    failed: bool,
+}
+
+impl VisitLeaf<Numbering<'_>> for GrowingDictionary {
+    ghost use Rattle.std.specs.Prelude.{⊤};
+    ghost use Rattle.jfr_mask.specs.Maskers.{leaf_texts_by};
+    ghost use Rattle.jfr_mask.specs.Visitors.{AddsTexts};
+    ghost use Rattle.jfr_rewrite.specs.Copying.{LiesIn};
+
+    ghost admits = { λ numbering leaf. LiesIn numbering.strings.chunk.now leaf };
+
+    ghost ready = { λ growing numbering at. ⊤ };
+
+    ghost takes = { λ numbering leaf old new. AddsTexts (leaf_texts_by numbering leaf) old new };
+
+    fn visit_leaf(&mut self, numbering: &Numbering<'_>, leaf: Leaf<'_>) {
+        if self.failed {
+            return;
+        }
+        if numbering.add_leaf(&mut self.dictionary, &leaf).is_err() {
+            self.failed = true;
         }
     }
 }

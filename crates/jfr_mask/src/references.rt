@@ -1,9 +1,6 @@
 //! Marking what values refer to, except for their masked strings.
-ghost use Rattle.std.specs.Prelude.{◌≡◌, ◌<◌, ◌∷◌, [], All, length, option_to_list, slice_get};
+ghost use Rattle.std.specs.Prelude.{◌≡◌, ◌<◌, All, length, option_to_list, slice_get};
 ghost use Rattle.jfr_layout.specs.Classes.{Sound};
-ghost use Rattle.jfr_layout.specs.declared.kind.Kind.TheVariants as kinds;
-ghost use Rattle.jfr_value.specs.declared.leaf.LeafKind.TheVariants as leaf_kinds;
-ghost use Rattle.jfr_value.specs.Leaves.{leaf_of};
 ghost use Rattle.jfr_value.specs.Nodes.{IsValue, node_of};
 ghost use Rattle.jfr_worklist.specs.Marks.{those};
 ghost use Rattle.jfr_worklist.specs.Putting.{Puts};
@@ -12,16 +9,13 @@ ghost use Rattle.jfr_chunk.specs.Parts.{events_of};
 ghost use Rattle.jfr_mask.specs.Masked.{is_held_masked, is_masked_string};
 ghost use Rattle.jfr_mask.specs.Plain.{ArePlain};
 ghost use Rattle.jfr_mask.specs.ReachBut.{node_targets_but, roots_but};
-ghost use Rattle.jfr_mask.specs.Reaching.{KeyIsSpelled, target_left};
+ghost use Rattle.jfr_mask.specs.Maskers.{held_by};
 
 use crate::MaskedFields;
-use crate::holders::is_held_masked;
 use crate::plain::PlainClasses;
-use jfr_base::read_within;
+use crate::texts::MaskedStrings;
 use jfr_chunk::Chunk;
-use jfr_layout::Kind;
-use jfr_text::is_key;
-use jfr_value::{Leaf, LeafKind, Leaves, Node, Visit, visit_targets};
+use jfr_value::{Leaf, Node, Visit, VisitLeaf, visit_leaves, visit_targets};
 use jfr_worklist::Worklist;
 
 /// Marks the entries in force to which a value refers, except by its masked strings. It allocates nothing.
@@ -43,7 +37,12 @@ pub(crate) fn put_value(
         visit_targets(chunk.classes(), node, list, chunk.pools());
         return;
     }
-    put_leaves(list, chunk, masked, node);
+    let strings = MaskedStrings {
+        chunk,
+        masked,
+        plain,
+    };
+    put_leaves(list, strings, node);
 }
 
 /// As `put_value`, for the fields of the event with this number. If its class is plain, they aren't read again: the
@@ -64,7 +63,12 @@ pub(crate) fn put_event(
         return;
     };
     if !plain.has_id(chunk.classes(), event.node.shape.class) {
-        put_leaves(list, chunk, masked, event.node);
+        let strings = MaskedStrings {
+            chunk,
+            masked,
+            plain,
+        };
+        put_leaves(list, strings, event.node);
         return;
     }
     if let Some(entries) = chunk.event_entries(number) {
@@ -83,48 +87,39 @@ fn put_each(list: &mut Worklist, numbers: &[u32])
 }
 
 /// As `put_value`, by the leaves of the value.
-fn put_leaves(list: &mut Worklist, chunk: &Chunk<'_>, masked: &MaskedFields, node: Node<'_>)
-    requires sound { Sound chunk.now.classes }
-    requires bytes { node.bytes.now ≡ chunk.now.bytes }
-    requires value { IsValue chunk.now.classes node }
-    requires size { length list.old.flags.items ≡ length chunk.now.entries }
-    ensures { Puts (those (number_in_force chunk.now.entries) (node_targets_but (is_masked_string (is_held_masked masked.now chunk.now.classes)) chunk.now (node_of node.entry))) list.old list.new }
+fn put_leaves(list: &mut Worklist, strings: MaskedStrings<'_>, node: Node<'_>)
+    requires bytes { node.bytes.now ≡ strings.chunk.now.bytes }
+    requires value { IsValue strings.chunk.now.classes node }
+    requires size { length list.old.flags.items ≡ length strings.chunk.now.entries }
+    ensures { Puts (those (number_in_force strings.chunk.now.entries) (node_targets_but (is_masked_string (held_by strings)) strings.chunk.now (node_of node.entry))) list.old list.new }
 {
-    // A `for` would copy the iterator, which is large.
-    let mut leaves = Leaves::new(chunk.classes(), node);
-    while let Some(leaf) = leaves.next() {
-        put_leaf(list, chunk, masked, leaf);
-    }
+    strings.chunk.parts_are_valid();
+    visit_leaves(strings.chunk.classes(), node, list, &strings);
 }
 
-/// Marks the entry in force to which a leaf refers, if it does and isn't a masked string.
-fn put_leaf(list: &mut Worklist, chunk: &Chunk<'_>, masked: &MaskedFields, leaf: Leaf<'_>)
-    requires spelled { KeyIsSpelled (leaf_of leaf) }
-    requires size { length list.old.flags.items ≡ length chunk.now.entries }
-    ensures { Puts (those (number_in_force chunk.now.entries) (option_to_list (target_left (is_held_masked masked.now chunk.now.classes) (leaf_of leaf.entry)))) list.old list.new }
-{
-    match leaf.kind {
-        LeafKind::Key(key) => list.visit(chunk.pools(), leaf.class, key),
-        LeafKind::Base(Kind::Text) => put_string(list, chunk, masked, leaf),
-        _ => {}
-    }
-}
+impl VisitLeaf<MaskedStrings<'_>> for Worklist {
+    ghost use Rattle.std.specs.Prelude.{◌≡◌, ◌∷◌, [], length, option_to_list};
+    ghost use Rattle.jfr_value.specs.Leaves.{KeyIsSpelled};
+    ghost use Rattle.jfr_value.specs.Visits.{TakesAll};
+    ghost use Rattle.jfr_pool.specs.Entries.{number_in_force};
+    ghost use Rattle.jfr_worklist.specs.Marks.{those};
+    ghost use Rattle.jfr_worklist.specs.Putting.{Puts};
+    ghost use Rattle.jfr_mask.specs.Maskers.{held_by};
+    ghost use Rattle.jfr_mask.specs.Reaching.{target_left};
 
-/// Marks the entry in force to which a string refers, if it is a key and isn't masked.
-fn put_string(list: &mut Worklist, chunk: &Chunk<'_>, masked: &MaskedFields, leaf: Leaf<'_>)
-    requires text { leaf.kind ≡ leaf_kinds.Base kinds.Text }
-    requires spelled { KeyIsSpelled (leaf_of leaf) }
-    requires size { length list.old.flags.items ≡ length chunk.now.entries }
-    ensures { Puts (those (number_in_force chunk.now.entries) (option_to_list (target_left (is_held_masked masked.now chunk.now.classes) (leaf_of leaf.entry)))) list.old list.new }
-{
-    if !is_key(leaf.spelled, 0, leaf.spelled.len()) {
-        return;
+    ghost admits = { λ strings leaf. KeyIsSpelled leaf };
+
+    ghost ready = { λ list strings at. length list.flags.items ≡ length strings.chunk.now.entries };
+
+    ghost takes = { λ strings leaf old new. TakesAll (λ t a b. Puts (those (number_in_force strings.chunk.now.entries) (t ∷ [])) a b) (option_to_list (target_left (held_by strings) leaf)) old new };
+
+    /// Marks the entry in force to which a leaf refers, if it does and isn't a masked string.
+    fn visit_leaf(&mut self, strings: &MaskedStrings<'_>, leaf: Leaf<'_>) {
+        if strings.has(&leaf) {
+            return;
+        }
+        if let Some(key) = leaf.key() {
+            self.visit(strings.chunk.pools(), leaf.class, key);
+        }
     }
-    if is_held_masked(masked, chunk.classes(), leaf.holder) {
-        return;
-    }
-    let Ok(key) = read_within(leaf.spelled, 1, leaf.spelled.len()) else {
-        unreachable!()
-    };
-    list.visit(chunk.pools(), leaf.class, key.value);
 }

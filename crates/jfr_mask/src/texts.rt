@@ -3,8 +3,9 @@ ghost use Rattle.std.specs.Prelude.{◌≡◌, true, None, IfOk, IsTrue};
 ghost use Rattle.jfr_value.specs.Leaves.{leaf_of};
 ghost use Rattle.jfr_value.specs.Nodes.{IsNode, node_of};
 ghost use Rattle.jfr_value.specs.Values.{Value};
+ghost use Rattle.jfr_rewrite.specs.Copying.{LiesIn};
 ghost use Rattle.jfr_mask.specs.Masked.{is_string_leaf};
-ghost use Rattle.jfr_mask.specs.MaskedLeaves.{IsInChunk, is_masked_leaf, leaf_text};
+ghost use Rattle.jfr_mask.specs.MaskedLeaves.{is_masked_leaf, leaf_text};
 ghost use Rattle.jfr_mask.specs.Maskers.{KnowsPlain, held_by};
 ghost use Rattle.jfr_mask.specs.Plain.{HasNoMasked};
 
@@ -61,7 +62,7 @@ pub(crate) fn leaf_text(
     leaf: &Leaf<'_>,
 ) -> Result<Option<Text>, NoMemory>
     requires string { is_string_leaf leaf.now.kind ≡ true }
-    requires in_chunk { IsInChunk chunk.now (leaf_of leaf.now) }
+    requires lies { LiesIn chunk.now (leaf_of leaf.now) }
     ensures ok { IfOk result (λ text. text ≡ leaf_text chunk.now (leaf_of leaf.now)) }
 {
     chunk.parts_are_valid();

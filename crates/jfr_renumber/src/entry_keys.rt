@@ -3,15 +3,14 @@ ghost use Rattle.std.specs.Prelude.{◌≡◌, map, IfOk};
 ghost use Rattle.jfr_renumber.specs.Numbers.{number_or_zero};
 ghost use Rattle.jfr_renumber.specs.Renumber.{pair_of};
 
-use crate::fields::put_value;
 use crate::numbered::NumberedKeys;
-use crate::rewriting::NewKeys;
+use crate::rewriting::{NewKeys, may_change, put_leaf};
 use jfr_base::NoMemory;
 use jfr_chunk::Chunk;
 use jfr_frame::Framed;
 use jfr_pool::{EntryAt, Pools};
 use jfr_rewrite::Rewriter;
-use jfr_value::Node;
+use jfr_value::{Leaf, Node};
 use std::alloc::Global;
 use std::marker::Model;
 
@@ -83,16 +82,24 @@ impl<'k> Rewriter for EntryKeys<'k> {
 
     ghost suits = { λ _ _. ⊤ };
 
-    fn put_changed(
+    fn stays(&self, _chunk: &Chunk<'_>, _node: Node<'_>) -> bool {
+        false
+    }
+
+    #[inline(always)]
+    fn may_change(&self, _chunk: &Chunk<'_>, leaf: &Leaf<'_>) -> bool {
+        self.zero_is_kept();
+        may_change(leaf)
+    }
+
+    #[inline(always)]
+    fn put_leaf(
         &self,
         out: &mut Vec<u8>,
-        chunk: &Chunk<'_>,
-        node: Node<'_>,
-        from: usize,
-        to: usize,
+        _chunk: &Chunk<'_>,
+        leaf: &Leaf<'_>,
     ) -> Result<(), NoMemory> {
-        chunk.parts_are_valid();
-        put_value(out, chunk.classes(), node, from, to, self)
+        put_leaf(out, leaf, self)
     }
 
     #[inline]

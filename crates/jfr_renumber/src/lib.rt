@@ -12,8 +12,6 @@
 #![tactic(auto)]
 
 mod entry_keys;
-mod field;
-mod fields;
 mod finding;
 mod firsts;
 mod laws;
@@ -23,7 +21,6 @@ mod numbering;
 mod output;
 mod renumberer;
 mod rewriting;
-mod same;
 mod stream;
 mod values;
 

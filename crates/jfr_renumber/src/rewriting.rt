@@ -1,19 +1,14 @@
-//! Values with new keys.
-ghost use Rattle.std.specs.Prelude.{◌≡◌, ℕ, ◌++◌, OnOk};
-ghost use Rattle.jfr_base.specs.Integer.{spell};
-ghost use Rattle.jfr_layout.specs.Classes.{Sound};
-ghost use Rattle.jfr_layout.specs.declared.kind.Kind.TheVariants as kinds;
+//! Leaves with new keys.
+ghost use Rattle.std.specs.Prelude.{◌≡◌, ℕ, ◌++◌, false, OnOk};
+ghost use Rattle.jfr_base.specs.Integer.{Spells};
 ghost use Rattle.jfr_value.specs.declared.leaf.LeafKind.TheVariants as leaf_kinds;
-ghost use Rattle.jfr_value.specs.Leaves.{leaf_of};
-ghost use Rattle.jfr_value.specs.Nodes.{IsValue, node_of};
-ghost use Rattle.jfr_renumber.specs.Rekeyed.{rekeyed_bytes};
-ghost use Rattle.jfr_renumber.specs.Rewriting.{KeyFollowsKind, leaf_with};
+ghost use Rattle.jfr_value.specs.Leaves.{KeyIsSpelled, leaf_of};
+ghost use Rattle.jfr_renumber.specs.Rewriting.{leaf_with};
 
-use jfr_base::{NoMemory, push_var, read_within};
-use jfr_layout::{Classes, Kind};
+use jfr_base::{NoMemory, push_var};
+use jfr_layout::Kind;
 use jfr_text::{KEY_BYTE, is_key};
-use jfr_value::{Leaf, LeafKind, Leaves, Node};
-use std::alloc::AllocError;
+use jfr_value::{Leaf, LeafKind};
 
 /// The new key of each class and key.
 pub(crate) trait NewKeys {
@@ -29,50 +24,36 @@ pub(crate) trait NewKeys {
         ensures { (class : ℕ) → keys self.now (class, 0) ≡ 0 };
 }
 
-/// Appends a value with new keys.
-pub(crate) fn put_rekeyed<N: NewKeys>(
-    out: &mut Vec<u8>,
-    classes: &Classes,
-    node: Node<'_>,
-    new: &N,
-) -> Result<(), NoMemory>
-    requires sound { Sound classes.now }
-    requires value { IsValue classes.now node }
-    ensures ok { OnOk result (out.new.items ≡ out.old.items ++ rekeyed_bytes (N.keys new.now) classes.now node.entry.bytes.now (node_of node.entry)) }
+/// Whether a leaf may become other bytes with new keys: it is a reference, but not one with the key 0 in one byte, or a
+/// string that is a key.
+#[inline(always)]
+pub(crate) fn may_change(leaf: &Leaf<'_>) -> bool
+    requires { (n : ℕ) → leaf.now.kind ≡ leaf_kinds.Key n → Spells leaf.now.spelled.now n }
+    ensures { result ≡ false → (new : ℕ × ℕ → ℕ) → ((class : ℕ) → new (class, 0) ≡ 0) → leaf_with new (leaf_of leaf.now) ≡ leaf.now.spelled.now }
 {
-    // A `for` would copy the iterator, which is large.
-    let mut leaves = Leaves::new(classes, node);
-    while let Some(leaf) = leaves.next() {
-        put_leaf(out, leaf, new)?;
+    match leaf.kind {
+        LeafKind::Key(key) => key != 0 || leaf.spelled.len() > 1,
+        LeafKind::Base(Kind::Text) => is_key(leaf.spelled, 0, leaf.spelled.len()),
+        _ => false,
     }
-    Ok(())
 }
 
 /// Appends a leaf, with its new key if it has a key.
-fn put_leaf<N: NewKeys>(out: &mut Vec<u8>, leaf: Leaf<'_>, new: &N) -> Result<(), AllocError>
-    requires holds { KeyFollowsKind (leaf_of leaf) }
-    ensures ok { OnOk result (out.new.items ≡ out.old.items ++ leaf_with (N.keys new.now) (leaf_of leaf.entry)) }
+#[inline(always)]
+pub(crate) fn put_leaf<N: NewKeys>(
+    out: &mut Vec<u8>,
+    leaf: &Leaf<'_>,
+    new: &N,
+) -> Result<(), NoMemory>
+    requires { KeyIsSpelled (leaf_of leaf.now) }
+    ensures ok { OnOk result (out.new.items ≡ out.old.items ++ leaf_with (N.keys new.now) (leaf_of leaf.now)) }
 {
-    match leaf.kind {
-        LeafKind::Key(key) => push_var(out, new.new_key(leaf.class, key)),
-        LeafKind::Base(Kind::Text) => put_string(out, leaf, new),
-        _ => out.extend_from_slice(leaf.spelled),
-    }
-}
-
-/// Appends a string, with its new key if it is a key.
-#[tactic(auto, using(crate::proofs::RewritingLaws::string_with, crate::proofs::RewritingLaws::other_with))]
-fn put_string<N: NewKeys>(out: &mut Vec<u8>, leaf: Leaf<'_>, new: &N) -> Result<(), AllocError>
-    requires text { leaf.kind ≡ leaf_kinds.Base kinds.Text }
-    requires holds { KeyFollowsKind (leaf_of leaf) }
-    ensures ok { OnOk result (out.new.items ≡ out.old.items ++ leaf_with (N.keys new.now) (leaf_of leaf.entry)) }
-{
-    if !is_key(leaf.spelled, 0, leaf.spelled.len()) {
-        return out.extend_from_slice(leaf.spelled);
-    }
-    let Ok(key) = read_within(leaf.spelled, 1, leaf.spelled.len()) else {
-        unreachable!()
+    let Some(key) = leaf.key() else {
+        return Ok(out.extend_from_slice(leaf.spelled)?);
     };
-    out.push(KEY_BYTE)?;
-    push_var(out, new.new_key(leaf.class, key.value))
+    match leaf.kind {
+        LeafKind::Base(_) => out.push(KEY_BYTE)?,
+        _ => {}
+    }
+    push_var(out, new.new_key(leaf.class, key))
 }

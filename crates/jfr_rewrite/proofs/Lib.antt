@@ -3,10 +3,12 @@ mod Carried
 pub mod ChangeLaws
 mod CheckpointBack
 pub mod CheckpointWriting
+mod CopyLaws
 mod Events
 pub mod EventWriting
 mod InForce
 mod Made
+pub mod LaidLeaves
 pub mod MeaningLaws
 pub mod OneToOneLaws
 pub mod Output

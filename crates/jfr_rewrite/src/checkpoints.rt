@@ -7,6 +7,7 @@ ghost use Rattle.jfr_rewrite.specs.Rewrite.{checkpoint_tail, entry_bytes, group_
 ghost use Rattle.jfr_rewrite.specs.Rewritten.{CarriesTail};
 ghost use Rattle.jfr_rewrite.specs.Writing.{Wrote};
 
+use crate::copying::{Changing, put_changed};
 use crate::fault::WriteFault;
 use crate::rewriter::Rewriter;
 use crate::size::put_size;
@@ -44,7 +45,8 @@ fn put_entry<R: Rewriter>(
         end: entry.end,
     };
     push_var(out, rewriting.entry_key(entry.class, entry.key))?;
-    rewriting.put_changed(out, chunk, node, node.at, node.end)
+    let changing = Changing { chunk, rewriting };
+    put_changed(out, &changing, node, node.at, node.end)
 }
 
 /// Appends the entries of a pool.

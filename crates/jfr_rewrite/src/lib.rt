@@ -4,7 +4,7 @@
 //!
 //! | entry | what it is |
 //! |---|---|
-//! | `Rewriter` | how a chunk is rewritten: what becomes of values, the keys of entries, and how wide sizes are |
+//! | `Rewriter` | how a chunk is rewritten: what becomes of leaves, the keys of entries, and how wide sizes are |
 //! | `Source` | what a rewritten chunk is made from: the chunk, the kept events, the remaining entries, a `Rewriter` |
 //! | `write_chunk` | writes the rewritten chunk |
 //! | `WriteFault` | why that failed: an allocation, or a size that doesn't fit in its bytes |
@@ -29,6 +29,7 @@
 #![tactic(auto)]
 
 mod checkpoints;
+mod copying;
 mod fault;
 mod laws;
 mod records;

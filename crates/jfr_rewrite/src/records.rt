@@ -8,6 +8,7 @@ ghost use Rattle.jfr_rewrite.specs.Rewrite.{event_bytes, event_tail};
 ghost use Rattle.jfr_rewrite.specs.Rewritten.{CarriesTail};
 ghost use Rattle.jfr_rewrite.specs.Writing.{Wrote};
 
+use crate::copying::{Changing, put_changed};
 use crate::fault::WriteFault;
 use crate::rewriter::Rewriter;
 use crate::size::put_size;
@@ -34,7 +35,8 @@ fn put_event<R: Rewriter>(
     let frame = event.frame;
     let start = out.len();
     // From `frame.at` on: the old size is copied too, and `put_size` replaces it.
-    rewriting.put_changed(out, chunk, event.node, frame.at, frame.end())?;
+    let changing = Changing { chunk, rewriting };
+    put_changed(out, &changing, event.node, frame.at, frame.end())?;
     put_size(out, scratch, start, frame, rewriting)
 }
 

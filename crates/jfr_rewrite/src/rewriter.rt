@@ -1,14 +1,15 @@
 //! How chunks are rewritten, as a trait.
-ghost use Rattle.std.specs.Prelude.{◌≡◌, ◌≤◌, ◌-◌, ◌++◌, false, length, OnOk};
+ghost use Rattle.std.specs.Prelude.{◌≡◌, ◌≤◌, ◌-◌, ◌++◌, false, slice_range, IsTrue, OnOk};
 ghost use Rattle.jfr_chunk.specs.Parts.{Parts};
 ghost use Rattle.jfr_value.specs.Nodes.{IsValue, node_of};
-ghost use Rattle.jfr_rewrite.specs.Rewrite.{Rewrite};
-ghost use Rattle.jfr_rewrite.specs.Writing.{changed_within};
+ghost use Rattle.jfr_value.specs.Leaves.{leaf_of};
+ghost use Rattle.jfr_rewrite.specs.Copying.{LiesIn, leaf_becomes};
+ghost use Rattle.jfr_rewrite.specs.Rewrite.{Rewrite, changed_bytes};
 
 use jfr_base::NoMemory;
 use jfr_chunk::Chunk;
 use jfr_frame::Framed;
-use jfr_value::Node;
+use jfr_value::{Leaf, Node};
 
 /// How a chunk is rewritten: what becomes of values, which keys entries get, and how wide sizes are.
 pub trait Rewriter {
@@ -18,25 +19,24 @@ pub trait Rewriter {
     /// The chunks that are rewritten so.
     ghost suits: { Self → Parts → Type 0 };
 
-    /// Appends the chunk's bytes from `from` up to an inline value, the changed value, and the bytes after it up
-    /// to `to`.
-    fn put_changed(
-        &self,
-        out: &mut Vec<u8>,
-        chunk: &Chunk<'_>,
-        node: Node<'_>,
-        from: usize,
-        to: usize,
-    ) -> Result<(), NoMemory>
+    /// Whether all of a node's value stays the same. Then its leaves aren't visited.
+    fn stays(&self, chunk: &Chunk<'_>, node: Node<'_>) -> bool
         requires suits { suits self.now chunk.now }
         requires of_chunk { node.bytes.now ≡ chunk.now.bytes }
         requires value { IsValue chunk.now.classes node }
-        requires array { node.shape.array ≡ false }
-        requires constant { node.shape.constant ≡ false }
-        requires start { from ≤ node.at }
-        requires end { node.end ≤ to }
-        requires within { to ≤ length chunk.now.bytes }
-        ensures ok { OnOk result (out.new.items ≡ out.old.items ++ changed_within (rewrite self.now).change chunk.now (node_of node.entry) from to) };
+        ensures { IsTrue result → changed_bytes (rewrite self.now).change chunk.now.classes chunk.now.bytes (node_of node.entry) ≡ slice_range chunk.now.bytes node.entry.at node.entry.end };
+
+    /// Whether a leaf may become other bytes. If not, it stays the same.
+    fn may_change(&self, chunk: &Chunk<'_>, leaf: &Leaf<'_>) -> bool
+        requires suits { suits self.now chunk.now }
+        requires lies { LiesIn chunk.now (leaf_of leaf.now) }
+        ensures { result ≡ false → leaf_becomes (rewrite self.now).change (leaf_of leaf.now) ≡ leaf.now.spelled.now };
+
+    /// Appends what a leaf becomes.
+    fn put_leaf(&self, out: &mut Vec<u8>, chunk: &Chunk<'_>, leaf: &Leaf<'_>) -> Result<(), NoMemory>
+        requires suits { suits self.now chunk.now }
+        requires lies { LiesIn chunk.now (leaf_of leaf.now) }
+        ensures ok { OnOk result (out.new.items ≡ out.old.items ++ leaf_becomes (rewrite self.now).change (leaf_of leaf.now)) };
 
     /// The key of an entry that had this class and this key.
     fn entry_key(&self, class: u64, key: u64) -> u64

@@ -1,7 +1,8 @@
--- The leaves of a value lie one after another, and each that is a string is a value by itself.
-use Rattle.std.specs.Prelude.{◌≡◌, ℕ, zero, suc, ◌+◌, ◌≤◌, Bool, true, false, List, [], ◌∷◌, ◌++◌, length, Option, None, slice_range, if◌then◌else◌}
+-- The leaves of a value lie one after another in the chunk.
+use Rattle.std.specs.Prelude.{◌≡◌, ℕ, zero, suc, ◌+◌, ◌≤◌, Bool, true, false, List, [], ◌∷◌, ◌++◌, length, Option, None, slice_range, ⊤, if◌then◌else◌}
+use Rattle.std.specs.List.{AllByRecursion}
 use Rattle.std.proofs.Common.{ap, append-nil, arith, refl, sym, ◌∙◌, subst, inl, inr}
-use Rattle.jfr_base.specs.Integer.{worth_within}
+use Rattle.jfr_base.specs.Integer.{Spells, worth_within}
 use Rattle.jfr_base.proofs.RunLaws.{Halves, Stands, stands_split}
 use Rattle.jfr_layout.specs.Classes.{Classes, Sound, kind_of}
 use Rattle.jfr_layout.specs.declared.kind.Kind.TheVariants as kinds
@@ -9,29 +10,31 @@ use Rattle.jfr_layout.specs.declared.shape.Shape.{Shape}
 use Rattle.jfr_value.specs.declared.leaf.Holder.{Holder}
 use Rattle.jfr_value.specs.declared.leaf.LeafKind.{LeafKind}
 use Rattle.jfr_value.specs.declared.leaf.LeafKind.TheVariants as leaf_kinds
-use Rattle.jfr_value.specs.Leaves.{LeafAt, leaf_key, leaves, leaves_at, leaves_from, part_holder}
+use Rattle.jfr_value.specs.Leaves.{KeyIsSpelled, LeafAt, leaf_key, leaves, leaves_at, leaves_from, part_holder}
 use Rattle.jfr_value.specs.Nodes.{IsNode, NodeAt}
 use Rattle.jfr_value.specs.Values.{AllFit, Fits, IsBase, IsHead, IsSingle, Group, Single, Value, Values, Nil, Cons, bytes_of, bytes_of_all, shapes_of}
+use Rattle.jfr_value.proofs.LeafKeys.{keys_spelled}
 use Rattle.jfr_value.proofs.LeafLaws.{base_key}
 use Rattle.jfr_value.proofs.NodeLaws.{node_stands}
 use Rattle.jfr_value.proofs.TargetLaws.{leaves_are}
-use Rattle.jfr_rewrite.specs.Changed.{is_key, leaf_shape}
 use Rattle.jfr_chunk.specs.Parts.{Parts}
-use Rattle.jfr_mask.specs.Masked.{is_string_leaf}
-use Rattle.jfr_mask.specs.MaskedLeaves.{IsInChunk}
-use Rattle.jfr_mask.proofs.MaskLaws.{text_kind}
+use Rattle.jfr_rewrite.specs.Changed.{is_key, leaf_shape}
+use Rattle.jfr_rewrite.specs.Copying.{LiesIn}
 
--- A leaf as a value.
+-- A leaf as a value without parts.
 abbrev pub leaf_value : LeafAt → Value
 leaf_value l = Single (leaf_shape l) l.kind l.spelled (leaf_key l.kind l.spelled)
 
-abbrev pub StringFits : Classes → LeafAt → Type 0
-StringFits k l = is_string_leaf l.kind ≡ true → Fits k (leaf_value l)
+-- A leaf that isn't a count fits as such a value.
+abbrev pub LeafFits : Classes → LeafAt → LeafKind → Type 0
+LeafFits k l (leaf_kinds.Count n) = ⊤
+LeafFits k l (leaf_kinds.Key key) = Fits k (leaf_value l)
+LeafFits k l (leaf_kinds.Base kind) = Fits k (leaf_value l)
 
 -- These leaves lie one after another, from one offset up to another.
 abbrev pub AreLaid : Classes → List ℕ → ℕ → ℕ → List LeafAt → Type 0
 AreLaid k c at end [] = at ≡ end
-AreLaid k c at end (l ∷ ls) = (l.at ≡ at) × (slice_range c at (at + length l.spelled) ≡ l.spelled) × StringFits k l × AreLaid k c (at + length l.spelled) end ls
+AreLaid k c at end (l ∷ ls) = (l.at ≡ at) × (slice_range c at (at + length l.spelled) ≡ l.spelled) × LeafFits k l l.kind × AreLaid k c (at + length l.spelled) end ls
 
 pub laid_order : (k : Classes) (c : List ℕ) (at end : ℕ) (ls : List LeafAt) → AreLaid k c at end ls → at ≤ end
 laid_order k c at end [] h = omega (arith, h)
@@ -47,10 +50,13 @@ single_key k s kind b key (inl i) = ap (λ z. leaf_key z b) i.4 ∙ sym i.5
 single_key k s kind b key (inr i) = ap (λ z. leaf_key z b) i.4 ∙ base_key (kind_of i.2.name) b key i.5
 
 single_fits : (k : Classes) (holder : Option Holder) (at : ℕ) (s : Shape) (kind : LeafKind) (b : List ℕ) (key : Option ℕ) → IsSingle k s kind b key
-    → StringFits k (record { kind = kind; class = s.class; holder = holder; at = at; spelled = b })
-single_fits k holder at s kind b key (inl i) h = let e : is_string_leaf kind ≡ false = ap is_string_leaf i.4 in cc
-single_fits k holder at s kind b key (inr i) h =
-    inr (refl, ap is_key i.4, i.2, i.3, i.4, subst (IsBase (kind_of i.2.name) b) (sym (single_key k s kind b key (inr i))) i.5)
+    → LeafFits k (record { kind = kind; class = s.class; holder = holder; at = at; spelled = b }) kind
+single_fits k holder at s (leaf_kinds.Count n) b key i = tt
+single_fits k holder at s (leaf_kinds.Key n) b key (inl i) = inl (refl, refl, i.2, i.3, i.4, single_key k s (leaf_kinds.Key n) b key (inl i) ∙ i.5)
+single_fits k holder at s (leaf_kinds.Key n) b key (inr i) = let e = i.4 in cc
+single_fits k holder at s (leaf_kinds.Base kind) b key (inl i) = let e = i.4 in cc
+single_fits k holder at s (leaf_kinds.Base kind) b key (inr i) =
+    inr (refl, refl, i.2, i.3, i.4, subst (IsBase (kind_of i.2.name) b) (sym (single_key k s (leaf_kinds.Base kind) b key (inr i))) i.5)
 
 -- The leaf of an array's count, or none.
 abbrev pub marked_leaves : Bool → Option Holder → ℕ → Shape → List ℕ → List LeafAt
@@ -61,7 +67,7 @@ head_laid : (k : Classes) (c : List ℕ) (holder : Option Holder) (at : ℕ) (s 
 head_laid k c holder at s h ss (inl i) e = by_mark s.array i.0
   where
     by_mark : (mark : Bool) → mark ≡ true → AreLaid k c at (at + length h) (marked_leaves mark holder at s h)
-    by_mark true t = (refl, e, λ f. cc, refl)
+    by_mark true t = (refl, e, tt, refl)
     by_mark false t = cc
 head_laid k c holder at s h ss (inr i) e = by_mark s.array i.0
   where
@@ -95,31 +101,45 @@ mutual
 pub node_laid : (k : Classes) → Sound k → (c : List ℕ) (n : NodeAt) (v : Value) → IsNode k c n v → AreLaid k c n.at n.end (leaves k c n)
 node_laid k sound c n v i = subst (AreLaid k c n.at n.end) (sym (leaves_are k sound c n v i)) (value_laid k c None n.at n.end v (node_stands k c n v i) i.fits)
 
--- The first leaf, if it is a string, is one at its offset.
-pub string_in : (p : Parts) (at end : ℕ) (l : LeafAt) (ls : List LeafAt) → AreLaid p.classes p.bytes at end (l ∷ ls) → end ≤ length p.bytes → IsInChunk p l
-string_in p at end l ls h w t =
+-- What a leaf's kind says of it.
+reference_spells : (k : Classes) (l : LeafAt) (kind : LeafKind) (n : ℕ) → l.kind ≡ kind → LeafFits k l kind → kind ≡ leaf_kinds.Key n → Spells l.spelled n
+reference_spells k l (leaf_kinds.Count m) n e f q = cc
+reference_spells k l (leaf_kinds.Base kind) n e f q = cc
+reference_spells k l (leaf_kinds.Key m) n e (inl f) q =
+    let x : leaf_kinds.Key n ≡ leaf_kinds.Key f.2 = sym q ∙ (sym e ∙ f.4) in
+    let y : f.2 ≡ n = cc in
+    subst (Spells l.spelled) y f.3
+reference_spells k l (leaf_kinds.Key m) n e (inr f) q = let x = sym e ∙ f.4 in cc
+
+string_fits : (k : Classes) (l : LeafAt) (kind : LeafKind) → l.kind ≡ kind → LeafFits k l kind → kind ≡ leaf_kinds.Base kinds.Text → Fits k (leaf_value l)
+string_fits k l (leaf_kinds.Count m) e f q = cc
+string_fits k l (leaf_kinds.Base kind) e f q = f
+string_fits k l (leaf_kinds.Key m) e f q = cc
+
+leaf_lies : (p : Parts) (at end : ℕ) (l : LeafAt) (ls : List LeafAt) → AreLaid p.classes p.bytes at end (l ∷ ls) → end ≤ length p.bytes → KeyIsSpelled l → LiesIn p l
+leaf_lies p at end l ls h w key =
     let o : at + length l.spelled ≤ end = laid_order p.classes p.bytes (at + length l.spelled) end ls h.3 in
     let e : l.at ≡ at = h.0 in
-    let kind : l.kind ≡ leaf_kinds.Base kinds.Text = text_leaf l.kind t in
-    let value : LeafKind → Value = λ k. Single (record { class = l.class; constant = is_key k; array = false }) k l.spelled (leaf_key l.kind l.spelled) in (
-      kind,
-      record {
-        shape = refl;
-        order = omega arith;
-        within = omega (arith, e, o, w);
-        bytes = ap (λ z. slice_range p.bytes z (z + length l.spelled)) h.0 ∙ h.1;
-        fits = subst (λ k. Fits p.classes (value k)) kind (h.2 t);
-      },
-    )
-  where
-    text_leaf : (k : LeafKind) → is_string_leaf k ≡ true → k ≡ leaf_kinds.Base kinds.Text
-    text_leaf (leaf_kinds.Base kind) e = ap leaf_kinds.Base (text_kind kind e)
-    text_leaf (leaf_kinds.Key key) e = cc
-    text_leaf (leaf_kinds.Count n) e = cc
+    let value : LeafKind → Value = λ z. Single (record { class = l.class; constant = is_key z; array = false }) z l.spelled (leaf_key z l.spelled) in
+    let bytes : slice_range p.bytes l.at (l.at + length l.spelled) ≡ l.spelled = ap (λ z. slice_range p.bytes z (z + length l.spelled)) h.0 ∙ h.1 in
+    record {
+      within = omega (arith, e, o, w);
+      bytes = bytes;
+      key = key;
+      reference = λ n q. reference_spells p.classes l l.kind n refl h.2 q;
+      string = λ q. record { shape = refl; order = omega arith; within = omega (arith, e, o, w); bytes = bytes; fits = subst (λ z. Fits p.classes (value z)) q (string_fits p.classes l l.kind refl h.2 q) };
+    }
 
--- The leaves of a node that is given by equal bytes.
-pub leaves_here : (p : Parts) (k : Classes) (b : List ℕ) (n : NodeAt) (ls : List LeafAt) → k ≡ p.classes → b ≡ p.bytes → ls ≡ leaves k b n → ls ≡ leaves p.classes p.bytes n
-leaves_here p k b n ls e f g = g ∙ (ap (λ z. leaves z b n) e ∙ ap (λ z. leaves p.classes z n) f)
+all_lie : (p : Parts) (at end : ℕ) (ls : List LeafAt) → AreLaid p.classes p.bytes at end ls → end ≤ length p.bytes → AllByRecursion KeyIsSpelled ls → AllByRecursion (LiesIn p) ls
+all_lie p at end [] h w k = tt
+all_lie p at end (l ∷ ls) h w k = (leaf_lies p at end l ls h w k.0, all_lie p (at + length l.spelled) end ls h.3 w k.1)
 
-pub laid_here : (p : Parts) → Sound p.classes → (b : List ℕ) (n : NodeAt) (v : Value) (ls : List LeafAt) → b ≡ p.bytes → IsNode p.classes b n v → ls ≡ leaves p.classes p.bytes n → AreLaid p.classes p.bytes n.at n.end ls
-laid_here p sound b n v ls f i g = subst (AreLaid p.classes p.bytes n.at n.end) (sym g) (node_laid p.classes sound p.bytes n v (subst (λ z. IsNode p.classes z n v) f i))
+-- The leaves of a node that is given by equal classes and bytes.
+pub leaves_here : (p : Parts) (k : Classes) (b : List ℕ) (n : NodeAt) → k ≡ p.classes → b ≡ p.bytes → leaves k b n ≡ leaves p.classes p.bytes n
+leaves_here p k b n e f = ap (λ z. leaves z b n) e ∙ ap (λ z. leaves p.classes z n) f
+
+pub node_lies : (p : Parts) → Sound p.classes → (k : Classes) (b : List ℕ) (n : NodeAt) (v : Value) → k ≡ p.classes → b ≡ p.bytes → IsNode p.classes b n v → AllByRecursion (LiesIn p) (leaves k b n)
+node_lies p sound k b n v e f i =
+    let j : IsNode p.classes p.bytes n v = subst (λ z. IsNode p.classes z n v) f i in
+    subst (AllByRecursion (LiesIn p)) (sym (leaves_here p k b n e f))
+    (all_lie p n.at n.end (leaves p.classes p.bytes n) (node_laid p.classes sound p.bytes n v j) j.within (keys_spelled p.classes p.bytes n v sound j))

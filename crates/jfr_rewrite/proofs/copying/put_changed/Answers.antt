@@ -1,0 +1,26 @@
+use Rattle.std.proofs.Common.{◌++◌, ap, subst, ◌∙◌}
+use Rattle.std.specs.List.{slice_range}
+use Rattle.jfr_value.specs.Leaves.{leaves}
+use Rattle.jfr_value.specs.Nodes.{IsNode, node_of}
+use Rattle.jfr_value.specs.Visits.{TakesAll}
+use Rattle.jfr_rewrite.specs.Copying.{CopiesLeaf}
+use Rattle.jfr_rewrite.proofs.CopyLaws.{copied_within, copies_all, stays_within}
+use Rattle.jfr_rewrite.proofs.LaidLeaves.{leaves_here, node_laid, node_lies}
+use Rattle.jfr_rewrite.proofs.copying.put_changed.Goals as goal
+
+pub visit_leaves-requires-clause-admits : goal.visit_leaves-requires-clause-admits
+visit_leaves-requires-clause-admits g c =
+    let p = c.args.changing.now.chunk.now in
+    node_lies p c.parts_are_valid.ensures.sound c.classes.result.now c.args.node.bytes.now (node_of c.args.node) c.requires.value.0 c.classes.ensures c.requires.of_chunk c.requires.value.1
+
+pub returns : goal.returns
+returns g c =
+    let p = c.args.changing.now.chunk.now in
+    let n = node_of c.args.node in
+    let ch = (g.R.Rewriter.rewrite c.args.changing.now.rewriting.now).change in
+    let i : IsNode p.classes p.bytes n c.requires.value.0 = subst (λ b. IsNode p.classes b n c.requires.value.0) c.requires.of_chunk c.requires.value.1 in
+    let copy = c.visit_leaves.new.visitor in
+    let taken = subst (λ z. TakesAll (CopiesLeaf ch p) z _ copy) (leaves_here p c.classes.result.now c.args.node.bytes.now n c.classes.ensures c.requires.of_chunk) c.visit_leaves.ensures.exact in
+    let copied = copies_all ch p n.at n.end (leaves p.classes p.bytes n) _ copy (node_laid p.classes c.parts_are_valid.ensures.sound p.bytes n c.requires.value.0 i) taken c.if-copy.false in
+    record { ok = copied_within ch p n c.requires.value.0 c.args.from c.args.to copy.copied c.args.out.now.items copy.out.items _ c.parts_are_valid.ensures.sound i c.visit_leaves.ensures.ready.0 c.requires.end copied.1
+        (c.in_ok-extend_from_slice-2.ensures.items ∙ ap (λ z. copy.out.items ++ slice_range z copy.copied c.args.to) c.bytes-2.ensures.exact) }
