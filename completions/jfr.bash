@@ -136,8 +136,8 @@ _kijorafe() {
         '') words='vendor strict tenant masked many check left strangers threads explain flame jdk names --help' ;;
         vendor | strict) words=$scrubs ;;
         tenant) words="$scrubs --addresses" ;;
-        masked) words="$scrubs --code --known --table --report" ;;
-        many) words="$scrubs --addresses --code --known --resume --jobs --sshloginfile vendor strict tenant masked" ;;
+        masked) words="$scrubs --code --known --open --table --report" ;;
+        many) words="$scrubs --addresses --code --known --open --resume --jobs --sshloginfile vendor strict tenant masked" ;;
         check) words="$scrubs --recipe $_jfr_lists --always --renumber" ;;
         left) words='--exact --help' ;;
         threads) words='--addresses --help' ;;

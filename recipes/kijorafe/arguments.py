@@ -23,7 +23,7 @@ SCRUBS = (
 )
 MANY = (
     "kijorafe many [--resume] [--jobs N] [--sshloginfile FILE] [--trust TYPE] [--from TIME] [--to TIME] [--last TIME]"
-    " [--code] [--known FILE] RECIPE [PATTERNS|--addresses] IN_FOLDER OUT_FOLDER"
+    " [--code] [--known FILE] [--open PATTERNS] RECIPE [PATTERNS|--addresses] IN_FOLDER OUT_FOLDER"
 )
 CHECK = (
     "kijorafe check [--recipe RECIPE [--trust TYPE] [--last TIME] | options of jfr scrub] [--from TIME] [--to TIME]"
@@ -36,7 +36,7 @@ LISTS = tuple(
 )
 # The options of tenant, many and check that take a value.
 WITH_VALUES = (
-    *("--trust", "--from", "--to", "--last", "--known", "--jobs", "--sshloginfile", "--recipe", "--renumber"),
+    *("--trust", "--from", "--to", "--last", "--known", "--open", "--jobs", "--sshloginfile", "--recipe", "--renumber"),
     *LISTS,
 )
 
@@ -175,6 +175,14 @@ def _masks(made: Parser, file: Callable[[str], str]) -> None:
         metavar="FILE",
         type=file,
         help="leave the texts that are lines of FILE, such as the names of a JDK that `kijorafe names` writes",
+    )
+    group.add_argument(
+        "--open",
+        dest="opened",
+        metavar="PATTERNS",
+        type=patterns,
+        help="with --code, leave the names of the classes and packages that match, such as 'org.apache.*,io.netty.*', and"
+        " of their methods; a slash counts as a dot",
     )
 
 

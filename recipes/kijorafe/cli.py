@@ -14,6 +14,7 @@ from kijorafe.explain import explain
 from kijorafe.flame import flame
 from kijorafe.jdk import copy, print_ids
 from kijorafe.left import left
+from kijorafe.masking import Masks
 from kijorafe.messages import Fault, say, write
 from kijorafe.names import names
 from kijorafe.scrub import Order, scrub, tenant, tenant_by_addresses
@@ -46,7 +47,14 @@ def _run_masked(given: Arguments) -> int:
     targets = [given.target, *(each for each in (given.table, given.report) if each is not None)]
     if len({os.path.abspath(each) for each in targets}) < len(targets):
         _wrong(given, "OUT and the FILEs of --table and --report are to be different")
-    return masked.masked(masked.Order(_order(given), given.code, given.known, given.table, given.report))
+    return masked.masked(masked.Order(_order(given), _masks(given), given.table, given.report))
+
+
+def _masks(given: Arguments) -> Masks:
+    """Which texts stay."""
+    if given.opened and not given.code:
+        _wrong(given, "--open is for use with --code: without it, all names of code stay")
+    return Masks(given.code, given.known, given.opened)
 
 
 def _run_jdk(given: Arguments) -> int:
@@ -60,9 +68,9 @@ def _run_jdk(given: Arguments) -> int:
 
 def _run_many(given: Arguments) -> int:
     operands, texts = list(given.operands), None
-    masks = [*(["--code"] if given.code else []), *(["--known", given.known] if given.known else [])]
+    masks = _masks(given).words()
     if masks and given.recipe != "masked":
-        _wrong(given, "--code and --known are for masked")
+        _wrong(given, "--code, --known and --open are for masked")
     options = [word for type_name in given.trust for word in ("--trust", type_name)] + _asked(given).words() + masks
     if given.addresses:
         options.append("--addresses")

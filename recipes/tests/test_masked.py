@@ -7,6 +7,7 @@ from typing import Dict, List
 
 from kijorafe import genuine
 from kijorafe.known import kept_by, written_once
+from kijorafe.opened import Method, Names as CodeNames, opened
 from kijorafe.program import Program
 from kijorafe.texts import texts_by_field
 from kijorafe.unmasked import unmasked
@@ -31,6 +32,58 @@ constant 10 1 #1
 constant 10 2 #2
 record 27 1 #1 #0 #1
 record 27 1 #1 #0 #2
+"""
+# Methods of classes, and an event that has one in it. Symbols have the numbers of what they name.
+METHODS = """\
+class 2 int
+class 9 jdk.types.Symbol
+field string 6 -
+class 12 jdk.types.Package
+field name 9 c
+class 10 java.lang.Class
+field name 9 c
+field package 12 c
+class 11 jdk.types.Method
+field type 10 c
+field name 9 c
+field descriptor 9 c
+class 13 jdk.types.CalleeMethod
+field type 6 -
+field name 6 -
+field descriptor 6 -
+event 27 jdk.CompilerInlining
+field startTime 5 -
+field eventThread 7 c
+field compileId 2 -
+field caller 11 c
+field callee 13 -
+field succeeded 3 -
+field message 6 -
+field bci 2 -
+"""
+INLINED = """\
+constant 9 1 "org/lib/Base"
+constant 9 2 "org/lib"
+constant 9 3 "com/shop/Order"
+constant 9 4 "com/shop"
+constant 9 5 "run"
+constant 9 6 "pay"
+constant 9 7 "(Lorg/lib/Base;I)V"
+constant 9 8 "(Lcom/shop/Order;)V"
+constant 9 9 "[Lorg/lib/Item;"
+constant 12 1 #2
+constant 12 2 #4
+constant 10 1 #1 #1
+constant 10 2 #3 #2
+constant 10 3 #9 #0
+constant 11 1 #1 #5 #7
+constant 11 2 #2 #5 #8
+constant 11 3 #2 #6 #7
+constant 11 4 #1 #5 #8
+record 27 1 #1 1 #1 "org/lib/Inner" "inner" "(Ljava/lang/String;)I" true "message" 0
+record 27 1 #1 1 #2 "com/shop/Cart" "add" "()V" true "message" 0
+record 27 1 #1 1 #3 "org/lib/Base" "get" "()V" true "message" 0
+record 27 1 #1 1 #4 "org/lib/Base" "get" "()V" true "message" 0
 """
 SECRETS = "main", "http GET /pay", "/secret/path"
 
@@ -238,6 +291,80 @@ class Masked(Case):
         run = self.recipe("masked", "in.jfr", "out.jfr")
         self.assert_run(run, 71, "texts aren't masked at farm.Own.text; java.lang.Thread.javaName; jdk.FileRead.path\n")
         self.assert_only("in.jfr")
+
+
+class Opened(Case):
+    def names(self, *methods: Method) -> CodeNames:
+        own = {"com/shop/Order", "Main", *(each.class_name for each in methods)}
+        classes = {"org/lib/Base", "[[Lorg/lib/Item;", "org/lib/two\nlines", *own}
+        return CodeNames(classes, {"org/lib", "com/shop", "org/library"}, set(methods))
+
+    def test_classes_and_packages(self) -> None:
+        both = {"org/lib/Base", "org.lib.Base", "org/lib", "org.lib", "[[Lorg/lib/Item;", "[[Lorg.lib.Item;"}
+        for patterns in "org.lib.*", "org/lib/*", "org.l?b.*", "*.lib.Base,*Item", "org.lib.Base,org.lib.Item":
+            with self.subTest(patterns=patterns):
+                self.assertEqual(opened(self.names(), patterns, set()), (both, []))
+        self.assertEqual(opened(self.names(), "Main,org.lib.X,org,[[*", set()), ({"Main"}, ["org.lib.X", "org", "[[*"]))
+        self.assertEqual(opened(self.names(), "org.library", set()).texts, {"org/library", "org.library"})
+
+    def test_methods(self) -> None:
+        own = Method("com/shop/Order", "pay", "()Lcom/shop/Order;")
+        base = [Method("org/lib/Base", "run", text) for text in ("()V", "(Lcom/shop/Order;)V", "([Lorg/lib/X;Ljava/lang/A;)V")]
+        texts = opened(self.names(own, *base), "org.lib.*", {"java/lang/A"}).texts
+        self.assertLess({"run", "()V", "([Lorg/lib/X;Ljava/lang/A;)V"}, texts)
+        self.assertFalse(texts & {"pay", "()Lcom/shop/Order;", "(Lcom/shop/Order;)V", "com/shop/Order", "com/shop"})
+        self.assertNotIn("([Lorg/lib/X;Ljava/lang/A;)V", opened(self.names(*base), "org.lib.*", set()).texts)
+
+    def masked(self, *words: str) -> "Dict[str, List[str]]":
+        """The texts of an output that aren't pseudonyms."""
+        self.assert_run(self.recipe("masked", "--code", *words, "in.jfr", "out.jfr"), 0)
+        found = texts_by_field(Program(self.program), "out.jfr")
+        os.unlink("out.jfr")
+        return {field: sorted(text for text in counts if "masked-" not in text) for field, counts in found.items()}
+
+    def test_a_recording(self) -> None:
+        self.recording("one.jfr", TYPES + METHODS + EVENTS + INLINED)
+        self.recording("two.jfr", TYPES + METHODS + EVENTS + INLINED.replace("org/lib/Base", "org/lib/Later"))
+        with open("in.jfr", "wb") as file:
+            file.write(self.read("one.jfr") + self.read("two.jfr"))
+        self.write("known", "java/lang/String")
+        texts = self.masked("--open", "org.lib.*", "--known", "known")
+        symbols = ["(Lorg/lib/Base;I)V", "(Lorg/lib/Later;I)V", "org/lib", "org/lib/Base", "org/lib/Later", "run"]
+        self.assertEqual(texts["jdk.types.Symbol.string"], symbols)
+        self.assertEqual(texts["jdk.types.CalleeMethod.type"], ["org/lib/Base", "org/lib/Inner", "org/lib/Later"])
+        self.assertEqual(texts["jdk.types.CalleeMethod.name"], ["get", "inner"])
+        # What `add` of the program's own class takes is a text that a method of the other has, too.
+        self.assertEqual(texts["jdk.types.CalleeMethod.descriptor"], ["()V", "(Ljava/lang/String;)I"])
+        self.assertEqual(self.masked("--open", "org.lib.*")["jdk.types.CalleeMethod.descriptor"], ["()V"])
+        self.assertEqual(self.masked()["jdk.types.Symbol.string"], [])
+        self.assert_only("in.jfr", "one.jfr", "two.jfr", "known")
+
+    def test_what_is_said(self) -> None:
+        self.recording("in.jfr", TYPES + METHODS + EVENTS + INLINED)
+        run = self.recipe("masked", "--code", "--open", "org.lib.B*,none.*", "in.jfr", "out.jfr")
+        self.assert_run(run, 0, "8 names stay, of what --open matches, and of its methods\n")
+        self.assertIn("WARNING: the pattern 'none.*' matches no class or package of in.jfr\n", run.err)
+        for words, text in (
+            (["--open", "org.*"], "--open is for use with --code"),
+            (["--code", "--open", "org.*,"], "a pattern is empty"),
+            (["--code", "--open", "a, b"], "a blank beside a comma"),
+        ):
+            self.assert_run(self.recipe("masked", *words, "in.jfr", "new.jfr"), 1, text)
+        self.assert_run(self.recipe("many", "--code", "--open", "org.*", "vendor", "in", "new"), 1, "are for masked")
+        os.mkdir("in")
+        os.rename("in.jfr", "in/x.jfr")
+        run = self.process("many", "masked", "in", "new", "--open", "org.lib.B*,none.*", "--code")
+        self.assert_run(run, 0, "WARNING: 1 have warnings")
+        self.assertEqual(self.read("new/x.jfr"), self.read("out.jfr"))
+
+    def test_the_file_is_private(self) -> None:
+        self.recording("in.jfr", TYPES + METHODS + EVENTS + INLINED)
+        self.fake_program(f'[ "$1" != mask ] || stat -c %a .out.jfr.part/known >mode; exec {self.program} "$@"\n')
+        self.assert_run(self.recipe("masked", "--code", "--open", "org.*", "in.jfr", "out.jfr"), 0)
+        self.assertEqual(self.read("mode"), b"600\n")
+        self.fake_program(f'[ "$1" != mask ] || exit 5; exec {self.program} "$@"\n')
+        self.assert_run(self.recipe("masked", "--code", "--open", "org.*", "in.jfr", "new.jfr"), 5)
+        self.assert_only("in.jfr", "out.jfr", "mode")
 
 
 class Names(Case):
