@@ -169,12 +169,17 @@ def _trust(made: Parser) -> None:
 
 def _masks(made: Parser, file: Callable[[str], str]) -> None:
     group = made.add_argument_group("masks", "Which texts have pseudonyms; for the recipe masked.")
-    group.add_argument("--code", action="store_true", help="mask names of classes, methods and other code, too")
+    group.add_argument(
+        "--code",
+        action="store_true",
+        help="mask names of classes, methods and other code, too, but those of the JDKs in the file jdk-names",
+    )
     group.add_argument(
         "--known",
         metavar="FILE",
         type=file,
-        help="leave the texts that are lines of FILE, such as the names of a JDK that `kijorafe names` writes",
+        help="leave the texts that are lines of FILE, such as the names of a JDK that `kijorafe names` writes, and not"
+        " those of jdk-names",
     )
     group.add_argument(
         "--open",

@@ -93,7 +93,7 @@ def _masked(
     recording, program = recording_of(order.base.source, output), find()
     plan = plan_of(program, order.base, [], recording)
     mask = mask_of(program, order.masks, known, order.base.source, as_operand(recording))
-    words = ["mask", *mask.options(plan, output.beside("known"))]
+    words = ["mask", *plan.options, *mask.options(output.beside("known"))]
     if mask.known.content is not None:
         _write(mask.known.content, output.beside("known"), output)
     place = output.beside("table") if table is None else table.path

@@ -4,13 +4,16 @@ import os
 from typing import AbstractSet, Dict, List, NamedTuple, Optional
 
 from kijorafe.explain import fault_of
+from kijorafe.jdk_names import jdk_names
 from kijorafe.messages import WARNING, Fault
 from kijorafe.opened import names_in, opened
 from kijorafe.program import Failure, Program
-from kijorafe.scrub import READ_FAULT, Plan
+from kijorafe.scrub import READ_FAULT
 from kijorafe.shown import file_name
 from kijorafe.unmasked import unmasked
 
+# The recipe.
+MASKED = "masked"
 # The pattern of the fields whose texts are masked, but for those of the file recipes/unmasked.
 ALL = "*"
 # A known text that begins so isn't one.
@@ -54,16 +57,19 @@ class Mask(NamedTuple):
     fields: Dict[str, str]
     known: Known
 
-    def options(self, plan: Plan, known: str) -> List[str]:
-        """The options of the program; the known texts are to be in this file."""
-        words = [*plan.options, "--strings", ALL, "--except", ",".join(self.fields)]
+    def options(self, known: str) -> List[str]:
+        """The options of the program, besides those of a filter; the known texts are to be in this file."""
+        words = ["--strings", ALL, "--except", ",".join(self.fields)]
         return words if self.known.content is None else [*words, "--known", known]
 
 
 def known_of(masks: Masks) -> Known:
-    """The known texts, those aside that are found in a recording. Their file may be a pipe."""
+    """The known texts, those aside that are found in a recording. Their file may be a pipe.
+
+    Without one, the names of JDKs are known, if names of code are masked.
+    """
     if masks.known is None:
-        return Known(None, [])
+        return _names_of_jdks() if masks.is_code_masked else Known(None, [])
     content = _content(masks.known)
     said = f"{WARNING}lines of {file_name(masks.known)} end with a carriage return, which belongs to the text"
     return Known(content, [said] if b"\r\n" in content else [])
@@ -83,6 +89,13 @@ def mask_of(program: Program, masks: Masks, known: Known, source: str, recording
     for pattern in unmatched:
         said.append(f"{WARNING}the pattern {file_name(pattern)} matches no class or package of {file_name(source)}")
     return Mask(fields, known.more(texts, said))
+
+
+def _names_of_jdks() -> Known:
+    found = jdk_names()
+    if found is None:
+        return Known(None, ["names of the JDK are masked, too, since no file of them is there: --known takes one"])
+    return Known(found.content(), [f"names stay of {found.said()}"])
 
 
 def _content(name: str) -> bytes:

@@ -63,6 +63,12 @@ class Install(Case):
             self.assertTrue(os.path.exists(os.path.join("to", name)), name)
         for name in "types", "fields", "unmasked", "kijorafe/Names.java":
             self.assertEqual(self.read(f"to/lib/kijorafe/recipes/{name}"), self.read(f"send/recipes/{name}"))
+        names = [name for name in os.listdir(os.path.join(TOP, "dist")) if name.startswith("jdk-names-")]
+        self.assertEqual(len(names), 1)
+        self.assertEqual(self.read(f"to/lib/kijorafe/share/{names[0]}"), self.read(os.path.join(TOP, "dist", names[0])))
+        words = ["to/bin/kijorafe", "masked", "--code", "in.jfr", "out.jfr"]
+        done = subprocess.run(words, stderr=subprocess.PIPE, check=True)
+        self.assertIn(f"which {os.path.abspath('to')}/lib/kijorafe/share/{names[0]} has\n", done.stderr.decode())
         self.assert_run(self.install("--remove", "--prefix=to"), 0)
         self.assertEqual(self.names(), [])
 

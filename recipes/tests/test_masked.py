@@ -1,6 +1,7 @@
 """Masks: which texts have pseudonyms, the table and the report, and the names of a JDK."""
 
 import json
+import lzma
 import os
 import subprocess
 from typing import Dict, List
@@ -11,7 +12,7 @@ from kijorafe.opened import Method, Names as CodeNames, opened
 from kijorafe.program import Program
 from kijorafe.texts import texts_by_field
 from kijorafe.unmasked import unmasked
-from tests.support import EVENTS, SHUTDOWN, TYPES, Case
+from tests.support import EVENTS, INLINED, METHODS, SHUTDOWN, TYPES, Case
 
 # Types with names of code, and events with two of them.
 CODE = """\
@@ -32,58 +33,6 @@ constant 10 1 #1
 constant 10 2 #2
 record 27 1 #1 #0 #1
 record 27 1 #1 #0 #2
-"""
-# Methods of classes, and an event that has one in it. Symbols have the numbers of what they name.
-METHODS = """\
-class 2 int
-class 9 jdk.types.Symbol
-field string 6 -
-class 12 jdk.types.Package
-field name 9 c
-class 10 java.lang.Class
-field name 9 c
-field package 12 c
-class 11 jdk.types.Method
-field type 10 c
-field name 9 c
-field descriptor 9 c
-class 13 jdk.types.CalleeMethod
-field type 6 -
-field name 6 -
-field descriptor 6 -
-event 27 jdk.CompilerInlining
-field startTime 5 -
-field eventThread 7 c
-field compileId 2 -
-field caller 11 c
-field callee 13 -
-field succeeded 3 -
-field message 6 -
-field bci 2 -
-"""
-INLINED = """\
-constant 9 1 "org/lib/Base"
-constant 9 2 "org/lib"
-constant 9 3 "com/shop/Order"
-constant 9 4 "com/shop"
-constant 9 5 "run"
-constant 9 6 "pay"
-constant 9 7 "(Lorg/lib/Base;I)V"
-constant 9 8 "(Lcom/shop/Order;)V"
-constant 9 9 "[Lorg/lib/Item;"
-constant 12 1 #2
-constant 12 2 #4
-constant 10 1 #1 #1
-constant 10 2 #3 #2
-constant 10 3 #9 #0
-constant 11 1 #1 #5 #7
-constant 11 2 #2 #5 #8
-constant 11 3 #2 #6 #7
-constant 11 4 #1 #5 #8
-record 27 1 #1 1 #1 "org/lib/Inner" "inner" "(Ljava/lang/String;)I" true "message" 0
-record 27 1 #1 1 #2 "com/shop/Cart" "add" "()V" true "message" 0
-record 27 1 #1 1 #3 "org/lib/Base" "get" "()V" true "message" 0
-record 27 1 #1 1 #4 "org/lib/Base" "get" "()V" true "message" 0
 """
 SECRETS = "main", "http GET /pay", "/secret/path"
 
@@ -212,6 +161,36 @@ class Masked(Case):
         self.assert_run(self.process(*words, stdin=self.read("known")), 0)
         self.assertEqual(self.read("again.jfr"), self.read("jdk.jfr"))
 
+    def test_names_of_jdks(self) -> None:
+        words = "masked", "--code", "in.jfr"
+        self.assert_run(self.recipe(*words, "none.jfr"), 0, "names of the JDK are masked, too")
+        self.assertNotIn("names", self.recipe("masked", "in.jfr", "code.jfr").err)
+        for folder, file, said in (
+            ("dist", "jdk-names-17-21-25.xz", "names stay of JDK 17, 21 and 25, which "),
+            ("share", "jdk-names-17.xz", "names stay of JDK 17, which "),
+        ):
+            with self.subTest(folder=folder):
+                os.mkdir(f"send/{folder}")
+                with lzma.open(f"send/{folder}/{file}", "wb") as names:
+                    names.write(b"java/lang/Integer\nmain\n")
+                self.write(f"send/{folder}/jdk-names.txt", "another")
+                run = self.recipe(*words, f"{folder}.jfr")
+                self.assert_run(run, 0, f"{said}{os.path.abspath('send')}/{folder}/{file} has\n")
+                self.assertEqual(self.texts(f"{folder}.jfr")["jdk.types.Symbol.string"][0], "java/lang/Integer")
+                self.assertNotIn(b"com/shop/Order", self.read(f"{folder}.jfr"))
+                self.recipe(*words, "opened.jfr", "--open", "com.shop.*")
+                texts = self.texts("opened.jfr")
+                self.assertEqual(texts["jdk.types.Symbol.string"], ["com/shop/Order", "java/lang/Integer"])
+                self.assertEqual(texts["java.lang.Thread.javaName"][0], "main")
+                os.unlink("opened.jfr")
+                self.assertNotIn("names", self.recipe(*words, "known.jfr", "--known", "/dev/null").err)
+                self.assertEqual(self.read("known.jfr"), self.read("none.jfr"))
+                os.unlink("known.jfr")
+                self.write(f"send/{folder}/{file}", "no archive")
+                self.assert_run(self.recipe(*words, "new.jfr"), 3, f"{folder}/{file} is damaged")
+                os.unlink(f"send/{folder}/{file}")
+        self.assert_only("in.jfr", "none.jfr", "code.jfr", "dist.jfr", "share.jfr")
+
     def test_known_texts(self) -> None:
         self.write("known", "main\r\nhttp GET /pay\n/secret")
         run = self.recipe("masked", "--known", "known", "--table", "table", "in.jfr", "out.jfr")
@@ -309,7 +288,8 @@ class Opened(Case):
 
     def test_methods(self) -> None:
         own = Method("com/shop/Order", "pay", "()Lcom/shop/Order;")
-        base = [Method("org/lib/Base", "run", text) for text in ("()V", "(Lcom/shop/Order;)V", "([Lorg/lib/X;Ljava/lang/A;)V")]
+        descriptors = "()V", "(Lcom/shop/Order;)V", "([Lorg/lib/X;Ljava/lang/A;)V"
+        base = [Method("org/lib/Base", "run", descriptor) for descriptor in descriptors]
         texts = opened(self.names(own, *base), "org.lib.*", {"java/lang/A"}).texts
         self.assertLess({"run", "()V", "([Lorg/lib/X;Ljava/lang/A;)V"}, texts)
         self.assertFalse(texts & {"pay", "()Lcom/shop/Order;", "(Lcom/shop/Order;)V", "com/shop/Order", "com/shop"})
