@@ -26,8 +26,8 @@ MANY = (
     " [--code] [--known FILE] [--open PATTERNS] RECIPE [PATTERNS|--addresses] IN_FOLDER OUT_FOLDER"
 )
 CHECK = (
-    "kijorafe check [--recipe RECIPE [--trust TYPE] [--last TIME] | options of jfr scrub] [--from TIME] [--to TIME]"
-    " IN OUT [RECEIPT]"
+    "kijorafe check [--recipe RECIPE [--trust TYPE] [--last TIME] [--code] [--known FILE] [--open PATTERNS]"
+    " | options of jfr scrub] [--from TIME] [--to TIME] IN OUT [RECEIPT]"
 )
 # The program's filter options whose values are lists of patterns.
 LISTS = tuple(
@@ -279,19 +279,20 @@ def _add_many(recipe: Callable[..., Parser]) -> None:
 def _add_check(recipe: Callable[..., Parser]) -> None:
     check = recipe(
         "check",
-        "check a scrub of which the original is there",
-        "It verifies OUT by RECEIPT, if that is given, and compares OUT with a scrub of its own, byte for byte; what"
-        " differs is printed. Give the options of the scrub: --recipe, or those of jfr scrub. The files may be pipes, or"
+        "check a scrub or a mask of which the original is there",
+        "It verifies OUT by RECEIPT, if that is given, and compares OUT with a scrub or a mask of its own, byte for byte;"
+        " what differs is printed. Give the options of the scrub: --recipe, or those of jfr scrub. The files may be pipes, or"
         " compressed by gzip. The status is 0 if OUT is what the scrub makes of IN, 7 if it isn't, and otherwise that of"
         " jfr.",
     )
     check.usage = CHECK
     made = check.add_argument_group("if a recipe has made OUT")
-    made.add_argument("--recipe", choices=("vendor", "strict", "tenant"), help="the recipe")
+    made.add_argument("--recipe", choices=("vendor", "strict", "tenant", "masked"), help="the recipe")
     made.add_argument(
         "--trust", metavar="TYPE", type=jdk_type, action="append", default=[], help="as for the recipe"
     )
     made.add_argument("--last", metavar="TIME", type=span_text, help="as for the recipe")
+    _masks(check, name)
     made = check.add_argument_group(
         "the options of jfr scrub",
         f"{', '.join(LISTS)}, --renumber, --from and --to. With --recipe only the last two, which also take a time as the"

@@ -14,7 +14,7 @@ from kijorafe.explain import explain
 from kijorafe.flame import flame
 from kijorafe.jdk import copy, print_ids
 from kijorafe.left import left
-from kijorafe.masking import Masks
+from kijorafe.masking import MASKED, Masks
 from kijorafe.messages import Fault, say, write
 from kijorafe.names import names
 from kijorafe.scrub import Order, scrub, tenant, tenant_by_addresses
@@ -69,7 +69,7 @@ def _run_jdk(given: Arguments) -> int:
 def _run_many(given: Arguments) -> int:
     operands, texts = list(given.operands), None
     masks = _masks(given).words()
-    if masks and given.recipe != "masked":
+    if masks and given.recipe != MASKED:
         _wrong(given, "--code, --known and --open are for masked")
     options = [word for type_name in given.trust for word in ("--trust", type_name)] + _asked(given).words() + masks
     if given.addresses:
@@ -97,15 +97,15 @@ def _run_check(given: Arguments) -> int:
         _wrong(given, "--trust and --last are for use with --recipe")
     if given.recipe is not None and (renumber or not {*options[::2]} <= {"--exclude-threads"}):
         _wrong(given, "of the options of jfr scrub, only --exclude-threads, --from and --to are for use with --recipe")
-    if given.recipe in ("vendor", "strict") and options:
+    if given.recipe in ("vendor", "strict", MASKED) and options:
         _wrong(given, "--exclude-threads is for use with --recipe tenant")
-    if renumber and given.receipt is not None:
-        _wrong(given, "no receipt checks an output with new keys")
-    return check.check(
-        check.Order(
-            given.source, given.target, given.receipt, options, _asked(given), renumber, given.recipe, tuple(given.trust)
-        )
-    )
+    masks = _masks(given)
+    if masks.words() and given.recipe != MASKED:
+        _wrong(given, "--code, --known and --open are for use with --recipe masked")
+    if (renumber or given.recipe == MASKED) and given.receipt is not None:
+        _wrong(given, f"no receipt checks an output with {'new keys' if renumber else 'masks'}")
+    made = options, _asked(given), renumber, given.recipe, tuple(given.trust), masks
+    return check.check(check.Order(given.source, given.target, given.receipt, *made))
 
 
 RUNS: Dict[str, Callable[[Arguments], int]] = {

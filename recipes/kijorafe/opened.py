@@ -71,9 +71,10 @@ def opened(names: Names, patterns: str, known: AbstractSet[str]) -> Opened:
 def names_in(program: Program, recording: str) -> Names:
     """The names of code in a recording that the program has accepted."""
     names = Names(set(), set(), set())
+    types = {each.name for each in program.summary(recording)}
     for place in chunks_in(recording, "names"):
         chunk = _Chunk(Reader(program.classes(place), set()))
-        chunk.read(place)
+        chunk.read(place, types)
         chunk.add_to(names)
     return names
 
@@ -88,10 +89,11 @@ class _Chunk:
         self.constants: Dict[Reference, Dict[str, Leaf]] = {}
         self.callees: Set[Tuple[Leaf, ...]] = set()
 
-    def read(self, chunk: str) -> None:
+    def read(self, chunk: str, types: AbstractSet[str]) -> None:
+        """Reads a chunk of a recording that has events of these types only."""
         with open(chunk, "rb") as file:
             header = next(headers_of(file))
-            kinds = dict(self._kinds())
+            kinds = dict(self._kinds(types))
             for kind, record, at in records_in(file, header) if kinds else ():
                 if kind in kinds:
                     leaves = self.reader.read_event(kind, record, at)
@@ -103,12 +105,12 @@ class _Chunk:
                     if reference[0] in self.named:
                         self.constants[reference] = {leaf[0]: leaf for leaf in leaves}
 
-    def _kinds(self) -> Iterator[Tuple[int, List[str]]]:
-        """The event types with methods in their events, and the fields that have them."""
+    def _kinds(self, types: AbstractSet[str]) -> Iterator[Tuple[int, List[str]]]:
+        """Those of the event types with methods in their events, and the fields that have them."""
         for each in self.reader.classes.values():
             inside = (field for field in each.fields if not field.constant and not field.array)
             names = [field.name for field in inside if field.class_name == CALLEE]
-            if names and each.is_event and each.id > 1 and each.name not in BASIC:
+            if names and each.name in types and each.is_event and each.id > 1 and each.name not in BASIC:
                 yield each.id, names
 
     def add_to(self, names: Names) -> None:

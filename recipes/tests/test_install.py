@@ -21,6 +21,9 @@ class Install(Case):
             "left --": "--exact --help",
             "check --rec": "--recipe",
             "check --recipe t": "tenant",
+            "check --recipe m": "masked",
+            "check --o": "--open",
+            "masked --o": "--open",
             "check --ex": "--exclude-events --exclude-categories --exclude-threads",
         }
         bash = '. "$0"; for line; do read -ra COMP_WORDS <<<"kijorafe $line"; COMP_CWORD=$((${#COMP_WORDS[@]} - 1));'
