@@ -16,8 +16,12 @@ if [ $# = 0 ] && ! debootstrap --variant=minbase --include=python3 bookworm "$ro
     exit 1
 fi
 
-# inside COMMAND..: runs it in the system.
-inside() { env -i PATH=/usr/local/sbin:/usr/local/bin:/usr/sbin:/usr/bin:/sbin:/bin chroot "$root" "$@"; }
+# inside COMMAND..: runs it in the system, which has /proc until the command ends.
+# shellcheck disable=SC2016 # sh expands these
+inside() {
+    env -i PATH=/usr/local/sbin:/usr/local/bin:/usr/sbin:/usr/bin:/sbin:/bin \
+        unshare --mount sh -c 'mount -t proc proc "$0/proc" && exec chroot "$0" "$@"' "$root" "$@"
+}
 
 # check NAME COMMAND..: runs it in the system; it must end with 0.
 check() {

@@ -60,14 +60,16 @@ class Check(Case):
         self.recording("code.jfr", TYPES + METHODS + EVENTS + INLINED)
         self.write("known", "main\nmasked-1\n")
         code, known, opened = ["--code"], ["--known", "known"], ["--open", "org.lib.*,none.*"]
-        for number, words in enumerate(([], code, known, [*code, *opened], [*code, *known, *opened, "--last", "1s"])):
+        runs: List[List[str]] = [[], code, known, [*code, *opened], [*code, *known, *opened, "--last", "1s"]]
+        for number, words in enumerate(runs):
             with self.subTest(words=words):
                 self.assert_run(self.recipe("masked", *words, "code.jfr", f"{number}.jfr"), 0)
                 run = self.check("--recipe", "masked", "code.jfr", *words, f"{number}.jfr")
                 self.assert_run(run, 0)
                 self.assertRegex(run.out, "^the same as a mask, byte for byte: chunks 1, bytes [0-9]+, inert 0\n$")
                 self.assertEqual("the pattern 'none.*' matches no class" in run.err, opened[0] in words)
-        for words in ([], [*code, *known], [*code, "--open", "org.*"]):
+        others: List[List[str]] = [[], [*code, *known], [*code, "--open", "org.*"]]
+        for words in others:
             with self.subTest(words=words):
                 run = self.check("--recipe", "masked", *words, "code.jfr", "4.jfr")
                 self.assertEqual(run.status, 7, run.err)
