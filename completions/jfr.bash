@@ -136,17 +136,17 @@ _kijorafe() {
         '') words='vendor strict tenant masked many check left strangers threads explain flame jdk names --help' ;;
         vendor | strict) words=$scrubs ;;
         tenant) words="$scrubs --addresses" ;;
-        masked) words="$scrubs --code --known --table --report" ;;
-        many) words="$scrubs --addresses --code --known --resume --jobs --sshloginfile vendor strict tenant masked" ;;
-        check) words="$scrubs --recipe $_jfr_lists --always --renumber" ;;
+        masked) words="$scrubs --code --known --open --table --report" ;;
+        many) words="$scrubs --addresses --code --known --open --resume --jobs --sshloginfile vendor strict tenant masked" ;;
+        check) words="$scrubs --recipe --code --known --open $_jfr_lists --always --renumber" ;;
         left) words='--exact --help' ;;
         threads) words='--addresses --help' ;;
         flame) words='--events --categories --help' ;;
         jdk) words='--ids --help' ;;
         *) words=--help ;;
     esac
-    [[ ${COMP_WORDS[COMP_CWORD - 1]} != --recipe ]] || words='vendor strict tenant'
-    if [[ -z $recipe || $recipe == many || $words == 'vendor strict tenant' || $current == -* ]]; then
+    [[ ${COMP_WORDS[COMP_CWORD - 1]} != --recipe ]] || words='vendor strict tenant masked'
+    if [[ -z $recipe || $recipe == many || $words == 'vendor strict tenant masked' || $current == -* ]]; then
         mapfile -t COMPREPLY < <(compgen -W "$words" -- "$current")
     fi
 }

@@ -1,11 +1,11 @@
 #!/usr/bin/env bash
 # Tries masks of recordings: trials/masks.sh PROGRAM FILE..
 #
-# Each FILE is masked in four ways: all texts; all but those that recipes/masked leaves; with names of code masked, too,
-# but those of the JDKs; and by recipes/masked. Of each output, every JDK in /usr/lib/jvm (or those in the variable JDKS)
-# must read all that it reads of a scrub with the same filter: `jfr summary`, `jfr print`, and `jfr view all-views` where
-# the JDK has it. `masks.py` compares what it shows of both. Their stacks must have the same counts. Prints a row for
-# each, and how many were wrong.
+# Each FILE is masked in five ways: all texts; all but those that recipes/masked leaves; with names of code masked, too,
+# but those of the JDKs; by recipes/masked; and by it with names of code masked, too, but those of java.util. Of each
+# output, every JDK in /usr/lib/jvm (or those in the variable JDKS) must read all that it reads of a scrub with the same
+# filter: `jfr summary`, `jfr print`, and `jfr view all-views` where the JDK has it. `masks.py` compares what it shows of
+# both. Their stacks must have the same counts. Prints a row for each, and how many were wrong.
 set -u
 # shellcheck source=common.sh
 . "$(dirname "$(readlink -f -- "$0")")/common.sh"
@@ -23,7 +23,7 @@ mask() {
         all) ;;
         exceptions) words+=(--except "$(except)") ;;
         code) words+=(--except "$(except code)" --known "$work/names") ;;
-        recipe)
+        recipe | open)
             types=$(grep '^jdk.* masked' "$top/recipes/types" | cut -d' ' -f1 | paste -sd,)
             filter=(--include-events "$types" --describe "$types")
             ;;
@@ -32,6 +32,9 @@ mask() {
     "$program" scrub "${filter[@]}" "$file" "$work/plain.jfr" || return
     if [ "$how" = recipe ]; then
         "$work/recipes/masked" --table "$work/table" "$file" "$work/masked.jfr" 2>"$work/said"
+    elif [ "$how" = open ]; then
+        "$work/recipes/masked" --code --known /dev/null --open 'java.util.*' --table "$work/table" \
+            "$file" "$work/masked.jfr" 2>"$work/said"
     else
         "$program" mask "${filter[@]}" "${words[@]}" --table "$work/table" "$file" "$work/masked.jfr" 2>"$work/said"
     fi || { cat "$work/said"; false; }
@@ -67,7 +70,7 @@ done
 echo "| file | masked | bytes | pseudonyms | JDK | compared |"
 echo "|---|---|---:|---:|---|---|"
 for file; do
-    for how in all exceptions code recipe; do
+    for how in all exceptions code recipe open; do
         name="$(basename "$file") $how"
         cases=$((cases + 1))
         mask "$file" "$how" || { fail "$name: it isn't masked"; continue; }

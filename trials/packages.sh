@@ -16,8 +16,12 @@ if [ $# = 0 ] && ! debootstrap --variant=minbase --include=python3 bookworm "$ro
     exit 1
 fi
 
-# inside COMMAND..: runs it in the system.
-inside() { env -i PATH=/usr/local/sbin:/usr/local/bin:/usr/sbin:/usr/bin:/sbin:/bin chroot "$root" "$@"; }
+# inside COMMAND..: runs it in the system, which has /proc until the command ends.
+# shellcheck disable=SC2016 # sh expands these
+inside() {
+    env -i PATH=/usr/local/sbin:/usr/local/bin:/usr/sbin:/usr/bin:/sbin:/bin \
+        unshare --mount sh -c 'mount -t proc proc "$0/proc" && exec chroot "$0" "$@"' "$root" "$@"
+}
 
 # check NAME COMMAND..: runs it in the system; it must end with 0.
 check() {
@@ -33,6 +37,7 @@ check_runs() {
     check "$1: the program" "$2/kjfr" build /tmp/text "/tmp/$1.jfr"
     check "$1: a scrub" "$2/kijorafe" vendor "/tmp/$1.jfr" "/tmp/$1.out"
     check "$1: a check" "$2/kijorafe" check --recipe vendor "/tmp/$1.jfr" "/tmp/$1.out"
+    check "$1: a mask" sh -c "$2/kijorafe masked --code /tmp/$1.jfr /tmp/$1.masked 2>&1 | grep -F 'names stay of JDK'"
     check "$1: the version" "$2/kijorafe" --version
     check "$1: the manual pages" sh -c "ls ${2%/bin}/share/man/man1/kijorafe.1* ${2%/bin}/share/man/man1/kjfr.1*"
 }
@@ -46,6 +51,7 @@ check_removed() {
 mkdir -p "$root/tmp/from/crates/jfr/out"
 cp -- "$top/dist/$(tree_name).tar.xz" "$top/dist/$(deb_name)" "$root/tmp/" || exit 1
 cp -r -- "$top"/{kijorafe,install,recipes,completions,docs,CHANGELOG.md} "$root/tmp/from/" || exit 1
+mkdir "$root/tmp/from/dist" && cp -- "$top"/dist/jdk-names-*.xz "$root/tmp/from/dist/" || exit 1
 tar -xJf "$top/dist/$(tree_name).tar.xz" -C "$root/tmp" || exit 1
 printf '%s\n' 'class 5 long' 'event 20 jdk.SwapSpace' 'field startTime 5 -' 'field totalSize 5 -' 'field freeSize 5 -' \
     'record 20 1 2 3' >"$root/tmp/text"

@@ -91,6 +91,11 @@ check 'no known texts' 3 'reading none failed' <<<'test ! -e new.jfr'
 echo main >known
 run masked --known known --table known.table "$file" new.jfr
 check 'known texts' 0 'texts have pseudonyms' <<<'grep -q " .main.$" table; ! grep -q " .main.$" known.table; rm new.jfr'
+run masked --code --open 'java.util.*,none.*' --table open.table "$file" new.jfr
+check 'names that stay' 0 "the pattern 'none.*' matches no class" \
+    <<<'! grep -qE " .java[./]util[./]HashMap.$" open.table; grep -qE " .java[./]lang[./]" open.table; rm new.jfr'
+run masked --open 'java.util.*' "$file" new.jfr
+check 'names that stay anyway' 1 'for use with --code' <<<'test ! -e new.jfr'
 run names none new
 check 'names, no JDK' 3 "isn't the folder of a JDK" <<<'test ! -e new'
 
@@ -151,6 +156,14 @@ check 'check, a cut output' 7 '' <<<'grep -q ShortChunk said.out'
 run check --recipe vendor "$file" none.jfr
 check 'check, no output' 3 "none.jfr doesn't exist" <<<':'
 rm scrubbed.jfr
+run masked --code --open 'java.util.*' --last 1h "$file" coded.jfr
+run check --recipe masked --code --open 'java.util.*' --last 1h "$file" coded.jfr
+check 'check, a mask' 0 'names stay, of what --open matches' <<<'grep -q "^the same as a mask, byte for byte" said.out'
+run check --recipe masked --code --open 'java.*' "$file" coded.jfr
+check 'check, another mask' 7 '' <<<'grep -q "^a mask also differs if" said.out; ! grep -q verified said.out'
+run check --recipe masked --code "$file" coded.jfr other.receipt
+check 'check, receipts of a mask' 1 'no receipt checks' <<<':'
+rm coded.jfr
 
 # Windows of time.
 run vendor "$file" all.jfr

@@ -9,7 +9,7 @@ set -u
 mkdir -p "$work/copy/dist" "$work/bin"
 cp -r -- "$top"/{jfr,kijorafe,install,crates.txt,README.md,CHANGELOG.md,SECURITY.md,docs,recipes,completions} \
     "$work/copy/" || exit 1
-cp -- "$top"/dist/{make,packages,sources} "$work/copy/dist/" || exit 1
+cp -- "$top"/dist/{make,packages,sources} "$work/copy/dist/" && echo name | xz >"$work/copy/dist/jdk-names-17.xz" || exit 1
 (cd "$top" && find crates -path '*/src/*' -type f -print0 | xargs -0 cp --parents -t "$work/copy") || exit 1
 cat >"$work/bin/rt" <<'END'
 #!/bin/bash
@@ -92,6 +92,17 @@ check 'the packages again' 0 '' "${without[@]}" dist/make --packages
 for package in "${packages[@]}"; do
     check 'they are the same' 0 '' cmp "$package" "$work/${package#dist/}"
 done
+cp dist/jdk-names-17.xz "$work/"
+echo other | xz >dist/jdk-names-17.xz
+check 'other names of JDKs' 1 "names of JDKs aren't those of SHA256SUMS" "${without[@]}" dist/make --check
+cp "$work/jdk-names-17.xz" dist/
+mv dist/SHA256SUMS "$work/"
+sed 's/jdk-names-17/jdk-names-11/' "$work/SHA256SUMS" >dist/SHA256SUMS
+mv dist/jdk-names-17.xz dist/jdk-names-11.xz
+check 'other names than in the packages' 1 "aren't those of SHA256SUMS: dist/make --packages" "${without[@]}" dist/make --check
+mv dist/jdk-names-11.xz dist/jdk-names-17.xz
+mv "$work/SHA256SUMS" dist/
+check 'the names again' 0 '' "${without[@]}" dist/make --check
 cp README.md "$work/"
 echo more >>README.md
 check 'another document' 0 'were made of other' "${without[@]}" dist/make --check

@@ -23,11 +23,11 @@ SCRUBS = (
 )
 MANY = (
     "kijorafe many [--resume] [--jobs N] [--sshloginfile FILE] [--trust TYPE] [--from TIME] [--to TIME] [--last TIME]"
-    " [--code] [--known FILE] RECIPE [PATTERNS|--addresses] IN_FOLDER OUT_FOLDER"
+    " [--code] [--known FILE] [--open PATTERNS] RECIPE [PATTERNS|--addresses] IN_FOLDER OUT_FOLDER"
 )
 CHECK = (
-    "kijorafe check [--recipe RECIPE [--trust TYPE] [--last TIME] | options of jfr scrub] [--from TIME] [--to TIME]"
-    " IN OUT [RECEIPT]"
+    "kijorafe check [--recipe RECIPE [--trust TYPE] [--last TIME] [--code] [--known FILE] [--open PATTERNS]"
+    " | options of jfr scrub] [--from TIME] [--to TIME] IN OUT [RECEIPT]"
 )
 # The program's filter options whose values are lists of patterns.
 LISTS = tuple(
@@ -36,7 +36,7 @@ LISTS = tuple(
 )
 # The options of tenant, many and check that take a value.
 WITH_VALUES = (
-    *("--trust", "--from", "--to", "--last", "--known", "--jobs", "--sshloginfile", "--recipe", "--renumber"),
+    *("--trust", "--from", "--to", "--last", "--known", "--open", "--jobs", "--sshloginfile", "--recipe", "--renumber"),
     *LISTS,
 )
 
@@ -169,12 +169,25 @@ def _trust(made: Parser) -> None:
 
 def _masks(made: Parser, file: Callable[[str], str]) -> None:
     group = made.add_argument_group("masks", "Which texts have pseudonyms; for the recipe masked.")
-    group.add_argument("--code", action="store_true", help="mask names of classes, methods and other code, too")
+    group.add_argument(
+        "--code",
+        action="store_true",
+        help="mask names of classes, methods and other code, too, but those of the JDKs in the file jdk-names",
+    )
     group.add_argument(
         "--known",
         metavar="FILE",
         type=file,
-        help="leave the texts that are lines of FILE, such as the names of a JDK that `kijorafe names` writes",
+        help="leave the texts that are lines of FILE, such as the names of a JDK that `kijorafe names` writes, and not"
+        " those of jdk-names",
+    )
+    group.add_argument(
+        "--open",
+        dest="opened",
+        metavar="PATTERNS",
+        type=patterns,
+        help="with --code, leave the names of the classes and packages that match, such as 'org.apache.*,io.netty.*', and"
+        " of their methods; a slash counts as a dot",
     )
 
 
@@ -266,19 +279,20 @@ def _add_many(recipe: Callable[..., Parser]) -> None:
 def _add_check(recipe: Callable[..., Parser]) -> None:
     check = recipe(
         "check",
-        "check a scrub of which the original is there",
-        "It verifies OUT by RECEIPT, if that is given, and compares OUT with a scrub of its own, byte for byte; what"
-        " differs is printed. Give the options of the scrub: --recipe, or those of jfr scrub. The files may be pipes, or"
+        "check a scrub or a mask of which the original is there",
+        "It verifies OUT by RECEIPT, if that is given, and compares OUT with a scrub or a mask of its own, byte for byte;"
+        " what differs is printed. Give the options of the scrub: --recipe, or those of jfr scrub. The files may be pipes, or"
         " compressed by gzip. The status is 0 if OUT is what the scrub makes of IN, 7 if it isn't, and otherwise that of"
         " jfr.",
     )
     check.usage = CHECK
     made = check.add_argument_group("if a recipe has made OUT")
-    made.add_argument("--recipe", choices=("vendor", "strict", "tenant"), help="the recipe")
+    made.add_argument("--recipe", choices=("vendor", "strict", "tenant", "masked"), help="the recipe")
     made.add_argument(
         "--trust", metavar="TYPE", type=jdk_type, action="append", default=[], help="as for the recipe"
     )
     made.add_argument("--last", metavar="TIME", type=span_text, help="as for the recipe")
+    _masks(check, name)
     made = check.add_argument_group(
         "the options of jfr scrub",
         f"{', '.join(LISTS)}, --renumber, --from and --to. With --recipe only the last two, which also take a time as the"

@@ -14,6 +14,7 @@ from kijorafe.explain import explain
 from kijorafe.flame import flame
 from kijorafe.jdk import copy, print_ids
 from kijorafe.left import left
+from kijorafe.masking import MASKED, Masks
 from kijorafe.messages import Fault, say, write
 from kijorafe.names import names
 from kijorafe.scrub import Order, scrub, tenant, tenant_by_addresses
@@ -46,7 +47,14 @@ def _run_masked(given: Arguments) -> int:
     targets = [given.target, *(each for each in (given.table, given.report) if each is not None)]
     if len({os.path.abspath(each) for each in targets}) < len(targets):
         _wrong(given, "OUT and the FILEs of --table and --report are to be different")
-    return masked.masked(masked.Order(_order(given), given.code, given.known, given.table, given.report))
+    return masked.masked(masked.Order(_order(given), _masks(given), given.table, given.report))
+
+
+def _masks(given: Arguments) -> Masks:
+    """Which texts stay."""
+    if given.opened and not given.code:
+        _wrong(given, "--open is for use with --code: without it, all names of code stay")
+    return Masks(given.code, given.known, given.opened)
 
 
 def _run_jdk(given: Arguments) -> int:
@@ -60,9 +68,9 @@ def _run_jdk(given: Arguments) -> int:
 
 def _run_many(given: Arguments) -> int:
     operands, texts = list(given.operands), None
-    masks = [*(["--code"] if given.code else []), *(["--known", given.known] if given.known else [])]
-    if masks and given.recipe != "masked":
-        _wrong(given, "--code and --known are for masked")
+    masks = _masks(given).words()
+    if masks and given.recipe != MASKED:
+        _wrong(given, "--code, --known and --open are for masked")
     options = [word for type_name in given.trust for word in ("--trust", type_name)] + _asked(given).words() + masks
     if given.addresses:
         options.append("--addresses")
@@ -89,15 +97,15 @@ def _run_check(given: Arguments) -> int:
         _wrong(given, "--trust and --last are for use with --recipe")
     if given.recipe is not None and (renumber or not {*options[::2]} <= {"--exclude-threads"}):
         _wrong(given, "of the options of jfr scrub, only --exclude-threads, --from and --to are for use with --recipe")
-    if given.recipe in ("vendor", "strict") and options:
+    if given.recipe in ("vendor", "strict", MASKED) and options:
         _wrong(given, "--exclude-threads is for use with --recipe tenant")
-    if renumber and given.receipt is not None:
-        _wrong(given, "no receipt checks an output with new keys")
-    return check.check(
-        check.Order(
-            given.source, given.target, given.receipt, options, _asked(given), renumber, given.recipe, tuple(given.trust)
-        )
-    )
+    masks = _masks(given)
+    if masks.words() and given.recipe != MASKED:
+        _wrong(given, "--code, --known and --open are for use with --recipe masked")
+    if (renumber or given.recipe == MASKED) and given.receipt is not None:
+        _wrong(given, f"no receipt checks an output with {'new keys' if renumber else 'masks'}")
+    made = options, _asked(given), renumber, given.recipe, tuple(given.trust), masks
+    return check.check(check.Order(given.source, given.target, given.receipt, *made))
 
 
 RUNS: Dict[str, Callable[[Arguments], int]] = {

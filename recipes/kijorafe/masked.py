@@ -8,27 +8,22 @@ from typing import AbstractSet, Dict, Iterator, List, NamedTuple, Optional, Set,
 
 from kijorafe import scrub
 from kijorafe.inputs import check_input, recording_of
-from kijorafe.messages import WARNING, Fault, say
+from kijorafe.masking import Known, Mask, Masks, known_of, mask_of
+from kijorafe.messages import Fault, say
 from kijorafe.program import Failure, Program, find
-from kijorafe.scrub import READ_FAULT, as_operand, plan_of, report_of, run, unchecked
-from kijorafe.shown import file_name, in_a_row, quoted, shown
+from kijorafe.scrub import as_operand, plan_of, report_of, run, unchecked
+from kijorafe.shown import in_a_row, quoted, shown
 from kijorafe.staging import Output, commit_all
 from kijorafe.texts import Texts, texts_by_field
-from kijorafe.unmasked import unmasked
 
-# The pattern of the fields whose texts are masked, but for those of the file recipes/unmasked.
-ALL = "*"
 PSEUDONYM = re.compile(r"(\(\))?masked-[1-9][0-9]*")
-# A known text that begins so isn't one.
-LIKE_PSEUDONYMS = "masked-", "()masked-"
 
 
 class Order(NamedTuple):
-    """What to mask; whether names of code are masked; a file of texts that stay; where pseudonyms and a report go."""
+    """What to mask; which texts stay; where pseudonyms and a report go."""
 
     base: scrub.Order
-    is_code_masked: bool = False
-    known: Optional[str] = None
+    masks: Masks = Masks()
     table: Optional[str] = None
     report: Optional[str] = None
 
@@ -77,7 +72,7 @@ class Masked(NamedTuple):
 def masked(order: Order) -> int:
     """Masks by the lists of the recipe."""
     check_input(order.base.source)
-    known = None if order.known is None else _content(order.known)
+    known = known_of(order.masks)
     output = Output(order.base.target)
     table = None if order.table is None else Output(order.table, is_private=True)
     report = None if order.report is None else Output(order.report, is_private=True)
@@ -86,43 +81,38 @@ def masked(order: Order) -> int:
         stack.enter_context(output)
         lines = _masked(order, known, output, table, report)
         commit_all([*others, output])
-    if order.known is not None and known is not None and b"\r\n" in known:
-        said = "end with a carriage return, which belongs to the text"
-        lines.append(f"{WARNING}lines of {file_name(order.known)} {said}")
     for line in lines:
         say(line)
     return 0
 
 
 def _masked(
-    order: Order, known: Optional[bytes], output: Output, table: Optional[Output], report: Optional[Output]
+    order: Order, known: Known, output: Output, table: Optional[Output], report: Optional[Output]
 ) -> List[str]:
     """Makes the outputs; what came of it."""
     recording, program = recording_of(order.base.source, output), find()
-    plan, stay = plan_of(program, order.base, [], recording), unmasked(order.is_code_masked)
-    words = ["mask", *plan.options, "--strings", ALL, "--except", ",".join(stay)]
-    if known is not None:
-        words += ["--known", output.beside("known")]
-        _write(known, output.beside("known"), output)
+    plan = plan_of(program, order.base, [], recording)
+    mask = mask_of(program, order.masks, known, order.base.source, as_operand(recording))
+    words = ["mask", *plan.options, *mask.options(output.beside("known"))]
+    if mask.known.content is not None:
+        _write(mask.known.content, output.beside("known"), output)
     place = output.beside("table") if table is None else table.path
     words += ["--table", as_operand(place), as_operand(recording), as_operand(output.path)]
     run(program, order.base, words, [output, *([] if table is None else [table])])
     lines = report_of(program, order.base, plan, recording, output)
-    made = _checked(program, order, output, place, stay, _lines_of(known or b""))
+    made = _checked(program, order, output, place, mask)
     if report is not None:
         _write("".join(made.report()).encode("utf-8", "surrogatepass"), report.path, report)
-    return [*lines, *made.said()]
+    return [*lines, *made.said(), *mask.known.said]
 
 
-def _checked(
-    program: Program, order: Order, output: Output, table: str, stay: Dict[str, str], known: AbstractSet[str]
-) -> Masked:
+def _checked(program: Program, order: Order, output: Output, table: str, mask: Mask) -> Masked:
     """What the output has, if all is masked that must be."""
     try:
-        made = Masked(texts_by_field(program, output.path), stay, _secrets_of(table))
+        made = Masked(texts_by_field(program, output.path), mask.fields, _secrets_of(table))
     except (Failure, Fault, MemoryError, OSError, ValueError) as failure:
         raise unchecked(order.base.source, failure) from failure
-    wrong = made.not_masked(known)
+    wrong = made.not_masked(mask.known.texts())
     if wrong:
         raise unchecked(order.base.source, f"texts aren't masked at {in_a_row(wrong)}")
     return made
@@ -132,23 +122,6 @@ def _secrets_of(table: str) -> Set[str]:
     """The texts of the pseudonyms: in each line a pseudonym, a blank, and the text as JSON."""
     with open(table, encoding="utf-8", newline="\n") as lines:
         return {json.loads(line.partition(" ")[2]) for line in lines}
-
-
-def _content(name: str) -> bytes:
-    """The file of known texts. It may be a pipe."""
-    if os.path.isdir(name):
-        raise Fault(READ_FAULT, f"{file_name(name)} is a folder")
-    try:
-        with open(name, "rb") as file:
-            return file.read()
-    except OSError as fault:
-        raise Fault(READ_FAULT, f"reading {file_name(name)} failed: {fault.strerror}") from fault
-
-
-def _lines_of(content: bytes) -> Set[str]:
-    """The known texts of a file."""
-    lines = (line.decode("utf-8", "replace") for line in content.split(b"\n"))
-    return {line for line in lines if not line.startswith(LIKE_PSEUDONYMS)}
 
 
 def _write(content: bytes, path: str, output: Output) -> None:

@@ -66,6 +66,58 @@ record 23 "secret\\u0020text"
 
 
 SHUTDOWN = 'record 25 1 #1 #0 "no\\u0020reason"\n'
+# Methods of classes, and an event that has one in it. Symbols have the numbers of what they name.
+METHODS = """\
+class 2 int
+class 9 jdk.types.Symbol
+field string 6 -
+class 12 jdk.types.Package
+field name 9 c
+class 10 java.lang.Class
+field name 9 c
+field package 12 c
+class 11 jdk.types.Method
+field type 10 c
+field name 9 c
+field descriptor 9 c
+class 13 jdk.types.CalleeMethod
+field type 6 -
+field name 6 -
+field descriptor 6 -
+event 27 jdk.CompilerInlining
+field startTime 5 -
+field eventThread 7 c
+field compileId 2 -
+field caller 11 c
+field callee 13 -
+field succeeded 3 -
+field message 6 -
+field bci 2 -
+"""
+INLINED = """\
+constant 9 1 "org/lib/Base"
+constant 9 2 "org/lib"
+constant 9 3 "com/shop/Order"
+constant 9 4 "com/shop"
+constant 9 5 "run"
+constant 9 6 "pay"
+constant 9 7 "(Lorg/lib/Base;I)V"
+constant 9 8 "(Lcom/shop/Order;)V"
+constant 9 9 "[Lorg/lib/Item;"
+constant 12 1 #2
+constant 12 2 #4
+constant 10 1 #1 #1
+constant 10 2 #3 #2
+constant 10 3 #9 #0
+constant 11 1 #1 #5 #7
+constant 11 2 #2 #5 #8
+constant 11 3 #2 #6 #7
+constant 11 4 #1 #5 #8
+record 27 1 #1 1 #1 "org/lib/Inner" "inner" "(Ljava/lang/String;)I" true "message" 0
+record 27 1 #1 1 #2 "com/shop/Cart" "add" "()V" true "message" 0
+record 27 1 #1 1 #3 "org/lib/Base" "get" "()V" true "message" 0
+record 27 1 #1 1 #4 "org/lib/Base" "get" "()V" true "message" 0
+"""
 
 
 class Run(NamedTuple):

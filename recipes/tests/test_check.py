@@ -1,10 +1,11 @@
 """Checks of scrubs for somebody who has the original."""
 
 import gzip
+import lzma
 import os
 from typing import List
 
-from tests.support import EVENTS, SHUTDOWN, TYPES, Case, Run
+from tests.support import EVENTS, INLINED, METHODS, SHUTDOWN, TYPES, Case, Run
 
 OPTIONS = ["--include-events", "jdk.CPULoad,ThreadStart", "--exclude-threads", "-x,http*"]
 
@@ -54,6 +55,57 @@ class Check(Case):
                 self.assert_same(self.check("--recipe", recipe, *words, "in.jfr", "o.jfr"))
                 self.assert_doubt(self.check("in.jfr", "o.jfr"), "chunk 1: EventsDiffer: the output's events aren't")
                 os.unlink("o.jfr")
+
+    def test_masks(self) -> None:
+        self.recording("code.jfr", TYPES + METHODS + EVENTS + INLINED)
+        self.write("known", "main\nmasked-1\n")
+        code, known, opened = ["--code"], ["--known", "known"], ["--open", "org.lib.*,none.*"]
+        runs: List[List[str]] = [[], code, known, [*code, *opened], [*code, *known, *opened, "--last", "1s"]]
+        for number, words in enumerate(runs):
+            with self.subTest(words=words):
+                self.assert_run(self.recipe("masked", *words, "code.jfr", f"{number}.jfr"), 0)
+                run = self.check("--recipe", "masked", "code.jfr", *words, f"{number}.jfr")
+                self.assert_run(run, 0)
+                self.assertRegex(run.out, "^the same as a mask, byte for byte: chunks 1, bytes [0-9]+, inert 0\n$")
+                self.assertEqual("the pattern 'none.*' matches no class" in run.err, opened[0] in words)
+        others: List[List[str]] = [[], [*code, *known], [*code, "--open", "org.*"]]
+        for words in others:
+            with self.subTest(words=words):
+                run = self.check("--recipe", "masked", *words, "code.jfr", "4.jfr")
+                self.assertEqual(run.status, 7, run.err)
+                self.assertIn("chunk 1: the first byte that differs is at ", run.out)
+                self.assertIn("a mask also differs if --code, --open or the texts that are known", run.out)
+                self.assertNotIn("verified", run.out)
+        words = ["--recipe=masked", *code, "--known", "/dev/stdin", *opened, "code.jfr", "4.jfr", "--last", "1s"]
+        run = self.process("check", *words, stdin=b"main")
+        self.assertEqual((run.status, run.out[:18]), (0, "the same as a mask"))
+        content = self.read("1.jfr")
+        with open("1.jfr", "wb") as file:
+            file.write(content.replace(b"masked-1", b"masked-9"))
+        self.assertEqual(self.check("--recipe", "masked", *code, "code.jfr", "1.jfr").status, 7)
+        made = (f"{number}.jfr" for number in range(5))
+        self.assert_only("in.jfr", "out.jfr", "receipt", "code.jfr", "known", *made)
+
+    def test_names_of_jdks(self) -> None:
+        os.mkdir("send/share")
+        with lzma.open("send/share/jdk-names-17.xz", "wb") as names:
+            names.write(b"org/lib/Base\nrun\n")
+        self.recording("code.jfr", TYPES + METHODS + EVENTS + INLINED)
+        self.assert_run(self.recipe("masked", "--code", "code.jfr", "o.jfr"), 0)
+        run = self.check("--recipe", "masked", "--code", "code.jfr", "o.jfr")
+        self.assert_run(run, 0, "names stay of JDK 17, which ")
+        os.unlink("send/share/jdk-names-17.xz")
+        self.assertEqual(self.check("--recipe", "masked", "--code", "code.jfr", "o.jfr").status, 7)
+
+    def test_the_known_texts_are_private(self) -> None:
+        self.write("known", "main\n")
+        self.recipe("masked", "--known", "known", "in.jfr", "o.jfr")
+        find = 'for word; do [ "$last" != --known ] || stat -c "%a %n" "$word" >mode; last=$word; done'
+        self.fake_program(f'[ "$1" != mask ] || {{ {find}; }}; exec {self.program} "$@"\n')
+        self.assert_run(self.check("--recipe", "masked", "--known", "known", "in.jfr", "o.jfr"), 0)
+        mode, place = self.read("mode").decode().split()
+        self.assertEqual(mode, "600")
+        self.assertFalse(os.path.exists(os.path.dirname(place)))
 
     def test_window(self) -> None:
         words = ["--from", "0", "--to", "1970-01-01T00:00:00.5Z"]
@@ -130,7 +182,13 @@ class Check(Case):
             (1, "for use with --recipe", ("--last", "1s", "in.jfr", "out.jfr")),
             (1, "for use with --recipe", ("--recipe", "vendor", "--describe", "x", "in.jfr", "out.jfr")),
             (1, "with --recipe tenant", ("--recipe", "vendor", "--exclude-threads", "x", "in.jfr", "out.jfr")),
-            (1, "no receipt checks", ("--renumber", "yes", "in.jfr", "out.jfr", "receipt")),
+            (1, "with new keys", ("--renumber", "yes", "in.jfr", "out.jfr", "receipt")),
+            (1, "with masks", ("--recipe", "masked", "in.jfr", "out.jfr", "receipt")),
+            (1, "with --recipe masked", ("--recipe", "vendor", "--code", "in.jfr", "out.jfr")),
+            (1, "with --recipe masked", ("--known", "text", "in.jfr", "out.jfr")),
+            (1, "for use with --code", ("--recipe", "masked", "--open", "x", "in.jfr", "out.jfr")),
+            (1, "with --recipe tenant", ("--recipe", "masked", "--exclude-threads", "x", "in.jfr", "out.jfr")),
+            (3, "reading none failed", ("--recipe", "masked", "--known", "none", "in.jfr", "out.jfr")),
             (1, "isn't a time", ("--from", "12:", "in.jfr", "out.jfr")),
             (1, "doesn't take these words", ("--include-events", "", "in.jfr", "out.jfr")),
         ):

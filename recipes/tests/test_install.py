@@ -21,6 +21,9 @@ class Install(Case):
             "left --": "--exact --help",
             "check --rec": "--recipe",
             "check --recipe t": "tenant",
+            "check --recipe m": "masked",
+            "check --o": "--open",
+            "masked --o": "--open",
             "check --ex": "--exclude-events --exclude-categories --exclude-threads",
         }
         bash = '. "$0"; for line; do read -ra COMP_WORDS <<<"kijorafe $line"; COMP_CWORD=$((${#COMP_WORDS[@]} - 1));'
@@ -63,6 +66,12 @@ class Install(Case):
             self.assertTrue(os.path.exists(os.path.join("to", name)), name)
         for name in "types", "fields", "unmasked", "kijorafe/Names.java":
             self.assertEqual(self.read(f"to/lib/kijorafe/recipes/{name}"), self.read(f"send/recipes/{name}"))
+        names = [name for name in os.listdir(os.path.join(TOP, "dist")) if name.startswith("jdk-names-")]
+        self.assertEqual(len(names), 1)
+        self.assertEqual(self.read(f"to/lib/kijorafe/share/{names[0]}"), self.read(os.path.join(TOP, "dist", names[0])))
+        words = ["to/bin/kijorafe", "masked", "--code", "in.jfr", "out.jfr"]
+        done = subprocess.run(words, stderr=subprocess.PIPE, check=True)
+        self.assertIn(f"which {os.path.abspath('to')}/lib/kijorafe/share/{names[0]} has\n", done.stderr.decode())
         self.assert_run(self.install("--remove", "--prefix=to"), 0)
         self.assertEqual(self.names(), [])
 

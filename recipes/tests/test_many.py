@@ -68,7 +68,7 @@ class Many(Case):
             (1, "usage", ("vendor", "in")),
             (1, "usage", ("tenant", "in", "out")),
             (1, "a pattern is empty", ("tenant", "a,", "in", "out")),
-            (1, "--code and --known are for masked", ("--code", "vendor", "in", "out")),
+            (1, "--code, --known and --open are for masked", ("--code", "vendor", "in", "out")),
             (1, "none can't be read", ("--known", "none", "masked", "in", "out")),
             (1, "usage", ("--jobs", "0", "vendor", "in", "out")),
         ):

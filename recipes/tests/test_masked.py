@@ -1,16 +1,18 @@
 """Masks: which texts have pseudonyms, the table and the report, and the names of a JDK."""
 
 import json
+import lzma
 import os
 import subprocess
 from typing import Dict, List
 
 from kijorafe import genuine
 from kijorafe.known import kept_by, written_once
+from kijorafe.opened import Method, Names as CodeNames, opened
 from kijorafe.program import Program
 from kijorafe.texts import texts_by_field
 from kijorafe.unmasked import unmasked
-from tests.support import EVENTS, SHUTDOWN, TYPES, Case
+from tests.support import EVENTS, INLINED, METHODS, SHUTDOWN, TYPES, Case
 
 # Types with names of code, and events with two of them.
 CODE = """\
@@ -159,6 +161,36 @@ class Masked(Case):
         self.assert_run(self.process(*words, stdin=self.read("known")), 0)
         self.assertEqual(self.read("again.jfr"), self.read("jdk.jfr"))
 
+    def test_names_of_jdks(self) -> None:
+        words = "masked", "--code", "in.jfr"
+        self.assert_run(self.recipe(*words, "none.jfr"), 0, "names of the JDK are masked, too")
+        self.assertNotIn("names", self.recipe("masked", "in.jfr", "code.jfr").err)
+        for folder, file, said in (
+            ("dist", "jdk-names-17-21-25.xz", "names stay of JDK 17, 21 and 25, which "),
+            ("share", "jdk-names-17.xz", "names stay of JDK 17, which "),
+        ):
+            with self.subTest(folder=folder):
+                os.mkdir(f"send/{folder}")
+                with lzma.open(f"send/{folder}/{file}", "wb") as names:
+                    names.write(b"java/lang/Integer\nmain\n")
+                self.write(f"send/{folder}/jdk-names.txt", "another")
+                run = self.recipe(*words, f"{folder}.jfr")
+                self.assert_run(run, 0, f"{said}{os.path.abspath('send')}/{folder}/{file} has\n")
+                self.assertEqual(self.texts(f"{folder}.jfr")["jdk.types.Symbol.string"][0], "java/lang/Integer")
+                self.assertNotIn(b"com/shop/Order", self.read(f"{folder}.jfr"))
+                self.recipe(*words, "opened.jfr", "--open", "com.shop.*")
+                texts = self.texts("opened.jfr")
+                self.assertEqual(texts["jdk.types.Symbol.string"], ["com/shop/Order", "java/lang/Integer"])
+                self.assertEqual(texts["java.lang.Thread.javaName"][0], "main")
+                os.unlink("opened.jfr")
+                self.assertNotIn("names", self.recipe(*words, "known.jfr", "--known", "/dev/null").err)
+                self.assertEqual(self.read("known.jfr"), self.read("none.jfr"))
+                os.unlink("known.jfr")
+                self.write(f"send/{folder}/{file}", "no archive")
+                self.assert_run(self.recipe(*words, "new.jfr"), 3, f"{folder}/{file} is damaged")
+                os.unlink(f"send/{folder}/{file}")
+        self.assert_only("in.jfr", "none.jfr", "code.jfr", "dist.jfr", "share.jfr")
+
     def test_known_texts(self) -> None:
         self.write("known", "main\r\nhttp GET /pay\n/secret")
         run = self.recipe("masked", "--known", "known", "--table", "table", "in.jfr", "out.jfr")
@@ -238,6 +270,81 @@ class Masked(Case):
         run = self.recipe("masked", "in.jfr", "out.jfr")
         self.assert_run(run, 71, "texts aren't masked at farm.Own.text; java.lang.Thread.javaName; jdk.FileRead.path\n")
         self.assert_only("in.jfr")
+
+
+class Opened(Case):
+    def names(self, *methods: Method) -> CodeNames:
+        own = {"com/shop/Order", "Main", *(each.class_name for each in methods)}
+        classes = {"org/lib/Base", "[[Lorg/lib/Item;", "org/lib/two\nlines", *own}
+        return CodeNames(classes, {"org/lib", "com/shop", "org/library"}, set(methods))
+
+    def test_classes_and_packages(self) -> None:
+        both = {"org/lib/Base", "org.lib.Base", "org/lib", "org.lib", "[[Lorg/lib/Item;", "[[Lorg.lib.Item;"}
+        for patterns in "org.lib.*", "org/lib/*", "org.l?b.*", "*.lib.Base,*Item", "org.lib.Base,org.lib.Item":
+            with self.subTest(patterns=patterns):
+                self.assertEqual(opened(self.names(), patterns, set()), (both, []))
+        self.assertEqual(opened(self.names(), "Main,org.lib.X,org,[[*", set()), ({"Main"}, ["org.lib.X", "org", "[[*"]))
+        self.assertEqual(opened(self.names(), "org.library", set()).texts, {"org/library", "org.library"})
+
+    def test_methods(self) -> None:
+        own = Method("com/shop/Order", "pay", "()Lcom/shop/Order;")
+        descriptors = "()V", "(Lcom/shop/Order;)V", "([Lorg/lib/X;Ljava/lang/A;)V"
+        base = [Method("org/lib/Base", "run", descriptor) for descriptor in descriptors]
+        texts = opened(self.names(own, *base), "org.lib.*", {"java/lang/A"}).texts
+        self.assertLess({"run", "()V", "([Lorg/lib/X;Ljava/lang/A;)V"}, texts)
+        self.assertFalse(texts & {"pay", "()Lcom/shop/Order;", "(Lcom/shop/Order;)V", "com/shop/Order", "com/shop"})
+        self.assertNotIn("([Lorg/lib/X;Ljava/lang/A;)V", opened(self.names(*base), "org.lib.*", set()).texts)
+
+    def masked(self, *words: str) -> "Dict[str, List[str]]":
+        """The texts of an output that aren't pseudonyms."""
+        self.assert_run(self.recipe("masked", "--code", *words, "in.jfr", "out.jfr"), 0)
+        found = texts_by_field(Program(self.program), "out.jfr")
+        os.unlink("out.jfr")
+        return {field: sorted(text for text in counts if "masked-" not in text) for field, counts in found.items()}
+
+    def test_a_recording(self) -> None:
+        self.recording("one.jfr", TYPES + METHODS + EVENTS + INLINED)
+        self.recording("two.jfr", TYPES + METHODS + EVENTS + INLINED.replace("org/lib/Base", "org/lib/Later"))
+        with open("in.jfr", "wb") as file:
+            file.write(self.read("one.jfr") + self.read("two.jfr"))
+        self.write("known", "java/lang/String")
+        texts = self.masked("--open", "org.lib.*", "--known", "known")
+        symbols = ["(Lorg/lib/Base;I)V", "(Lorg/lib/Later;I)V", "org/lib", "org/lib/Base", "org/lib/Later", "run"]
+        self.assertEqual(texts["jdk.types.Symbol.string"], symbols)
+        self.assertEqual(texts["jdk.types.CalleeMethod.type"], ["org/lib/Base", "org/lib/Inner", "org/lib/Later"])
+        self.assertEqual(texts["jdk.types.CalleeMethod.name"], ["get", "inner"])
+        # What `add` of the program's own class takes is a text that a method of the other has, too.
+        self.assertEqual(texts["jdk.types.CalleeMethod.descriptor"], ["()V", "(Ljava/lang/String;)I"])
+        self.assertEqual(self.masked("--open", "org.lib.*")["jdk.types.CalleeMethod.descriptor"], ["()V"])
+        self.assertEqual(self.masked()["jdk.types.Symbol.string"], [])
+        self.assert_only("in.jfr", "one.jfr", "two.jfr", "known")
+
+    def test_what_is_said(self) -> None:
+        self.recording("in.jfr", TYPES + METHODS + EVENTS + INLINED)
+        run = self.recipe("masked", "--code", "--open", "org.lib.B*,none.*", "in.jfr", "out.jfr")
+        self.assert_run(run, 0, "8 names stay, of what --open matches, and of its methods\n")
+        self.assertIn("WARNING: the pattern 'none.*' matches no class or package of in.jfr\n", run.err)
+        for words, text in (
+            (["--open", "org.*"], "--open is for use with --code"),
+            (["--code", "--open", "org.*,"], "a pattern is empty"),
+            (["--code", "--open", "a, b"], "a blank beside a comma"),
+        ):
+            self.assert_run(self.recipe("masked", *words, "in.jfr", "new.jfr"), 1, text)
+        self.assert_run(self.recipe("many", "--code", "--open", "org.*", "vendor", "in", "new"), 1, "are for masked")
+        os.mkdir("in")
+        os.rename("in.jfr", "in/x.jfr")
+        run = self.process("many", "masked", "in", "new", "--open", "org.lib.B*,none.*", "--code")
+        self.assert_run(run, 0, "WARNING: 1 have warnings")
+        self.assertEqual(self.read("new/x.jfr"), self.read("out.jfr"))
+
+    def test_the_file_is_private(self) -> None:
+        self.recording("in.jfr", TYPES + METHODS + EVENTS + INLINED)
+        self.fake_program(f'[ "$1" != mask ] || stat -c %a .out.jfr.part/known >mode; exec {self.program} "$@"\n')
+        self.assert_run(self.recipe("masked", "--code", "--open", "org.*", "in.jfr", "out.jfr"), 0)
+        self.assertEqual(self.read("mode"), b"600\n")
+        self.fake_program(f'[ "$1" != mask ] || exit 5; exec {self.program} "$@"\n')
+        self.assert_run(self.recipe("masked", "--code", "--open", "org.*", "in.jfr", "new.jfr"), 5)
+        self.assert_only("in.jfr", "out.jfr", "mode")
 
 
 class Names(Case):
