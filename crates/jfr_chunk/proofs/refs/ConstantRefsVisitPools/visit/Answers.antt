@@ -5,5 +5,5 @@ use Rattle.jfr_chunk.proofs.refs.ConstantRefsVisitPools.visit.Goals as goal
 pub add-requires : goal.add-requires
 add-requires c =
     let h : c.in-Some.number < length c.args.pools.now = force_within c.args.pools.now _ c.in-Some.number (sym c.in-Some.ensures) in
-    let s : length c.args.pools.now < 2 ^ 32 = c.requires in
+    let s : length c.args.pools.now < 2 ^ 32 = c.requires.ready in
     omega arith
