@@ -5,8 +5,7 @@ use Rattle.jfr_layout.specs.declared.shape.Shape.{Shape}
 use Rattle.jfr_value.specs.Nodes.{node_of}
 use Rattle.jfr_value.proofs.LayoutLaws.{layout_class}
 use Rattle.jfr_renumber.specs.Missing.{Lists}
-use Rattle.jfr_renumber.proofs.FieldLaws.{inline_layout}
-use Rattle.jfr_renumber.proofs.ListingLaws.{all_visited}
+use Rattle.jfr_renumber.proofs.ListingLaws.{all_visited, inline_layout}
 use Rattle.jfr_renumber.proofs.missing.list_value.Goals as goal
 
 pub end_visiting-end-requires-clause-layout : goal.end_visiting-end-requires-clause-layout
