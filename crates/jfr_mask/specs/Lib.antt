@@ -17,3 +17,4 @@ pub mod Commands
 pub mod RecordingMaskers
 pub mod Streams
 pub mod RecordingLaws
+pub mod Visitors

@@ -1,5 +1,5 @@
 -- A cursor over the records, the events and the chained checkpoints of a chunk.
-use Rattle.std.specs.Prelude.{◌≡◌, ℕ, zero, suc, ◌+◌, ◌≤◌, Bool, true, false, ◌&&◌, ◌==◌, List, [], ◌∷◌, length, drop, slice_get, reverse, Option, Some, None, Ok, Err, is_some, IfSome, MatchOption, option_map, option_and_then, unwrap_or, cond, if◌then◌else◌}
+use Rattle.std.specs.Prelude.{◌≡◌, ℕ, zero, suc, ◌+◌, ◌<◌, ◌≤◌, Bool, true, false, ◌&&◌, ◌==◌, List, [], ◌∷◌, length, drop, slice_get, reverse, Option, Some, None, Ok, Err, is_some, IfSome, MatchOption, option_map, option_and_then, unwrap_or, cond, if◌then◌else◌}
 use Rattle.std.specs.List.{filter_map, cons_option, list_any, enumerate_from}
 use Rattle.std.specs.Option.{option_map_or}
 use Rattle.std.proofs.Common.{ap, arith, refl, sym, ◌∙◌, subst, inl, inr, add-one}
@@ -266,6 +266,25 @@ output_record_next new p flags c d frames at o e h f g = by_record (slice_get p.
     by_record : (x : Option Framed) → slice_get p.records c.frame ≡ x → option_map (λ r. r.at) x ≡ Some at → IfSome x (λ r. option_map (output_record_as new) o ≡ output_record_of new p (kept_by p flags) r) → remaining_output_records new p flags c ≡ cons_option (option_map (output_record_as new) o) (remaining_output_records new p flags d)
     by_record None e h g = cc
     by_record (Some r) e h g = output_records_at new p flags c r e ∙ (λ i. cons_option (sym g i) (filter_map (output_record_of new p (kept_by p flags)) (drop (sym f i) p.records)))
+
+-- A record's number, which is less than that of the records, and than its offset.
+pub number_within : (rs : List Framed) (n at : ℕ) → option_map (λ (r : Framed). r.at) (slice_get rs n) ≡ Some at → n < length rs
+number_within [] n at e = cc
+number_within (r ∷ rs) zero at e = omega arith
+number_within (r ∷ rs) (suc n) at e = let l = number_within rs n at e in omega arith
+
+pub number_below : (p : ℕ) (rs : List Framed) (n at : ℕ) → Rising p rs → option_map (λ (r : Framed). r.at) (slice_get rs n) ≡ Some at → p + n ≤ at
+number_below p [] n at a e = cc
+number_below p (r ∷ rs) zero at a e = let h : r.at ≡ at = cc in let l = a.0 in omega (arith, h, l)
+number_below p (r ∷ rs) (suc n) at a e = let l = a.0 in let m = number_below (r.at + 1) rs n at a.1 e in omega (arith, l, m)
+
+-- Behind the last record nothing remains.
+pub none_remain : (new : Option (List ℕ)) (p : Parts) (flags : List Bool) (c : Cursor) (frames : List Framed) → frames ≡ p.records → None ≡ option_map (λ (r : Framed). r.at) (slice_get frames c.frame) → remaining_output_records new p flags c ≡ []
+none_remain new p flags c frames e h = by_record (slice_get p.records c.frame) refl (h ∙ ap (λ rs. option_map (λ (r : Framed). r.at) (slice_get rs c.frame)) e)
+  where
+    by_record : (o : Option Framed) → slice_get p.records c.frame ≡ o → None ≡ option_map (λ (r : Framed). r.at) o → remaining_output_records new p flags c ≡ []
+    by_record None q h = ap (filter_map (output_record_of new p (kept_by p flags))) (drop_none p.records c.frame q)
+    by_record (Some r) q h = cc
 
 pub told_some : (new : Option (List ℕ)) (before rest : List OutputRecord) (o : Option contents.OutputRecord) → before ≡ cons_option (option_map (output_record_as new) o) rest → is_some o ≡ true → MatchOption o (before ≡ []) (λ s. before ≡ output_record_as new s ∷ rest)
 told_some new before rest None e h = cc

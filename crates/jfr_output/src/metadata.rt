@@ -62,7 +62,7 @@ fn used_classes(
 {
     let mut used = UsedClasses::new(alloc);
     for number in 0..chunk.event_count() {
-        if !kept.get(number).unwrap_or(false) {
+        if !kept.is_kept(number) {
             continue;
         }
         add_class(&mut used, chunk, number)?;
@@ -75,8 +75,8 @@ fn used_classes(
 fn add_described(used: &mut UsedClasses, classes: &Classes, filter: &Filter) -> Result<(), NoMemory>
     ensures { OnOk result ((id : ℕ) → is_in used.new.ids id ≡ (is_in used.old.ids id || is_described (describes filter.now) classes.now id)) }
 {
-    for at in 0..classes.len() {
-        add_if_described(used, classes.class_at(at), filter)?;
+    for class in classes.as_slice() {
+        add_if_described(used, class, filter)?;
     }
     Ok(())
 }

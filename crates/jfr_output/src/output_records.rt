@@ -39,26 +39,13 @@ pub fn next_output_record(chunk: &Chunk, kept: &Kept, cursor: &mut Cursor) -> Op
     ensures event { IfSome result (ShowsEvent chunk.now kept.now) }
 {
     let frames = chunk.frames();
-    'records: while cursor.frame < frames.len() {
-        let at = offset_of(frames, cursor.frame);
+    'records: while let Some(at) = frames.place(cursor.frame) {
         let output_record = pass_record(chunk, kept, cursor, at);
         if output_record.is_some() {
             return output_record;
         }
     }
     None
-}
-
-/// The offset of the record with this number.
-#[inline(always)]
-fn offset_of(frames: &Frames, number: usize) -> usize
-    requires { number < length frames.now }
-    ensures { option_map (λ r. r.at) (slice_get frames.now number) ≡ Some result }
-{
-    match frames.place(number) {
-        Some(at) => at,
-        None => unreachable!(),
-    }
 }
 
 /// The output record for the cursor's record, which starts at `at`, if anything is written for it. Moves the
@@ -119,11 +106,7 @@ fn pass_event(chunk: &Chunk, kept: &Kept, number: &mut usize, at: usize) -> Opti
         return None;
     }
     *number = old + 1;
-    if kept.get(old).unwrap_or(false) {
-        Some(old)
-    } else {
-        None
-    }
+    if kept.is_kept(old) { Some(old) } else { None }
 }
 
 /// The chained checkpoint that starts at this offset, with its number. `number` then becomes that of the next one.

@@ -63,20 +63,10 @@ fn reached(alloc: Global, pools: &Pools, marks: &Marks) -> Result<Vec<EntryAt>, 
     ensures { IfOk result (λ remaining. remaining.items ≡ marked marks.now pools.now) }
 {
     let mut remaining = Vec::new(alloc);
-    for at in 0..pools.len() {
-        push_if(&mut remaining, entry_at(pools, at), marks.is_reached(at))?;
+    for (at, entry) in pools.as_slice().iter().enumerate() {
+        push_if(&mut remaining, *entry, marks.is_reached(at))?;
     }
     Ok(remaining)
-}
-
-fn entry_at(pools: &Pools, at: usize) -> EntryAt
-    requires { at < length pools.now }
-    ensures { slice_get pools.now at ≡ Some result }
-{
-    match pools.get(at) {
-        Some(entry) => *entry,
-        None => unreachable!(),
-    }
 }
 
 /// Adds the entry if `keep` is true.

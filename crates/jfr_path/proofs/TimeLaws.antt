@@ -1,5 +1,5 @@
 -- The times of an event are the numbers in its fields with these names.
-use Rattle.std.specs.Prelude.{◌≡◌, ◌≢◌, ℕ, ℤ, pos, ◌^◌, ◌%◌, ◌<◌, ◌≤◌, Bool, true, false, not, ◌||◌, List, length, Option, Some, None, option_and_then, option_map, codes, if◌then◌else◌}
+use Rattle.std.specs.Prelude.{◌≡◌, ◌≢◌, ℕ, ℤ, pos, ◌^◌, ◌%◌, ◌<◌, ◌≤◌, Bool, true, false, not, ◌||◌, List, length, Option, Some, None, IsSome, option_and_then, option_map, codes, if◌then◌else◌}
 use Rattle.std.specs.Int.{cast_signed, w64}
 use Rattle.std.specs.Option.{option_map_or}
 use Rattle.std.proofs.Common.{ap, arith, refl, sym, ◌∙◌, subst}
@@ -59,6 +59,9 @@ module _ (p : Parts) (n : Node) (value : IsValue p.classes n) (bytes : n.bytes.n
 
   abbrev there : (number : ℕ) × ((end : ℕ) → n.end ≤ end → end ≤ length n.bytes.now → int_at n.bytes.now n.at end ≡ Some (record { value = number; end = n.end })) × (number ≡ worth_within 8 (node_bytes n.bytes.now (node_of n)))
   there = spelled p.classes n.bytes.now (node_of n) value.0 found.0 value.1 array constant found.1 found.2
+
+  pub long_there : IsSome (int_at n.bytes.now n.at n.end)
+  long_there = subst IsSome (sym (there.1 n.end (omega arith) value.1.within)) refl
 
   pub long_is : (number : Var) → number.value < 2 ^ 64 → int_at n.bytes.now n.at n.end ≡ Some number → Some (cast_signed w64 number.value) ≡ long_of p (node_of n)
   long_is number small e =

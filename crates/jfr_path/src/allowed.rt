@@ -44,8 +44,7 @@ fn allowed_directly(
     ensures ok { IfOk result (λ allowed. allowed.items ≡ map (is_allowed filter.now) classes.now) }
 {
     let mut allowed = Vec::new(alloc);
-    for index in 0..classes.len() {
-        let class = classes.class_at(index);
+    for class in classes.as_slice() {
         allowed.push(filter.allows_class(class.name.as_str(), &class.categories))?;
     }
     Ok(allowed)

@@ -59,10 +59,9 @@ fn named_node<'a>(chunk: &Chunk<'a>, node: &Node<'a>, names: &Words) -> Option<N
     ensures value { IfSome result (IsValue chunk.now.classes) }
 {
     let mut place = in_chunk(chunk, node);
-    for number in 0..names.len() {
-        let name = names.get(number)?;
+    for name in names.as_slice() {
         let holder = follow_references(chunk, &place, MOST_FOLLOWED);
-        place = named_field(chunk, &holder, name)?;
+        place = named_field(chunk, &holder, name.as_str())?;
     }
     Some(place)
 }

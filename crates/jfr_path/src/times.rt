@@ -7,7 +7,7 @@ ghost use Rattle.jfr_path.specs.Times.{HasLayouts, IsWindowOf, StartsAt, duratio
 ghost use Rattle.jfr_value.specs.Nodes.{IsValue, node_of};
 
 use crate::window::Window;
-use jfr_base::{Var, read_within, signed};
+use jfr_base::{Var, known_integer, signed};
 use jfr_chunk::Chunk;
 use jfr_layout::{ClassInfo, FieldLayout, Form, Kind};
 use jfr_value::{Node, Step, child};
@@ -124,12 +124,8 @@ fn long_in(
 {
     let layout = layouts.get(number)?;
     match (layout.kind, layout.form) {
-        (Kind::Long, Form::Integer) => {}
-        _ => return None,
-    }
-    match read_within(fields.bytes, at, fields.end) {
-        Ok(found) => Some(found),
-        Err(_) => unreachable!(),
+        (Kind::Long, Form::Integer) => Some(known_integer(fields.bytes, at, fields.end)),
+        _ => None,
     }
 }
 
@@ -187,10 +183,10 @@ fn long_of(chunk: &Chunk<'_>, node: &Node<'_>) -> Option<i64>
         return None;
     }
     match chunk.classes().kind(node.shape.class)? {
-        Kind::Long => match read_within(node.bytes, node.at, node.end) {
-            Ok(number) => Some(signed(number.value)),
-            Err(_) => unreachable!(),
-        },
+        Kind::Long => {
+            let number = known_integer(node.bytes, node.at, node.end);
+            Some(signed(number.value))
+        }
         _ => None,
     }
 }

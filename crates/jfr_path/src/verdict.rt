@@ -42,10 +42,8 @@ pub(crate) fn verdicts_on(
 {
     let allowed = allowed_classes(alloc, chunk, filter)?;
     let untimed = untimed_classes(alloc, chunk, filter)?;
-    let classes = chunk.classes();
     let mut verdicts = Vec::new(alloc);
-    for index in 0..allowed.len() {
-        let class = classes.class_at(index);
+    for (index, class) in chunk.classes().as_slice().iter().enumerate() {
         verdicts.push(verdict_on(class, allowed[index], untimed[index], filter))?;
     }
     Ok(verdicts)

@@ -1,5 +1,5 @@
 -- The loop over the events.
-use Rattle.std.specs.Prelude.{◌≡◌, ℕ, zero, suc, ◌+◌, ◌<◌, ◌≤◌, Bool, true, false, List, [], ◌∷◌, ◌++◌, length, drop, slice_get, Option, Some, None, option_and_then, option_map, option_to_list, if◌then◌else◌}
+use Rattle.std.specs.Prelude.{◌≡◌, ℕ, zero, suc, ◌+◌, ◌<◌, ◌≤◌, Bool, true, false, List, [], ◌∷◌, ◌++◌, length, drop, slice_get, Option, Some, None, option_map, option_to_list, if◌then◌else◌}
 use Rattle.std.specs.List.{AllByRecursion, list_all}
 use Rattle.std.proofs.Common.{ap, arith, refl, sym, ◌∙◌, inl, inr, subst}
 use Rattle.std.proofs.lemmas.List.{append-nil, length-append}
@@ -16,40 +16,32 @@ use Rattle.jfr_worklist.proofs.PuttingLaws.{ordered_append}
 use Rattle.jfr_chunk.proofs.HasNodesLaws.{event_is, has_nodes}
 use Rattle.jfr_worklist.proofs.SweepLaws.{AllBelow}
 use Rattle.jfr_worklist.specs.Worklists.{ordered_all}
-use Rattle.jfr_reach.specs.Walks.{kept_at, event_leaves, node_leaves}
+use Rattle.jfr_reach.specs.Walks.{event_leaves, node_leaves}
 use Rattle.jfr_reach.proofs.EntryWalk.{roots_below}
 use Rattle.jfr_chunk.proofs.RootLaws.{roots_append}
-
-kept_in : (keep : List Bool) (es : List EventAt) (i : ℕ) (e : EventAt) → Some e ≡ kept_at keep es i → In es e
-kept_in keep es i e h = by_flag (slice_get keep i) h
-  where
-    by_flag : (o : Option Bool) → Some e ≡ option_and_then (λ keep. if keep then slice_get es i else None) o → In es e
-    by_flag None h = cc
-    by_flag (Some true) h = get_in es i e (sym h)
-    by_flag (Some false) h = cc
 
 entries_few : (p : Parts) → AreParts p → (e : EventAt) → In (events_of p) e → length (node_entries p.entries p.classes p.bytes e.node) ≤ node_leaves p e.node
 entries_few p parts e i = let v = event_is p parts e i in references_few p.classes (has_nodes p parts).sound p.bytes p.entries e.node v.value v.node
 
--- The entries to which the event with this number refers, if it is kept.
-pub record KeptEntries (p : Parts) (keep : List Bool) (i : ℕ) (numbers : List ℕ) : Type 0 where
-  pub roots_are : numbers ≡ roots p (option_to_list (kept_at keep (events_of p) i))
+-- The entries to which the event with this number refers.
+pub record EventEntries (p : Parts) (i : ℕ) (numbers : List ℕ) : Type 0 where
+  pub roots_are : numbers ≡ roots p (option_to_list (slice_get (events_of p) i))
   pub below : AllByRecursion (λ n. n < length p.entries) numbers
-  pub few : length numbers ≤ event_leaves p (option_to_list (kept_at keep (events_of p) i))
+  pub few : length numbers ≤ event_leaves p (option_to_list (slice_get (events_of p) i))
 
 below_all : (n : ℕ) (xs : List ℕ) → AllBelow n xs → AllByRecursion (λ x. x < n) xs
 below_all n [] h = tt
 below_all n (x ∷ xs) h = (h x (inl refl), below_all n xs (λ i k. h i (inr k)))
 
-pub kept_entries : (p : Parts) → AreParts p → (keep : List Bool) (i : ℕ) (numbers : List ℕ) → Some numbers ≡ option_map (λ (e : EventAt). node_entries p.entries p.classes p.bytes e.node) (kept_at keep (events_of p) i) → KeptEntries p keep i numbers
-kept_entries p parts keep i numbers h = by_event (kept_at keep (events_of p) i) refl h
+pub event_entries : (p : Parts) → AreParts p → (i : ℕ) (numbers : List ℕ) → Some numbers ≡ option_map (λ (e : EventAt). node_entries p.entries p.classes p.bytes e.node) (slice_get (events_of p) i) → EventEntries p i numbers
+event_entries p parts i numbers h = by_event (slice_get (events_of p) i) refl h
   where
-    by_event : (o : Option EventAt) → kept_at keep (events_of p) i ≡ o → Some numbers ≡ option_map (λ (e : EventAt). node_entries p.entries p.classes p.bytes e.node) o → KeptEntries p keep i numbers
+    by_event : (o : Option EventAt) → slice_get (events_of p) i ≡ o → Some numbers ≡ option_map (λ (e : EventAt). node_entries p.entries p.classes p.bytes e.node) o → EventEntries p i numbers
     by_event None q h = cc
     by_event (Some e) q h =
         let x : numbers ≡ node_entries p.entries p.classes p.bytes e.node = cc in
         let r : numbers ≡ roots p (e ∷ []) = x ∙ ap (those (number_in_force p.entries)) (sym (append-nil (targets p.classes p.bytes e.node))) in
-        let a = entries_few p parts e (kept_in keep (events_of p) i e (sym q)) in
+        let a = entries_few p parts e (get_in (events_of p) i e q) in
         let l = ap length x in
         let m = ap (λ o. event_leaves p (option_to_list o)) q in
         record {
@@ -58,8 +50,8 @@ kept_entries p parts keep i numbers h = by_event (kept_at keep (events_of p) i) 
           few = omega arith;
         }
 
-pub kept_none : (p : Parts) (keep : List Bool) (i : ℕ) → None ≡ option_map (λ (e : EventAt). node_entries p.entries p.classes p.bytes e.node) (kept_at keep (events_of p) i) → kept_at keep (events_of p) i ≡ None
-kept_none p keep i h = by_event (kept_at keep (events_of p) i) h
+pub no_event : (p : Parts) (i : ℕ) → None ≡ option_map (λ (e : EventAt). node_entries p.entries p.classes p.bytes e.node) (slice_get (events_of p) i) → slice_get (events_of p) i ≡ None
+no_event p i h = by_event (slice_get (events_of p) i) h
   where
     by_event : (o : Option EventAt) → None ≡ option_map (λ (e : EventAt). node_entries p.entries p.classes p.bytes e.node) o → o ≡ None
     by_event None h = refl
@@ -69,19 +61,22 @@ no_events : (keep : List Bool) → marked {X = EventAt} keep [] ≡ []
 no_events [] = refl
 no_events (k ∷ keep) = refl
 
-none_at : (i : ℕ) (o : Option Bool) → option_and_then (λ keep. if keep then slice_get {X = EventAt} [] i else None) o ≡ None
-none_at i None = refl
-none_at i (Some true) = refl
-none_at i (Some false) = refl
+-- The event with a number, if it is kept.
+abbrev one_kept : Bool → List EventAt → ℕ → List EventAt
+one_kept keep es i = if keep then option_to_list (slice_get es i) else []
 
 -- Events from a place on.
-from_place : (keep : List Bool) (es : List EventAt) (i : ℕ) → i < length keep → marked (drop i keep) (drop i es) ≡ option_to_list (kept_at keep es i) ++ marked (drop (suc i) keep) (drop (suc i) es)
-from_place [] es i h = absurd (omega arith)
-from_place (k ∷ keep) [] zero h = sym (ap (λ z. option_to_list z ++ marked keep []) (none_at 0 (Some k)) ∙ no_events keep)
-from_place (true ∷ keep) (e ∷ es) zero h = refl
-from_place (false ∷ keep) (e ∷ es) zero h = refl
-from_place (k ∷ keep) [] (suc i) h = no_events (drop i keep) ∙ sym (ap (λ z. option_to_list z ++ marked (drop (suc i) keep) []) (none_at (suc i) (slice_get keep i)) ∙ no_events (drop (suc i) keep))
-from_place (k ∷ keep) (e ∷ es) (suc i) h = from_place keep es i (omega arith)
+from_place : (keep : List Bool) (es : List EventAt) (i : ℕ) (k : Bool) → slice_get keep i ≡ Some k → marked (drop i keep) (drop i es) ≡ one_kept k es i ++ marked (drop (suc i) keep) (drop (suc i) es)
+from_place [] es i k h = cc
+from_place (b ∷ keep) [] zero true h = sym (no_events keep)
+from_place (b ∷ keep) [] zero false h = sym (no_events keep)
+from_place (true ∷ keep) (e ∷ es) zero true h = refl
+from_place (false ∷ keep) (e ∷ es) zero false h = refl
+from_place (true ∷ keep) (e ∷ es) zero false h = cc
+from_place (false ∷ keep) (e ∷ es) zero true h = cc
+from_place (b ∷ keep) [] (suc i) true h = no_events (drop i keep) ∙ sym (no_events (drop (suc i) keep))
+from_place (b ∷ keep) [] (suc i) false h = no_events (drop i keep) ∙ sym (no_events (drop (suc i) keep))
+from_place (b ∷ keep) (e ∷ es) (suc i) k h = from_place keep es i k h
 
 none_from : (keep : List Bool) (es : List EventAt) (i : ℕ) → length keep ≤ i → marked (drop i keep) (drop i es) ≡ []
 none_from [] es zero h = refl
@@ -102,13 +97,13 @@ pub record EventsLeft (p : Parts) (keep flags : List Bool) (order : List ℕ) (s
   pub cost : s + event_leaves p (marked (drop i keep) (drop i (events_of p))) ≤ steps + event_leaves p (kept_by p keep)
 
 module _ (p : Parts) (keep flags : List Bool) (order : List ℕ) (steps : ℕ) where
-  pub events_next : (f g : List Bool) (o q : List ℕ) (i s t : ℕ) → i < length keep → EventsLeft p keep flags order steps f o i s
-      → g ≡ marked_at f (roots p (option_to_list (kept_at keep (events_of p) i))) → q ≡ ordered_all f o (roots p (option_to_list (kept_at keep (events_of p) i)))
-      → t ≤ s + event_leaves p (option_to_list (kept_at keep (events_of p) i)) → EventsLeft p keep flags order steps g q (i + 1) t
-  events_next f g o q i s t h w x y z =
-      let here : List EventAt = option_to_list (kept_at keep (events_of p) i) in
+  pub events_next : (f g : List Bool) (o q : List ℕ) (i s t : ℕ) (k : Bool) → slice_get keep i ≡ Some k → EventsLeft p keep flags order steps f o i s
+      → g ≡ marked_at f (roots p (one_kept k (events_of p) i)) → q ≡ ordered_all f o (roots p (one_kept k (events_of p) i))
+      → t ≤ s + event_leaves p (one_kept k (events_of p) i) → EventsLeft p keep flags order steps g q (i + 1) t
+  events_next f g o q i s t k h w x y z =
+      let here : List EventAt = one_kept k (events_of p) i in
       let later : List EventAt = marked (drop (suc i) keep) (drop (suc i) (events_of p)) in
-      let e : marked (drop i keep) (drop i (events_of p)) ≡ option_to_list (kept_at keep (events_of p) i) ++ marked (drop (suc i) keep) (drop (suc i) (events_of p)) = from_place keep (events_of p) i h in
+      let e : marked (drop i keep) (drop i (events_of p)) ≡ one_kept k (events_of p) i ++ marked (drop (suc i) keep) (drop (suc i) (events_of p)) = from_place keep (events_of p) i k h in
       let u : roots p (marked (drop i keep) (drop i (events_of p))) ≡ roots p here ++ roots p later = ap (roots p) e ∙ roots_append p here later in
       let l : event_leaves p (marked (drop i keep) (drop i (events_of p))) ≡ event_leaves p here + event_leaves p later = ap (event_leaves p) e ∙ leaves_append p here later in
       let c = w.cost in

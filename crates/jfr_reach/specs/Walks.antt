@@ -1,14 +1,10 @@
 -- What a walk visits, and how many leaves that has.
-use Rattle.std.specs.Prelude.{ℕ, ◌+◌, Bool, List, [], ◌∷◌, length, slice_get, Option, None, option_and_then, if◌then◌else◌}
+use Rattle.std.specs.Prelude.{ℕ, ◌+◌, List, [], ◌∷◌, length, slice_get}
 use Rattle.std.specs.Option.{option_map_or}
 use Rattle.jfr_value.specs.Nodes.{NodeAt}
 use Rattle.jfr_value.specs.Leaves.{leaves}
 use Rattle.jfr_pool.specs.Entries.{entry_node}
 use Rattle.jfr_chunk.specs.Parts.{Parts, EventAt}
-
--- The event with this number, if its flag says that it is kept.
-abbrev pub kept_at : List Bool → List EventAt → ℕ → Option EventAt
-kept_at flags es i = option_and_then (λ keep. if keep then slice_get es i else None) (slice_get flags i)
 
 -- The number of leaves of a node.
 abbrev pub node_leaves : Parts → NodeAt → ℕ

@@ -1,9 +1,9 @@
 //! Marking what the kept events refer to.
-ghost use Rattle.std.specs.Prelude.{◌≡◌, ◌+◌, ◌<◌, ◌≤◌, All, length, option_map, option_to_list};
+ghost use Rattle.std.specs.Prelude.{◌≡◌, ◌+◌, ◌<◌, ◌≤◌, All, length, option_to_list, slice_get};
 ghost use Rattle.jfr_chunk.specs.Parts.{AreParts, events_of};
-ghost use Rattle.jfr_chunk.specs.Reach.{kept_by, node_entries, roots};
+ghost use Rattle.jfr_chunk.specs.Reach.{kept_by, roots};
 ghost use Rattle.jfr_worklist.specs.Putting.{Puts};
-ghost use Rattle.jfr_reach.specs.Walks.{event_leaves, kept_at};
+ghost use Rattle.jfr_reach.specs.Walks.{event_leaves};
 
 use jfr_chunk::{Chunk, Kept};
 use jfr_value::Steps;
@@ -37,38 +37,24 @@ fn put_events<L: Ledger>(list: &mut Worklist, chunk: &Chunk<'_>, kept: &Kept, st
     ensures puts { Puts (roots chunk.now (kept_by chunk.now kept.now)) list.old list.new }
     ensures cost { steps.new ≤ steps.old + event_leaves chunk.now (kept_by chunk.now kept.now) }
 {
-    for number in 0..kept.len() {
-        put_event(list, chunk, kept, number, steps);
+    for (number, keep) in kept.as_slice().iter().enumerate() {
+        if !*keep {
+            continue;
+        }
+        put_event(list, chunk, number, steps);
     }
 }
 
-/// Marks the entries in force to which the event with this number refers, if it is kept.
+/// Marks the entries in force to which the event with this number refers, if there is such an event.
 #[inline]
-fn put_event<L: Ledger>(
-    list: &mut Worklist,
-    chunk: &Chunk<'_>,
-    kept: &Kept,
-    number: usize,
-    steps: &mut Steps<L>,
-)
+fn put_event<L: Ledger>(list: &mut Worklist, chunk: &Chunk<'_>, number: usize, steps: &mut Steps<L>)
     requires size { length list.old.flags.items ≡ length chunk.now.entries }
     requires parts { AreParts chunk.now }
-    ensures puts { Puts (roots chunk.now (option_to_list (kept_at kept.now (events_of chunk.now) number))) list.old list.new }
-    ensures cost { steps.new ≤ steps.old + event_leaves chunk.now (option_to_list (kept_at kept.now (events_of chunk.now) number)) }
+    ensures puts { Puts (roots chunk.now (option_to_list (slice_get (events_of chunk.now) number))) list.old list.new }
+    ensures cost { steps.new ≤ steps.old + event_leaves chunk.now (option_to_list (slice_get (events_of chunk.now) number)) }
 {
-    if let Some(entries) = kept_entries(chunk, kept, number) {
+    if let Some(entries) = chunk.event_entries(number) {
         put_each(list, entries, steps);
-    }
-}
-
-/// The numbers of the entries in force to which the event with this number refers, if it is kept.
-#[inline]
-fn kept_entries<'a>(chunk: &'a Chunk<'_>, kept: &Kept, number: usize) -> Option<&'a [u32]>
-    ensures { option_map (λ s. s.now) result ≡ option_map (λ e. node_entries chunk.now.entries chunk.now.classes chunk.now.bytes e.node) (kept_at kept.now (events_of chunk.now) number) }
-{
-    match kept.get(number) {
-        Some(true) => chunk.event_entries(number),
-        _ => None,
     }
 }
 

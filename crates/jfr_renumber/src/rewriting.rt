@@ -55,5 +55,5 @@ pub(crate) fn put_leaf<N: NewKeys>(
         LeafKind::Base(_) => out.push(KEY_BYTE)?,
         _ => {}
     }
-    push_var(out, new.new_key(leaf.class, key))
+    Ok(push_var(out, new.new_key(leaf.class, key))?)
 }

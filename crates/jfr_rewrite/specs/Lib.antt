@@ -1,4 +1,5 @@
 pub mod Changed
+pub mod Copying
 pub mod Rewrite
 pub mod Rewritten
 pub mod Paths

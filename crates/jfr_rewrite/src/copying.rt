@@ -12,6 +12,7 @@ use jfr_value::{Leaf, Node, VisitLeaf, visit_leaves};
 use std::mem;
 
 /// A chunk, and how it is rewritten.
+#[derive(Drop)]
 pub(crate) struct Changing<'r, 'c, R> {
     pub(crate) chunk: &'r Chunk<'c>,
     pub(crate) rewriting: &'r R,

@@ -33,7 +33,12 @@ pub trait Rewriter {
         ensures { result ≡ false → leaf_becomes (rewrite self.now).change (leaf_of leaf.now) ≡ leaf.now.spelled.now };
 
     /// Appends what a leaf becomes.
-    fn put_leaf(&self, out: &mut Vec<u8>, chunk: &Chunk<'_>, leaf: &Leaf<'_>) -> Result<(), NoMemory>
+    fn put_leaf(
+        &self,
+        out: &mut Vec<u8>,
+        chunk: &Chunk<'_>,
+        leaf: &Leaf<'_>,
+    ) -> Result<(), NoMemory>
         requires suits { suits self.now chunk.now }
         requires lies { LiesIn chunk.now (leaf_of leaf.now) }
         ensures ok { OnOk result (out.new.items ≡ out.old.items ++ leaf_becomes (rewrite self.now).change (leaf_of leaf.now)) };

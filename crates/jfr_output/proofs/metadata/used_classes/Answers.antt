@@ -1,5 +1,4 @@
-use Rattle.std.proofs.Common.{◌<◌, ◌∙◌, ◌||◌, ap, arith, false, sym, length}
-use Rattle.std.specs.Prelude.{unwrap_or}
+use Rattle.std.proofs.Common.{◌<◌, ◌∙◌, ◌||◌, ap, arith, sym, length}
 use Rattle.jfr_chunk.specs.Parts.{events_of}
 use Rattle.jfr_filter.specs.Filters.{describes}
 use Rattle.jfr_chunk.specs.Metas.{is_described}
@@ -12,15 +11,15 @@ loop-number-init c = record { ids = c.new-used.ensures }
 pub loop-number-preserved : goal.loop-number-preserved
 loop-number-preserved c =
     let n : c.loop-number.number < length (events_of c.args.chunk.now) = omega arith in
-    let u = ap (λ o. unwrap_or o false) (sym c.get.ensures) ∙ (sym c.unwrap_or.ensures ∙ c.if-not-unwrap_or.false) in
+    let u = sym c.is_kept.ensures ∙ c.if-not-is_kept.false in
     record {
       ids = λ id. used_more c.args.kept.now (events_of c.args.chunk.now) c.requires c.loop-number.number id _ _ n u (c.loop-number.invariant.ids id) (c.in_ok-add_class.ensures id);
     }
 
-pub loop-number-preserved-then-not-unwrap_or : goal.loop-number-preserved-then-not-unwrap_or
-loop-number-preserved-then-not-unwrap_or c =
+pub loop-number-preserved-then-not-is_kept : goal.loop-number-preserved-then-not-is_kept
+loop-number-preserved-then-not-is_kept c =
     let n : c.loop-number.number < length (events_of c.args.chunk.now) = omega arith in
-    let u = ap (λ o. unwrap_or o false) (sym c.get.ensures) ∙ (sym c.unwrap_or.ensures ∙ c.if-not-unwrap_or.true) in
+    let u = sym c.is_kept.ensures ∙ c.if-not-is_kept.true in
     record {
       ids = λ id. c.loop-number.invariant.ids id ∙ sym (used_skip c.args.kept.now (events_of c.args.chunk.now) c.requires c.loop-number.number id n u);
     }
