@@ -77,8 +77,8 @@ fn ids_of(alloc: Global, classes: &Classes) -> Result<Ids, NoMemory>
     ensures ok { IfOk result (λ ids. (id : ℕ) → is_in ids id ≡ has_id classes.now id) }
 {
     let mut ids = Ids::new(alloc);
-    for at in 0..classes.len() {
-        ids.insert(classes.class_at(at).id)?;
+    for class in classes.as_slice() {
+        ids.insert(class.id)?;
     }
     Ok(ids)
 }
@@ -118,8 +118,8 @@ fn root_of(
     ensures strings { OnOk result (strings.new ≡ (body_of classes.now (option_map (λ r. r.now) region.entry)).strings) }
 {
     let mut elements = Elements::new(alloc);
-    for at in 0..classes.len() {
-        let element = class_element(alloc, strings, classes.class_at(at))?;
+    for class in classes.as_slice() {
+        let element = class_element(alloc, strings, class)?;
         elements.push(element)?;
     }
     let mut children = Elements::new(alloc);

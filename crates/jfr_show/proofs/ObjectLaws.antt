@@ -73,10 +73,10 @@ unfolding serde_json_on_literals
 class_text number k c = refl
 
 -- The lines of a chunk's classes.
-pub lines_are : (p : Parts) (k : Classes) (number n : ℕ) (was now : List ℕ) → k ≡ p.classes → length k ≤ n → now ≡ was ++ flat_map (λ c. json_line (class_json number k c)) (take n k) → now ≡ was ++ metadata_json p number
+pub lines_are : (p : Parts) (number n : ℕ) (was now : List ℕ) → length p.classes ≤ n → now ≡ was ++ flat_map (λ c. json_line (class_json number p.classes c)) (take n p.classes) → now ≡ was ++ metadata_json p number
 unfolding metadata_json
-lines_are p k number n was now same all h =
-    h ∙ (ap (λ z. was ++ flat_map (λ c. json_line (class_json number k c)) z) (take_all n k all) ∙ ap (λ z. was ++ flat_map (λ c. json_line (class_json number z c)) z) same)
+lines_are p number n was now all h =
+    h ∙ ap (λ z. was ++ flat_map (λ c. json_line (class_json number p.classes c)) z) (take_all n p.classes all)
 
 -- The line of the totals.
 pub totals_line : (t : Totals) (b : Beginning) → t.first ≡ Some b → json_line (totals_json t b) ≡ summary_json t

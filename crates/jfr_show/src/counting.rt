@@ -88,9 +88,8 @@ fn add_classes(
     ensures below { (most : ℕ) → AreBelow most (tallies_in tallies.old) → AreBelow (most + length chunk.now.bytes) (tallies_in tallies.new) }
 {
     let classes = chunk.classes();
-    for index in 0..classes.len() {
-        let name = classes.class_at(index).name.as_str();
-        add_tally(alloc, tallies, name, counted[index])?;
+    for (index, class) in classes.as_slice().iter().enumerate() {
+        add_tally(alloc, tallies, class.name.as_str(), counted[index])?;
     }
     Ok(())
 }

@@ -32,8 +32,8 @@ pub fn show_metadata(chunk: &Chunk<'_>, number: u64, out: &mut TextBuilder) -> R
     out.push_number(number)?;
     out.push_ascii("\n")?;
     let classes = chunk.classes();
-    for place in 0..classes.len() {
-        show_class(classes, classes.class_at(place), out)?;
+    for class in classes.as_slice() {
+        show_class(classes, class, out)?;
     }
     Ok(())
 }

@@ -6,9 +6,9 @@ ghost use Rattle.jfr_text.specs.Strings.{string_format};
 ghost use Rattle.jfr_value.specs.Nodes.{IsValue, node_of};
 ghost use Rattle.jfr_pool.specs.Entries.{entry_node, in_force};
 
-use jfr_base::{Var, read_within};
+use jfr_base::{Var, known_integer};
 use jfr_chunk::Chunk;
-use jfr_text::{StringSpan, read_string};
+use jfr_text::{StringSpan, known_string};
 use jfr_value::Node;
 
 /// The integer that starts at `at`.
@@ -19,10 +19,7 @@ pub(crate) fn integer_at(chunk: &Chunk<'_>, at: usize) -> Var
     ensures { int_at chunk.now.bytes at (length chunk.now.bytes) ≡ Some result }
 {
     let bytes = chunk.bytes();
-    match read_within(bytes, at, bytes.len()) {
-        Ok(number) => number,
-        Err(_) => unreachable!(),
-    }
+    known_integer(bytes, at, bytes.len())
 }
 
 /// The string that starts at `at`.
@@ -33,10 +30,7 @@ pub(crate) fn string_at<'a>(chunk: &Chunk<'a>, at: usize) -> StringSpan<'a>
     ensures { run (string_format true) chunk.now.bytes (length chunk.now.bytes) at ≡ Ok (record { value = content_of result; place = result.end }) }
 {
     let bytes = chunk.bytes();
-    match read_string(bytes, at, bytes.len()) {
-        Ok(string) => string,
-        Err(_) => unreachable!(),
-    }
+    known_string(bytes, at, bytes.len())
 }
 
 /// The `count` bytes that start at `at`.

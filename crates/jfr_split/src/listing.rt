@@ -1,6 +1,5 @@
 //! The files of a folder that are joined.
-ghost use Rattle.std.specs.Prelude.{◌≡◌, ◌++◌, ◌∷◌, ◌<◌, [], length, map, string_bytes, slice_get, IfOk, OnOk, if◌then◌else◌};
-ghost use Rattle.std.specs.Str.{chars};
+ghost use Rattle.std.specs.Prelude.{◌≡◌, ◌++◌, ◌∷◌, [], map, string_bytes, IfOk, OnOk, if◌then◌else◌};
 ghost use Rattle.std.specs.FinMap as fin;
 ghost use Rattle.jfr_outside.specs.World.{Files, IsListing, in_folder as name_in_folder};
 ghost use Rattle.jfr_split.specs.Names.{is_recording};
@@ -9,18 +8,6 @@ ghost use Rattle.jfr_split.specs.Joins.{files_in};
 use crate::name::in_folder;
 use jfr_outside::{NoMemory, Words};
 use std::alloc::Global;
-
-/// The name with this index in the list.
-fn name_at(names: &Words, at: usize) -> &str
-    requires { at < length names.now }
-    ensures { slice_get names.now at ≡ Some (chars result.now) }
-{
-    match names.get(at) {
-        Some(name) => name,
-        // The index is below the length, so there is a name.
-        None => "",
-    }
-}
 
 /// Adds the name, with its folder, if it ends in `.jfr`.
 fn push_file(
@@ -45,8 +32,8 @@ pub fn joined_files(alloc: Global, folder: &str, names: &Words) -> Result<Vec<St
         → map (λ f. string_bytes f) made.items ≡ fin.keys (files_in folder.now files)) }
 {
     let mut files = Vec::new(alloc);
-    'names: for at in 0..names.len() {
-        push_file(alloc, &mut files, folder, name_at(names, at))?;
+    for name in names.as_slice() {
+        push_file(alloc, &mut files, folder, name.as_str())?;
     }
     files.sort()?;
     Ok(files)

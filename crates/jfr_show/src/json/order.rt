@@ -37,9 +37,9 @@ pub(crate) fn orders_of(
 ) -> Result<Vec<Option<MemberOrder>>, NoMemory>
     ensures ok { IfOk result (λ orders. AreOrders classes.now orders.items) }
 {
-    let mut orders = Vec::new(alloc);
-    for place in 0..classes.len() {
-        orders.push(short_order(alloc, &classes.class_at(place).fields)?)?;
+    let mut orders = Vec::with_capacity(alloc, classes.len())?;
+    for class in classes.as_slice() {
+        orders.push(short_order(alloc, &class.fields)?)?;
     }
     Ok(orders)
 }

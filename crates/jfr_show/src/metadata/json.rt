@@ -34,8 +34,8 @@ pub fn show_metadata_json(
     ensures ok { OnOk result (out.new ≡ out.old ++ metadata_json chunk.now number) }
 {
     let classes = chunk.classes();
-    for place in 0..classes.len() {
-        show_class(alloc, chunk, number, classes.class_at(place), out)?;
+    for class in classes.as_slice() {
+        show_class(alloc, chunk, number, class, out)?;
     }
     Ok(())
 }

@@ -1,4 +1,4 @@
-use Rattle.std.proofs.Common.{◌*◌, arith, ◌≡◌, ◌^◌, ◌+◌, ◌<◌, ◌≤◌, length, get_or, List, ℕ, Some, sym, ap, subst, ◌∙◌}
+use Rattle.std.proofs.Common.{◌*◌, arith, ◌≡◌, ◌^◌, ◌+◌, ◌<◌, length, get_or, List, ℕ, Some, sym, ap, subst, ◌∙◌}
 use Rattle.std.specs.List.{slice_get}
 use Rattle.std.specs.Str.{encode_utf8_all}
 use Rattle.std.proofs.lemmas.Option.{get_or_from_slice_get}
@@ -9,6 +9,7 @@ use Rattle.jfr_show.specs.declared.tally.Tally.{Tally}
 use Rattle.jfr_show.specs.Counting.{AddsEvents, AddsTally, AreBelow, AreLeaders, AreTallies, FitsUnder, class_tally, is_at}
 use Rattle.jfr_show.specs.Totals.{Tallies, occurrences}
 use Rattle.jfr_show.proofs.ClassTallies.{before, before_all, classes_next, classes_none, is_before}
+use Rattle.jfr_show.proofs.ListingLaws.{item_of}
 use Rattle.jfr_show.proofs.SizeLaws.{below_fits, chosen_within, events_below, occurrences_are, records_within}
 use Rattle.jfr_show.proofs.counting.add_classes.Goals as goal
 
@@ -40,8 +41,8 @@ loop-index-init c = λ leaders led counted. classes_none c.args.chunk.now.classe
 pub add_tally-requires : goal.add_tally-requires
 add_tally-requires c =
     let k = c.requires.counted in
-    fits c.args.chunk.now k.leaders c.loop-index.index _ _ c.args.counted.now c.as_str-name.result.now _ c.requires.parts c.requires.small c.requires.below (c.loop-index.invariant k.leaders k.led k.tallies) k.tallies
-    (subst (λ n. c.loop-index.index < n) (c.len-index-end.ensures.exact ∙ ap length c.classes-classes.ensures) c.loop-index-test.true)
+    fits c.args.chunk.now k.leaders c.loop-index.index _ _ c.args.counted.now c.as_str.result.now _ c.requires.parts c.requires.small c.requires.below (c.loop-index.invariant k.leaders k.led k.tallies) k.tallies
+    (omega (arith, ap length c.as_slice-class-items.ensures, ap length c.classes-classes.ensures))
 
 pub returns-in_err-add_tally-clause-below : goal.returns-in_err-add_tally-clause-below
 returns-in_err-add_tally-clause-below c = λ most b.
@@ -50,16 +51,16 @@ returns-in_err-add_tally-clause-below c = λ most b.
 
 pub loop-index-preserved : goal.loop-index-preserved
 loop-index-preserved c = λ leaders led counted.
-    next c.args.chunk.now leaders led c.classes-classes.result.now c.loop-index.index c.class_at.result.now _ _ _ c.args.counted.now c.as_str-name.result.now _ c.classes-classes.ensures c.class_at.ensures
-    (sym (encodes-chars c.as_str-name.result.now c.as_str-name.utf8) ∙ ap encode_utf8_all c.as_str-name.ensures) (c.loop-index.invariant leaders led counted) counted (subst (λ n. c.loop-index.index < n) (c.len-index-end.ensures.exact ∙ ap length c.classes-classes.ensures) c.loop-index-test.true) c.in_ok-add_tally.ensures.ok
+    (let classes = c.classes-classes.result.now in
+    let at = item_of classes c.as_slice-class-items.result.now c.loop-index.index c.class-item.result c.as_slice-class-items.ensures (omega arith) c.class-item.is in
+    next c.args.chunk.now leaders led classes c.loop-index.index c.class-item.result _ _ _ c.args.counted.now c.as_str.result.now _ c.classes-classes.ensures at
+    (sym (encodes-chars c.as_str.result.now c.as_str.utf8) ∙ ap encode_utf8_all c.as_str.ensures) (c.loop-index.invariant leaders led counted) counted (omega (arith, ap length c.as_slice-class-items.ensures, ap length c.classes-classes.ensures)) c.in_ok-add_tally.ensures.ok)
 
 pub returns-clause-ok : goal.returns-clause-ok
 returns-clause-ok c =
     let k = c.requires.counted in
-    let e : c.len-index-end.result ≡ length c.args.chunk.now.classes = c.len-index-end.ensures.exact ∙ ap length c.classes-classes.ensures in
-    let l : c.len-index-end.result ≤ c.loop-index.index = c.loop-index-test.false in
-    let m : c.loop-index.index ≤ c.len-index-end.result = c.loop-index.auto.index-end in
-    done c.args.chunk.now k.leaders k.led c.loop-index.index _ _ c.requires.parts (omega arith) (c.loop-index.invariant k.leaders k.led k.tallies)
+    let all : c.loop-index.index ≡ length c.args.chunk.now.classes = omega (arith, ap length c.as_slice-class-items.ensures, ap length c.classes-classes.ensures) in
+    done c.args.chunk.now k.leaders k.led c.loop-index.index _ _ c.requires.parts all (c.loop-index.invariant k.leaders k.led k.tallies)
 
 pub returns-clause-below : goal.returns-clause-below
 returns-clause-below c = λ most b.

@@ -4,8 +4,8 @@ use Rattle.jfr_show.specs.declared.json.order.MemberOrder.{MemberOrder}
 use Rattle.jfr_show.specs.Orders.{IsOrderAt}
 use Rattle.jfr_show.proofs.json.order.orders_of.Given as goal
 
-abbrev pub invariant-loop-place : goal.invariant-loop-place
-invariant-loop-place l = record {
-  count : length l.orders.items ≡ l.place;
+abbrev pub invariant-loop-class : goal.invariant-loop-class
+invariant-loop-class l = record {
+  count : length l.orders.items ≡ l.class-index;
   each : (place : ℕ) (o : MemberOrder) → slice_get l.orders.items place ≡ Some (Some o) → IsOrderAt l.classes place o;
 }
