@@ -84,10 +84,10 @@ fn kept_trace<'a>(
     ensures bytes { IfSome result (λ trace. trace.bytes.now ≡ chunk.now.bytes) }
     ensures value { IfSome result (IsValue chunk.now.classes) }
 {
-    match kept.get(number) {
-        Some(true) => fields.find(chunk, &chunk.event(number)?.node),
-        _ => None,
+    if !kept.is_kept(number) {
+        return None;
     }
+    fields.find(chunk, &chunk.event(number)?.node)
 }
 
 /// Counts an event with this stack trace in `by_entry`, for the entry that is the trace, or adds it to the

@@ -36,8 +36,8 @@ impl FieldNumbers {
         ensures { IfOk result (λ fields. fields ≡ field_numbers (chars name.now) classes.now) }
     {
         let mut numbers = Vec::new(alloc);
-        for index in 0..classes.len() {
-            numbers.push(classes.class_at(index).fields.number(name))?;
+        for class in classes.as_slice() {
+            numbers.push(class.fields.number(name))?;
         }
         Ok(FieldNumbers { numbers })
     }

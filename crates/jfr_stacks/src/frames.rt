@@ -7,7 +7,7 @@ ghost use Rattle.jfr_value.specs.Nodes.{EndsAt, IsValue, children, node_of};
 ghost use Rattle.jfr_stacks.specs.Frames.{IsChunkValue, field_numbers, frames_in};
 
 use crate::fields::FieldNumbers;
-use jfr_base::{NoMemory, Var, read_within};
+use jfr_base::{NoMemory, Var, known_integer};
 use jfr_chunk::Chunk;
 use jfr_layout::Shape;
 use jfr_path::{MOST_FOLLOWED, follow_references};
@@ -112,8 +112,5 @@ fn integer_at(chunk: &Chunk<'_>, at: usize, limit: usize) -> Var
     requires holds { IsSome (int_at chunk.now.bytes at limit) }
     ensures { int_at chunk.now.bytes at limit ≡ Some result }
 {
-    match read_within(chunk.bytes(), at, limit) {
-        Ok(number) => number,
-        Err(_) => unreachable!(),
-    }
+    known_integer(chunk.bytes(), at, limit)
 }

@@ -1,5 +1,5 @@
 -- Whether all that is referred to is marked.
-use Rattle.std.specs.Prelude.{◌≡◌, ◌⊎◌, ◌<◌, ◌≤◌, ◌+◌, ℕ, zero, suc, Bool, true, false, ◌&&◌, List, [], ◌∷◌, ◌++◌, take, drop, length, slice_get, Some, All, if◌then◌else◌}
+use Rattle.std.specs.Prelude.{◌≡◌, ◌⊎◌, ◌<◌, ◌≤◌, ◌+◌, ℕ, zero, suc, Bool, true, false, ◌&&◌, List, [], ◌∷◌, ◌++◌, take, drop, length, slice_get, Some, All, unwrap_or, if◌then◌else◌}
 use Rattle.std.specs.Option.{option_map_or}
 use Rattle.std.specs.List.{AllByRecursion, list_all}
 use Rattle.std.proofs.Common.{ap, arith, refl, sym, ◌∙◌, inl, inr}
@@ -79,10 +79,10 @@ module _ (p : Parts) where
     where
       by_flag : (b : Bool) (e : EventAt) → slice_get flags n ≡ Some b → slice_get (events_of p) n ≡ Some e → are_marked marks (roots p (first_kept flags n ++ (if b then e ∷ [] else []))) ≡ (are_marked marks (roots p (first_kept flags n)) && are_marked marks (kept_refs p flags n))
       by_flag true e f g =
-          let k : kept_refs p flags n ≡ refers e = ap (λ o. option_map_or (λ flag. if flag then option_map_or refers (slice_get (events_of p) n) [] else []) o []) f ∙ ap (λ o. option_map_or refers o []) g in
+          let k : kept_refs p flags n ≡ refers e = ap (λ o. if unwrap_or o false then option_map_or refers (slice_get (events_of p) n) [] else []) f ∙ ap (λ o. option_map_or refers o []) g in
           ap (are_marked marks) (roots_one p (first_kept flags n) e) ∙ (all_append marks (roots p (first_kept flags n)) (refers e) ∙ ap (λ z. are_marked marks (roots p (first_kept flags n)) && are_marked marks z) (sym k))
       by_flag false e f g =
-          let k : kept_refs p flags n ≡ [] = ap (λ o. option_map_or (λ flag. if flag then option_map_or refers (slice_get (events_of p) n) [] else []) o []) f in
+          let k : kept_refs p flags n ≡ [] = ap (λ o. if unwrap_or o false then option_map_or refers (slice_get (events_of p) n) [] else []) f in
           ap (λ z. are_marked marks (roots p z)) (append-nil (first_kept flags n)) ∙ (sym (and_true (are_marked marks (roots p (first_kept flags n)))) ∙ ap (λ z. are_marked marks (roots p (first_kept flags n)) && are_marked marks z) (sym k))
 
   marked_split : (fs : List Bool) (es : List EventAt) (n : ℕ) → marked fs es ≡ marked (take n fs) (take n es) ++ marked (drop n fs) (drop n es)

@@ -1,6 +1,5 @@
 -- Events one after another.
-use Rattle.std.specs.Prelude.{◌≡◌, ◌<◌, ◌≤◌, ◌+◌, ◌^◌, ◌==◌, ◌&&◌, ℕ, zero, suc, Bool, true, false, List, [], ◌∷◌, ◌++◌, take, length, slice_get, Option, Some, None, option_map, if◌then◌else◌}
-use Rattle.std.specs.Option.{option_map_or}
+use Rattle.std.specs.Prelude.{◌≡◌, ◌<◌, ◌≤◌, ◌+◌, ◌^◌, ◌==◌, ◌&&◌, ℕ, zero, suc, Bool, true, false, List, [], ◌∷◌, ◌++◌, take, length, slice_get, Option, Some, None, option_map, unwrap_or, if◌then◌else◌}
 use Rattle.std.specs.Str.{bytes_eq}
 use Rattle.std.proofs.Common.{ap, arith, refl, sym, ◌∙◌, subst}
 use Rattle.std.proofs.lemmas.List.{append-nil}
@@ -135,7 +134,7 @@ module _ (p q : Parts) (flags : List Bool) where
             within = omega arith;
           }
 
-      by_flag : (o : Option Bool) → slice_get flags n ≡ o → (if option_map_or (λ flag. flag) o false then (if same_event p q n at then Some (at + 1) else None) else Some at) ≡ Some next → InSame (n + 1) next
+      by_flag : (o : Option Bool) → slice_get flags n ≡ o → (if unwrap_or o false then (if same_event p q n at then Some (at + 1) else None) else Some at) ≡ Some next → InSame (n + 1) next
       by_flag None f e = let x = present flags n h in let z : None ≡ Some x.0 = sym f ∙ x.1 in cc
       by_flag (Some false) f e =
           let l : at ≡ next = cc in
@@ -158,7 +157,7 @@ module _ (p q : Parts) (flags : List Bool) where
           let t : same_event p q n at ≡ true = ap (λ z. both_same (option_map (content p) z) (option_map (content q) (slice_get (events_of q) at))) g ∙ (ap (both_same (Some (content p x))) (sym (wanted_at at) ∙ o) ∙ is_self (content p x)) in
           (let z : false ≡ true = sym b ∙ t in cc)
 
-      by_flag : (o : Option Bool) → slice_get flags n ≡ o → (if option_map_or (λ flag. flag) o false then (if same_event p q n at then Some (at + 1) else None) else Some at) ≡ None → ⊥
+      by_flag : (o : Option Bool) → slice_get flags n ≡ o → (if unwrap_or o false then (if same_event p q n at then Some (at + 1) else None) else Some at) ≡ None → ⊥
       by_flag None f e = cc
       by_flag (Some false) f e = cc
       by_flag (Some true) f e = let x = present (events_of p) n (omega arith) in by_same x.0 (same_event p q n at) x.1 f refl e

@@ -1,5 +1,5 @@
 -- The loop over the kept events.
-use Rattle.std.specs.Prelude.{◌≡◌, ◌<◌, ◌≤◌, ◌+◌, ℕ, zero, suc, Bool, true, false, List, [], ◌∷◌, ◌++◌, drop, length, slice_get, Option, Some, None, option_and_then, option_map, if◌then◌else◌}
+use Rattle.std.specs.Prelude.{◌≡◌, ◌<◌, ◌≤◌, ◌+◌, ℕ, zero, suc, Bool, true, false, List, [], ◌∷◌, ◌++◌, drop, length, slice_get, Option, Some, None, option_map, unwrap_or, if◌then◌else◌}
 use Rattle.std.proofs.Common.{ap, arith, refl, sym, ◌∙◌, subst}
 use Rattle.std.proofs.lemmas.List.{append_assoc, append-nil, length-replicate}
 use Rattle.std.proofs.lemmas.Option.{slice_get_within}
@@ -20,7 +20,7 @@ no_events (k ∷ keep) = refl
 abbrev nothing : List EventAt
 nothing = []
 
-none_there : (n : ℕ) (o : Option Bool) (e : EventAt) → option_and_then (λ keep. if keep then slice_get nothing (suc n) else None) o ≡ Some e → ⊥
+none_there : (n : ℕ) (o : Option Bool) (e : EventAt) → (if unwrap_or o false then slice_get nothing (suc n) else None) ≡ Some e → ⊥
 none_there n None e h = cc
 none_there n (Some true) e h = cc
 none_there n (Some false) e h = cc
@@ -128,7 +128,7 @@ module _ (p : Parts) (keep : List Bool) where
 kept_within : (keep : List Bool) (es : List EventAt) (n : ℕ) (e : EventAt) → kept_at keep es n ≡ Some e → n < length es
 kept_within keep es n e h = by_flag (slice_get keep n) h
   where
-    by_flag : (o : Option Bool) → option_and_then (λ keep. if keep then slice_get es n else None) o ≡ Some e → n < length es
+    by_flag : (o : Option Bool) → (if unwrap_or o false then slice_get es n else None) ≡ Some e → n < length es
     by_flag None h = cc
     by_flag (Some true) h = slice_get_within es n e h
     by_flag (Some false) h = cc

@@ -1,5 +1,5 @@
 -- How it is computed whether all that is referred to is marked.
-use Rattle.std.specs.Prelude.{◌≡◌, ℕ, zero, suc, Bool, true, ◌&&◌, List, [], slice_get, if◌then◌else◌}
+use Rattle.std.specs.Prelude.{◌≡◌, ℕ, zero, suc, Bool, true, false, ◌&&◌, List, [], slice_get, unwrap_or, if◌then◌else◌}
 use Rattle.std.specs.Option.{option_map_or}
 use Rattle.std.specs.List.{list_all}
 use Rattle.jfr_chunk.specs.Parts.{Parts, EventAt, events_of}
@@ -22,7 +22,7 @@ events_closed p marks es = are_marked marks (roots p es)
 
 -- What event n refers to, if it is kept.
 abbrev pub kept_refs : Parts → List Bool → ℕ → List ℕ
-kept_refs p flags n = option_map_or (λ flag. if flag then option_map_or (λ e. node_entries p.entries p.classes p.bytes e.node) (slice_get (events_of p) n) [] else []) (slice_get flags n) []
+kept_refs p flags n = if unwrap_or (slice_get flags n) false then option_map_or (λ e. node_entries p.entries p.classes p.bytes e.node) (slice_get (events_of p) n) [] else []
 
 -- What entry n refers to, if it is marked.
 abbrev pub marked_refs : Parts → List Bool → ℕ → List ℕ

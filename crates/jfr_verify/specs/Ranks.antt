@@ -1,5 +1,5 @@
 -- The lines of a chunk's kept events, with the numbers that its scrub has for their events and entries.
-use Rattle.std.specs.Prelude.{◌≡◌, ◌<◌, ℕ, Bool, List, length, take, slice_get, slice_index_or, Option, None, option_and_then, if◌then◌else◌}
+use Rattle.std.specs.Prelude.{◌≡◌, ◌<◌, ℕ, Bool, List, length, take, slice_get, slice_index_or, Option, None, false, unwrap_or, if◌then◌else◌}
 use Rattle.jfr_worklist.specs.Marks.{marked_at}
 use Rattle.jfr_worklist.specs.Worklists.{marked_count}
 use Rattle.jfr_chunk.specs.Parts.{Parts, EventAt}
@@ -11,7 +11,7 @@ use Rattle.jfr_verify.specs.Receipts.{event_lines, line_bytes, lines_from, no_ma
 
 -- The event with this number, if its flag says that it is kept.
 abbrev pub kept_at : List Bool → List EventAt → ℕ → Option EventAt
-kept_at flags es i = option_and_then (λ keep. if keep then slice_get es i else None) (slice_get flags i)
+kept_at flags es i = if unwrap_or (slice_get flags i) false then slice_get es i else None
 
 -- The lines for what the kept events refer to, and then for what the entries of lines refer to. Events are
 -- numbered among the kept ones, entries among all of the chunk.

@@ -1,6 +1,5 @@
 -- How it is computed whether two chunks have the same events.
-use Rattle.std.specs.Prelude.{ℕ, ◌+◌, Bool, false, ◌&&◌, ◌==◌, List, slice_get, Option, Some, None, option_map, if◌then◌else◌}
-use Rattle.std.specs.Option.{option_map_or}
+use Rattle.std.specs.Prelude.{ℕ, ◌+◌, Bool, false, ◌&&◌, ◌==◌, List, slice_get, Option, Some, None, option_map, unwrap_or, if◌then◌else◌}
 use Rattle.std.specs.Str.{bytes_eq}
 use Rattle.jfr_chunk.specs.Parts.{Parts, events_of}
 use Rattle.jfr_verify.specs.Checks.{content}
@@ -21,4 +20,4 @@ same_event p q n m = both_same (option_map (content p) (slice_get (events_of p) 
 
 -- The number of the event of the output to compare next, after event n of the input was compared with event m.
 abbrev pub next_event : Parts → Parts → List Bool → ℕ → ℕ → Option ℕ
-next_event p q flags n m = if option_map_or (λ flag. flag) (slice_get flags n) false then (if same_event p q n m then Some (m + 1) else None) else Some m
+next_event p q flags n m = if unwrap_or (slice_get flags n) false then (if same_event p q n m then Some (m + 1) else None) else Some m

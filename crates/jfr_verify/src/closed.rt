@@ -88,12 +88,12 @@ fn each_closed(chunk: &Chunk<'_>, kept: &Kept, marks: &[bool]) -> bool
 fn event_closed(chunk: &Chunk<'_>, kept: &Kept, marks: &[bool], number: usize) -> bool
     ensures { result ≡ are_marked marks.now (kept_refs chunk.now kept.now number) }
 {
-    match kept.get(number) {
-        Some(true) => match chunk.event_entries(number) {
-            Some(entries) => are_marked(marks, entries),
-            None => true,
-        },
-        _ => true,
+    if !kept.is_kept(number) {
+        return true;
+    }
+    match chunk.event_entries(number) {
+        Some(entries) => are_marked(marks, entries),
+        None => true,
     }
 }
 

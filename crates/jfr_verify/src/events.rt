@@ -31,15 +31,13 @@ fn next_event(a: &Chunk<'_>, kept: &Kept, number: usize, b: &Chunk<'_>, at: usiz
     requires { length (events_of b.now) < 2 ^ 64 }
     ensures { result ≡ next_event a.now b.now kept.now number at }
 {
-    match kept.get(number) {
-        Some(true) => {
-            if same_event(a, number, b, at) {
-                Some(at + 1)
-            } else {
-                None
-            }
-        }
-        _ => Some(at),
+    if !kept.is_kept(number) {
+        return Some(at);
+    }
+    if same_event(a, number, b, at) {
+        Some(at + 1)
+    } else {
+        None
     }
 }
 

@@ -63,8 +63,8 @@ fn same_texts(numbers: &Numbers<'_>, ones: &[u64], others: &[u64]) -> bool
     if ones.len() != others.len() {
         return false;
     }
-    for at in 0..ones.len() {
-        if !numbers.same_text(ones[at], others[at]) {
+    for (at, one) in ones.iter().enumerate() {
+        if !numbers.same_text(*one, others[at]) {
             return false;
         }
     }
@@ -78,8 +78,8 @@ fn same_shapes(one: &Fields, other: &Fields) -> bool
     if one.len() != other.len() {
         return false;
     }
-    for number in 0..one.len() {
-        if !same_shape(one.at(number).shape, other.at(number).shape) {
+    for (number, field) in one.as_slice().iter().enumerate() {
+        if !same_shape(field.shape, other.at(number).shape) {
             return false;
         }
     }

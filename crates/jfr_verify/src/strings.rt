@@ -108,9 +108,8 @@ fn numbers_of(
     ensures { IfOk result (λ numbers. numbers.items ≡ map (value_under firsts.now) strings.now) }
 {
     let mut numbers = Vec::with_capacity(alloc, strings.len())?;
-    for index in 0..strings.len() {
-        let text = text_at(strings, index as u64);
-        numbers.push(number_of(firsts, text))?;
+    for text in strings.as_slice() {
+        numbers.push(number_of(firsts, text.as_str()))?;
     }
     Ok(numbers)
 }

@@ -114,10 +114,10 @@ fn add_kept_event(
 fn kept_entries<'a>(chunk: &'a Chunk<'_>, kept: &Kept, number: usize) -> Option<&'a [u32]>
     ensures { option_map (λ s. s.now) result ≡ option_map (λ e. node_entries chunk.now.entries chunk.now.classes chunk.now.bytes e.node) (kept_at kept.now (events_of chunk.now) number) }
 {
-    match kept.get(number) {
-        Some(true) => chunk.event_entries(number),
-        _ => None,
+    if !kept.is_kept(number) {
+        return None;
     }
+    chunk.event_entries(number)
 }
 
 /// Adds lines for what the events refer to, one event after another.

@@ -4,5 +4,5 @@ use Rattle.jfr_stacks.specs.Frames.{field_numbers}
 use Rattle.jfr_stacks.proofs.fields.FieldNumbers.of.Given as goal
 
 -- The fields of the classes so far.
-abbrev pub invariant-loop-index : goal.invariant-loop-index
-invariant-loop-index l = l.numbers.items ≡ field_numbers (chars l.name) (take l.index l.classes)
+abbrev pub invariant-loop-class : goal.invariant-loop-class
+invariant-loop-class l = l.numbers.items ≡ field_numbers (chars l.name) (take l.class-index l.classes)
