@@ -91,7 +91,7 @@ fn put_leaves(list: &mut Worklist, strings: MaskedStrings<'_>, node: Node<'_>)
     requires bytes { node.bytes.now ≡ strings.chunk.now.bytes }
     requires value { IsValue strings.chunk.now.classes node }
     requires size { length list.old.flags.items ≡ length strings.chunk.now.entries }
-    ensures { Puts (those (number_in_force strings.chunk.now.entries) (node_targets_but (is_masked_string (held_by strings)) strings.chunk.now (node_of node.entry))) list.old list.new }
+    ensures { Puts (those (number_in_force strings.entry.chunk.now.entries) (node_targets_but (is_masked_string (held_by strings.entry)) strings.entry.chunk.now (node_of node.entry))) list.old list.new }
 {
     strings.chunk.parts_are_valid();
     visit_leaves(strings.chunk.classes(), node, list, &strings);

@@ -1,13 +1,14 @@
 use Rattle.std.proofs.Common.{[], ◌∷◌, ap, subst, sym, ◌∙◌}
 use Rattle.std.specs.List.{AllByRecursion, filter_map}
 use Rattle.jfr_pool.specs.Entries.{number_in_force}
-use Rattle.jfr_reach.proofs.KeyLaws.{puts_all}
 use Rattle.jfr_value.specs.Leaves.{KeyIsSpelled, leaves}
 use Rattle.jfr_value.specs.Nodes.{IsNode, node_of}
 use Rattle.jfr_value.proofs.LeafKeys.{keys_spelled}
 use Rattle.jfr_value.proofs.VisitLaws.{takes_filtered}
 use Rattle.jfr_worklist.specs.Marks.{those}
 use Rattle.jfr_worklist.specs.Putting.{Puts}
+use Rattle.jfr_worklist.proofs.PuttingLaws.{puts_none, puts_then}
+use Rattle.jfr_chunk.proofs.RootLaws.{takes_those}
 use Rattle.jfr_mask.specs.Maskers.{held_by}
 use Rattle.jfr_mask.specs.Reaching.{target_left}
 use Rattle.jfr_rewrite.proofs.LaidLeaves.{leaves_here}
@@ -31,4 +32,4 @@ returns c =
     let taken = takes_filtered (λ t a b. Puts (those (number_in_force p.entries) (t ∷ [])) a b) (target_left masked) all c.args.list.now c.visit_leaves.new.visitor c.visit_leaves.ensures.exact in
     subst (λ ts. Puts (those (number_in_force p.entries) ts) c.args.list.now c.visit_leaves.new.visitor)
     (ap (filter_map (target_left masked)) (leaves_here p c.classes.result.now c.args.node.bytes.now n c.classes.ensures c.requires.bytes) ∙ node_left p c.parts_are_valid.ensures.sound n c.requires.value.0 i masked)
-    (puts_all p.entries (filter_map (target_left masked) all) c.args.list.now c.visit_leaves.new.visitor taken)
+    (takes_those Puts puts_none puts_then (number_in_force p.entries) (filter_map (target_left masked) all) c.args.list.now c.visit_leaves.new.visitor taken)

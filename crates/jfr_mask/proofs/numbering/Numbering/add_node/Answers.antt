@@ -37,6 +37,7 @@ returns c =
     record {
       ok =
           added.1
+          ∙ (ap (λ z. with_texts z (flat_map (leaf_texts_by c.args.self.now) (leaves c.classes.result.now c.args.node.bytes.now n))) c.replace.ensures.value
           ∙ (ap (λ z. with_texts c.args.dictionary.now (flat_map (leaf_texts_by c.args.self.now) z)) (leaves_here p c.classes.result.now c.args.node.bytes.now n c.classes.ensures c.requires.of_chunk)
-          ∙ ap (λ z. with_texts c.args.dictionary.now z) (sym (node_texts_are masked p known c.parts_are_valid.ensures.sound n c.requires.value.0 node)));
+          ∙ ap (λ z. with_texts c.args.dictionary.now z) (sym (node_texts_are masked p known c.parts_are_valid.ensures.sound n c.requires.value.0 node))));
     }
