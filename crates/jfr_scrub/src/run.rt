@@ -79,7 +79,7 @@ fn is_kept_at(chunk: &Chunk, kept: &Kept, number: usize, at: usize) -> bool
     ensures { result ≡ is_kept_at (events_of chunk.now) kept.now number at }
 {
     match chunk.event_place(number) {
-        Some(place) => place == at && kept.get(number).unwrap_or(false),
+        Some(place) => place == at && kept.is_kept(number),
         None => false,
     }
 }
