@@ -1,4 +1,4 @@
-"""Checks a scrub or a mask for somebody who has the original: by receipts, and against one of one's own."""
+"""Checks a scrub or a mask against its original: by receipts, and by making it again."""
 
 import os
 from tempfile import TemporaryDirectory

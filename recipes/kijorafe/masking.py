@@ -1,4 +1,4 @@
-"""Which texts a mask leaves, and how the program is told."""
+"""Which texts a mask leaves, and the options of the program for that."""
 
 import os
 from typing import AbstractSet, Dict, List, NamedTuple, Optional
