@@ -18,11 +18,11 @@ take_next xs i x e = take_more xs i x (slice_get_within xs i x e) ∙ ap (λ y. 
 pub map_next : {X Y : Type 0} (f : X → Y) (xs : List X) (i : ℕ) (x : X) → slice_get xs i ≡ Some x → map f (take (i + 1) xs) ≡ map f (take i xs) ++ f x ∷ []
 map_next f xs i x e = map_more f xs i x (slice_get_within xs i x e) ∙ ap (λ y. map f (take i xs) ++ f y ∷ []) (get_or_from_slice_get xs i x x e)
 
--- The same for the item that a loop over a list has.
+-- What `get_or` gives at an index within a list is the item there: so for the item that a loop over the list has.
 pub item_at : {X : Type 0} (xs : List X) (i : ℕ) (x : X) → i < length xs → x ≡ get_or xs i x → slice_get xs i ≡ Some x
 item_at xs i x l is = slice_get-get_or xs i x l ∙ ap Some (sym is)
 
--- The same of a slice that is the list.
+-- So too if the loop is over a slice that equals the list.
 pub listed_at : {X : Type 0} {items xs : List X} → items ≡ xs → (i : ℕ) (x : X) → i < length items → x ≡ get_or items i x → slice_get xs i ≡ Some x
 listed_at {items = items} e i x l is = rw (← e) (item_at items i x l is)
 
