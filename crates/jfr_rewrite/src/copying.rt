@@ -74,6 +74,7 @@ impl<R: Rewriter> VisitLeaf<Changing<'_, '_, R>> for ValueCopy {
 
     ghost takes = { λ changing leaf old new. CopiesLeaf (R.Rewriter.rewrite changing.rewriting.now).change changing.chunk.now leaf old new };
 
+    #[inline(always)]
     fn visit_leaf(&mut self, changing: &Changing<'_, '_, R>, leaf: Leaf<'_>) {
         if self.failed {
             return;

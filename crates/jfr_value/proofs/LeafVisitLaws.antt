@@ -28,7 +28,7 @@ all_rest P (x ∷ xs) ys a = all_rest P xs ys a.1
 
 -- The leaves of these values, of which the first ones are admitted.
 module _ (admits : LeafAt → Type 0) (k : Classes) (c : List ℕ) (end : ℕ) where
-  -- The first value, with the others behind it.
+  -- The first value, with the others after it.
   pub first_to_visit : (g : Option Holder) (gs : List (Option Holder)) (s : Shape) (ss : List Shape) (at : ℕ) → AreToVisit admits k c end (g ∷ gs) (s ∷ ss) at → AreToVisit admits k c end (g ∷ []) (s ∷ []) at
   first_to_visit g gs s ss at a = record { other_holders = gs ++ a.other_holders; other_shapes = ss ++ a.other_shapes; values = a.values; row = a.row; admitted = a.admitted }
 
@@ -62,7 +62,7 @@ module _ {A : Type 0} (takes : LeafAt → A → A → Type 0) (k : Classes) (c :
         steps = (let x = p.steps in let y = q.steps in let l = length-append p.first q.first in omega arith);
       })
 
-  -- The first value, with the others behind it.
+  -- The first value, with the others after it.
   pub visits_first : (g : Option Holder) (gs : List (Option Holder)) (s : Shape) (ss : List Shape) (at to before after : ℕ) (old new : A) → Visits takes k c end (g ∷ []) (s ∷ []) at old before [] [] to new after → Visits takes k c end (g ∷ gs) (s ∷ ss) at old before gs ss to new after
   visits_first g gs s ss at to before after old new v = λ is us vs r. v (gs ++ is) (ss ++ us) vs r
 

@@ -213,6 +213,7 @@ fn run_end(count: usize, at: usize, end: usize) -> Result<usize, Flaw>
 }
 
 /// The offset after a string.
+#[inline(never)]
 fn string_end(bytes: &[u8], at: usize, end: usize) -> Result<usize, Flaw>
     requires order { at ≤ end }
     requires within { end ≤ length bytes.now }
@@ -224,6 +225,7 @@ fn string_end(bytes: &[u8], at: usize, end: usize) -> Result<usize, Flaw>
 
 /// The offset after a value of a base name.
 #[tactic(auto, unfolding(jfr_base::specs::Formats::run))]
+#[inline(always)]
 pub(crate) fn base_end(kind: Kind, bytes: &[u8], at: usize, end: usize) -> Result<usize, Flaw>
     requires order { at ≤ end }
     requires within { end ≤ length bytes.now }
