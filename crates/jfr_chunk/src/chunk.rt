@@ -1,5 +1,5 @@
 //! An accepted chunk.
-ghost use Rattle.std.specs.Prelude.{◌≡◌, ◌+◌, ◌<◌, ◌≤◌, ◌^◌, ℕ, true, length, filter, replicate, reverse, slice_get, take, option_map, Ok, IfOk, IfErr, IfSome, MatchResult};
+ghost use Rattle.std.specs.Prelude.{◌≡◌, ◌+◌, ◌<◌, ◌≤◌, ◌^◌, ℕ, true, length, filter, replicate, reverse, slice_get, take, option_map, Some, Ok, IfOk, IfErr, IfSome, MatchResult};
 ghost use Rattle.std.specs.List.{AllZip};
 ghost use Rattle.jfr_header.specs.Fronts.{Whole};
 ghost use Rattle.jfr_header.specs.Headers.{header_of};
@@ -273,6 +273,20 @@ impl<'a> Chunk<'a> {
             frame,
             node,
         })
+    }
+
+    /// As `event`, for an event that is known to be there.
+    #[inline(always)]
+    pub fn known_event(&self, number: usize) -> Event<'a>
+        requires known { number < length (events_of self.now) }
+        ensures exact { slice_get (events_of self.now) number ≡ Some (event_at result) }
+        ensures of_chunk { IsOfChunk self.now number result }
+        ensures value { IsValue self.now.classes result.node }
+    {
+        match self.event(number) {
+            Some(event) => event,
+            None => unreachable!(),
+        }
     }
 
     /// The offset of the record of event `number`; `None` exactly if there is no such event. The record is

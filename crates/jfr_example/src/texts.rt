@@ -17,9 +17,7 @@ pub fn texts_of(alloc: Global, chunk: &Chunk<'_>, names: &Words) -> Result<Words
 {
     let mut texts = Words::new(alloc);
     for number in 0..chunk.event_count() {
-        let Some(event) = chunk.event(number) else {
-            unreachable!()
-        };
+        let event = chunk.known_event(number);
         if let Some(text) = named(alloc, chunk, &event, names)? {
             texts.push_text(text)?;
         }

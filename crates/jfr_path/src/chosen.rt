@@ -38,9 +38,7 @@ pub fn choose(alloc: Global, chunk: &Chunk<'_>, filter: &Filter) -> Result<Kept,
     let count = chunk.event_count();
     let mut kept = Kept::new(alloc, count)?;
     for number in 0..count {
-        let Some(event) = chunk.event(number) else {
-            unreachable!()
-        };
+        let event = chunk.known_event(number);
         let keep = is_chosen(chunk, &event, verdicts.as_slice(), &window, &mut threads)?;
         kept.set(number, keep);
     }

@@ -38,12 +38,6 @@ kept_skips fs xs n e = skips fs xs n e ∙ ap (λ k. marked (drop k fs) (drop k 
 pub kept_takes : {X : Type 0} (fs : List Bool) (xs : List X) (x : X) (n : ℕ) → unwrap_or (slice_get fs n) false ≡ true → slice_get xs n ≡ Some x → marked (drop n fs) (drop n xs) ≡ x ∷ marked (drop (n + 1) fs) (drop (n + 1) xs)
 kept_takes fs xs x n e h = takes fs xs x n e h ∙ ap (λ k. x ∷ marked (drop k fs) (drop k xs)) (one_more n)
 
--- A place within a list has a member.
-pub no_member : {X : Type 0} (xs : List X) (n : ℕ) → slice_get xs n ≡ None → n < length xs → ⊥
-no_member [] n e l = absurd (omega (arith, l))
-no_member (x ∷ xs) zero e l = cc
-no_member (x ∷ xs) (suc n) e l = no_member xs n e (omega (arith, l))
-
 -- Past the last one nothing is left.
 pub kept_past : {X : Type 0} (fs : List Bool) (xs : List X) (n : ℕ) → length xs ≤ n → marked (drop n fs) (drop n xs) ≡ []
 kept_past fs xs n l = ap (λ z. marked (drop n fs) z) (drop_of_length-le xs l) ∙ none_marked (drop n fs)

@@ -162,13 +162,10 @@ fn print_if_kept<O: Sink>(
     ensures faults { TextCounted result (O.state out.old).faults (O.state out.new).faults }
     ensures same { writer.new ≡ writer.old }
 {
-    let keep = selection.kept.get(number).unwrap_or(false);
-    if !keep {
+    if !selection.kept.is_kept(number) {
         return Ok(());
     }
-    let Some(event) = selection.chunk.event(number) else {
-        unreachable!()
-    };
+    let event = selection.chunk.known_event(number);
     print_event(out, page, selection, &event, writer)
 }
 

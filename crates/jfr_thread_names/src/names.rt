@@ -68,10 +68,8 @@ fn print_chunk<S: Sink>(
 
 /// Writes the texts, a line each.
 fn print_texts<S: Sink>(texts: &Words, out: &mut S) -> Result<(), Ending> {
-    for number in 0..texts.len() {
-        if let Some(text) = texts.get(number) {
-            print_line(text, out)?;
-        }
+    for text in texts.as_slice() {
+        print_line(text.as_str(), out)?;
     }
     Ok(())
 }

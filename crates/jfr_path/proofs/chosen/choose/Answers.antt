@@ -16,8 +16,8 @@ pub loop-number-preserved : goal.loop-number-preserved
 loop-number-preserved c =
     let s : slice_get (chosen c.args.filter.now c.args.chunk.now) c.loop-number.number ≡ Some c.in_ok-keep.keep =
     slice_get-map (is_chosen c.args.filter.now c.args.chunk.now) (events_of c.args.chunk.now) c.loop-number.number
-    ∙ (ap (option_map (is_chosen c.args.filter.now c.args.chunk.now)) (sym c.in-Some.ensures.exact)
-    ∙ (ap (λ z. Some (is_chosen z c.args.chunk.now (event_at c.in-Some.event))) (sym c.loop-number.invariant.filter) ∙ ap (λ z. Some z) (sym c.in_ok-keep.ensures.ok))) in
+    ∙ (ap (option_map (is_chosen c.args.filter.now c.args.chunk.now)) c.known_event-event.ensures.exact
+    ∙ (ap (λ z. Some (is_chosen z c.args.chunk.now (event_at c.known_event-event.result))) (sym c.loop-number.invariant.filter) ∙ ap (λ z. Some z) (sym c.in_ok-keep.ensures.ok))) in
     let l : c.loop-number.number < length c.loop-number.kept = omega (arith, c.loop-number.invariant.room, c.loop-number-test.true) in
     record {
       filter = ap (λ (z : Asked). z.filter) c.in_ok-keep.ensures.same ∙ c.loop-number.invariant.filter;
