@@ -1,8 +1,8 @@
 -- A changed value is what its leaves become, one after another.
-use Rattle.std.specs.Prelude.{◌≡◌, ℕ, zero, suc, ◌+◌, ◌-◌, ◌≤◌, Bool, true, false, List, [], ◌∷◌, ◌++◌, length, drop, take, Option, None, slice_range, map}
+use Rattle.std.specs.Prelude.{◌≡◌, ℕ, zero, suc, ◌+◌, ◌-◌, ◌≤◌, Bool, true, false, List, [], ◌∷◌, ◌++◌, length, drop, take, Option, None, slice_range}
 use Rattle.std.specs.List.{flat_map}
 use Rattle.std.specs.Option.{option_map_or}
-use Rattle.std.proofs.Common.{ap, append-nil, append_assoc, arith, refl, sym, ◌∙◌, subst, inl, inr}
+use Rattle.std.proofs.Common.{ap, append-nil, append_assoc, arith, refl, sym, ◌∙◌, inl, inr}
 use Rattle.std.proofs.lemmas.Grind.{flat_map-append}
 use Rattle.jfr_base.proofs.Ranges.{range_split}
 use Rattle.jfr_layout.specs.Classes.{Classes, Sound}
@@ -21,7 +21,7 @@ use Rattle.jfr_rewrite.specs.Copying.{CopiesLeaf, leaf_becomes}
 use Rattle.jfr_rewrite.specs.Rewrite.{changed_bytes}
 use Rattle.jfr_rewrite.specs.Writing.{changed_within}
 use Rattle.jfr_rewrite.proofs.ChangeLaws.{changed_leaves}
-use Rattle.jfr_rewrite.proofs.LaidLeaves.{AreLaid, laid_order, leaves_here, marked_leaves, node_laid}
+use Rattle.jfr_rewrite.proofs.LaidLeaves.{AreLaid, marked_leaves}
 
 range_empty : (c : List ℕ) (at : ℕ) → slice_range c at at ≡ []
 range_empty c at = let z : at - at ≡ 0 = omega arith in ap (λ n. take n (drop at c)) z

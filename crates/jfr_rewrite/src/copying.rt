@@ -2,7 +2,7 @@
 ghost use Rattle.std.specs.Prelude.{◌≡◌, ◌+◌, ◌≤◌, ◌++◌, length, slice_range, IfOk, OnOk};
 ghost use Rattle.jfr_value.specs.Leaves.{leaf_of};
 ghost use Rattle.jfr_value.specs.Nodes.{IsValue, node_of};
-ghost use Rattle.jfr_rewrite.specs.Copying.{LiesIn, leaf_becomes};
+ghost use Rattle.jfr_rewrite.specs.Copying.{CopiesLeaf, LiesIn, leaf_becomes};
 ghost use Rattle.jfr_rewrite.specs.Writing.{changed_within};
 
 use crate::rewriter::Rewriter;
@@ -76,18 +76,32 @@ impl<R: Rewriter> VisitLeaf<Changing<'_, '_, R>> for ValueCopy {
 
     #[inline(always)]
     fn visit_leaf(&mut self, changing: &Changing<'_, '_, R>, leaf: Leaf<'_>) {
+        if changing.rewriting.may_change(changing.chunk, &leaf) {
+            self.put(changing, &leaf);
+        }
+    }
+}
+
+impl ValueCopy {
+    /// Appends the bytes that wait, and what the leaf becomes.
+    fn put<R: Rewriter>(&mut self, changing: &Changing<'_, '_, R>, leaf: &Leaf<'_>)
+        requires suits { R.suits changing.now.rewriting.now changing.now.chunk.now }
+        requires lies { LiesIn changing.now.chunk.now (leaf_of leaf.now) }
+        requires start { self.old.copied ≤ leaf.now.at }
+        ensures range { self.new.copied ≤ leaf.now.at + length leaf.now.spelled.now }
+        ensures copies { CopiesLeaf (R.rewrite changing.now.rewriting.now).change changing.now.chunk.now (leaf_of leaf.now) self.old self.new }
+    {
         if self.failed {
             return;
         }
-        match put_leaf(&mut self.out, changing, &leaf, self.copied) {
+        match put_leaf(&mut self.out, changing, leaf, self.copied) {
             Ok(copied) => self.copied = copied,
             Err(NoMemory) => self.failed = true,
         }
     }
 }
 
-/// If the leaf may change, appends the bytes that wait, and what it becomes, and returns its end. Otherwise returns
-/// `copied`.
+/// Appends the chunk's bytes from `copied` up to a leaf, and what the leaf becomes. Returns the leaf's end.
 fn put_leaf<R: Rewriter>(
     out: &mut Vec<u8>,
     changing: &Changing<'_, '_, R>,
@@ -97,13 +111,10 @@ fn put_leaf<R: Rewriter>(
     requires suits { R.suits changing.now.rewriting.now changing.now.chunk.now }
     requires lies { LiesIn changing.now.chunk.now (leaf_of leaf.now) }
     requires start { copied ≤ leaf.now.at }
-    ensures range { IfOk result (λ next. next ≤ leaf.now.at + length leaf.now.spelled.now) }
-    ensures ok { IfOk result (λ next. out.new.items ++ slice_range changing.now.chunk.now.bytes next (leaf.now.at + length leaf.now.spelled.now) ≡ (out.old.items ++ slice_range changing.now.chunk.now.bytes copied leaf.now.at) ++ leaf_becomes (R.rewrite changing.now.rewriting.now).change (leaf_of leaf.now)) }
+    ensures range { IfOk result (λ end. end ≤ leaf.now.at + length leaf.now.spelled.now) }
+    ensures ok { IfOk result (λ end. out.new.items ++ slice_range changing.now.chunk.now.bytes end (leaf.now.at + length leaf.now.spelled.now) ≡ (out.old.items ++ slice_range changing.now.chunk.now.bytes copied leaf.now.at) ++ leaf_becomes (R.rewrite changing.now.rewriting.now).change (leaf_of leaf.now)) }
 {
     let chunk = changing.chunk;
-    if !changing.rewriting.may_change(chunk, leaf) {
-        return Ok(copied);
-    }
     out.extend_from_slice(&chunk.bytes()[copied..leaf.at])?;
     changing.rewriting.put_leaf(out, chunk, leaf)?;
     Ok(leaf.at + leaf.spelled.len())
