@@ -1,8 +1,8 @@
 -- What becomes of leaves, and the texts of a value, leaf by leaf.
-use Rattle.std.specs.Prelude.{◌≡◌, ℕ, zero, suc, ◌+◌, ◌-◌, ◌≤◌, Bool, true, false, ◌&&◌, List, [], ◌∷◌, ◌++◌, length, Option, Some, None, if◌then◌else◌}
+use Rattle.std.specs.Prelude.{◌≡◌, ℕ, zero, suc, ◌+◌, Bool, true, false, ◌&&◌, List, [], ◌++◌, length, Option, Some, None, if◌then◌else◌}
 use Rattle.std.specs.List.{flat_map}
 use Rattle.std.specs.Option.{option_map, option_map_or}
-use Rattle.std.proofs.Common.{ap, append-nil, append_assoc, arith, refl, sym, ◌∙◌, inl, inr}
+use Rattle.std.proofs.Common.{ap, append-nil, refl, sym, ◌∙◌}
 use Rattle.std.proofs.lemmas.Grind.{flat_map-append}
 use Rattle.jfr_base.specs.Integer.{worth_within}
 use Rattle.jfr_layout.specs.Classes.{Classes, Sound}
@@ -13,7 +13,7 @@ use Rattle.jfr_value.specs.declared.leaf.LeafKind.{LeafKind}
 use Rattle.jfr_value.specs.declared.leaf.LeafKind.TheVariants as leaf_kinds
 use Rattle.jfr_value.specs.Leaves.{LeafAt, leaf_key, leaves, leaves_at, leaves_from, part_holder}
 use Rattle.jfr_value.specs.Nodes.{IsNode, NodeAt}
-use Rattle.jfr_value.specs.Values.{AllFit, Fits, IsHead, Group, Single, Value, Values, Nil, Cons, bytes_of, bytes_of_all, shapes_of}
+use Rattle.jfr_value.specs.Values.{AllFit, Fits, Group, Single, Value, Values, Nil, Cons, bytes_of}
 use Rattle.jfr_value.proofs.NodeLaws.{value_is}
 use Rattle.jfr_value.proofs.TargetLaws.{leaves_are}
 use Rattle.jfr_chunk.specs.Parts.{Parts}

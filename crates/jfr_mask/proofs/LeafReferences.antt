@@ -1,30 +1,24 @@
 -- What a value refers to, except by its masked strings, by its leaves.
-use Rattle.std.specs.Prelude.{◌≡◌, ◌&&◌, ℕ, zero, suc, ◌+◌, Bool, true, false, List, [], ◌∷◌, ◌++◌, ◌<◌, length, slice_index, slice_range, take, Option, None, Some, option_map, option_to_list, if◌then◌else◌}
-use Rattle.std.specs.List.{AllByRecursion, cons_option, filter_map}
+use Rattle.std.specs.Prelude.{◌≡◌, ◌&&◌, ℕ, zero, suc, ◌+◌, Bool, true, false, List, [], ◌∷◌, ◌++◌, length, Option, None, Some, option_to_list, if◌then◌else◌}
+use Rattle.std.specs.List.{cons_option, filter_map}
 use Rattle.std.specs.Option.{option_map_or}
-use Rattle.std.proofs.Common.{ap, arith, refl, sym, ◌∙◌, subst, inl, inr}
-use Rattle.std.proofs.lemmas.List.{take_all}
+use Rattle.std.proofs.Common.{ap, refl, sym, ◌∙◌}
 use Rattle.std.proofs.lemmas.List.Elements.{filter_map-append}
-use Rattle.jfr_base.specs.Integer.{IntAt, IsSpellingWithin, Spells, worth_within}
-use Rattle.jfr_base.proofs.OneInt.{int_one}
+use Rattle.jfr_base.specs.Integer.{worth_within}
 use Rattle.jfr_worklist.specs.Marks.{those}
 use Rattle.jfr_worklist.proofs.Members.{those_append}
-use Rattle.jfr_text.specs.Strings.{IsString}
-use Rattle.jfr_text.specs.Strings as strings
-use Rattle.jfr_layout.specs.Classes.{Classes, Sound, kind_of}
-use Rattle.jfr_layout.specs.declared.kind.Kind.TheVariants as kinds
+use Rattle.jfr_layout.specs.Classes.{Classes, Sound}
 use Rattle.jfr_layout.specs.declared.shape.Shape.{Shape}
 use Rattle.jfr_value.specs.declared.leaf.Holder.{Holder}
 use Rattle.jfr_value.specs.declared.leaf.LeafKind.{LeafKind}
 use Rattle.jfr_value.specs.declared.leaf.LeafKind.TheVariants as leaf_kinds
-use Rattle.jfr_value.specs.Values.{Value, Values, Single, Group, Nil, Cons, bytes_of, targets_of, targets_of_all, IsBase, IsSingle, Fits, AllFit}
+use Rattle.jfr_value.specs.Values.{Value, Values, Single, Group, Nil, Cons, bytes_of, targets_of, targets_of_all, Fits, AllFit}
 use Rattle.jfr_value.specs.Nodes.{NodeAt, IsNode}
-use Rattle.jfr_value.specs.Leaves.{LeafAt, leaf_key, leaf_target, spelled_key, leaves, leaves_at, leaves_from, part_holder}
+use Rattle.jfr_value.specs.Leaves.{LeafAt, leaf_target, leaves, leaves_at, leaves_from, part_holder}
 use Rattle.jfr_value.proofs.LeafLaws.{leaf_targets}
 use Rattle.jfr_value.proofs.NodeLaws.{value_is}
 use Rattle.jfr_value.proofs.TargetLaws.{leaves_are}
 use Rattle.jfr_chunk.specs.Parts.{Parts}
-use Rattle.jfr_chunk.proofs.AllLaws.{all_append}
 use Rattle.jfr_rewrite.specs.Changed.{changed_all, plain, single_of}
 use Rattle.jfr_mask.specs.Masked.{is_masked_string, is_string_leaf}
 use Rattle.jfr_mask.specs.ReachBut.{node_targets_but, targets_but, unkeyed}

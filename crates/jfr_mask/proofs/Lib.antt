@@ -13,6 +13,7 @@ mod LeafReferences
 mod MapLaws
 mod MarkedRest
 mod MaskLaws
+mod NotedLaws
 mod NumberLaws
 mod NumberedRecords
 mod OneToOnes

@@ -6,7 +6,7 @@ use Rattle.std.proofs.Common.{◌⊎◌, inl, inr, ap, arith, refl, sym, ◌∙�
 use Rattle.std.proofs.lemmas.List.Folds.{list_any-append}
 use Rattle.std.proofs.lemmas.Slice.Eq.{bytes_eq-Decides}
 use Rattle.jfr_mask.specs.Laws.{AreNumbered}
-use Rattle.jfr_mask.specs.Pseudonyms.{IsDictionary, has_text, number_of, with_text, with_texts}
+use Rattle.jfr_mask.specs.Pseudonyms.{Extends, IsDictionary, has_text, number_of, with_text, with_texts}
 
 pub eq_self : (t : List ℕ) → bytes_eq t t ≡ true
 eq_self t = (bytes_eq-Decides t t).1 refl
@@ -57,19 +57,14 @@ has_append d e t h = list_any-append (λ u. bytes_eq u t) d e ∙ or_true (has_t
 pub has_last : (d : List (List ℕ)) (t : List ℕ) → has_text (d ++ t ∷ []) t ≡ true
 has_last d t = list_any-append (λ u. bytes_eq u t) d (t ∷ []) ∙ true_or (has_text d t) (has_text (t ∷ []) t) (or_true (bytes_eq t t) false (eq_self t))
 
--- Texts are added at the end.
-record Extends (d after : List (List ℕ)) : Type 0 where
-  rest : List (List ℕ)
-  is : after ≡ d ++ rest
-
-one_extends : (d : List (List ℕ)) (t : List ℕ) → Extends d (with_text d t)
+pub one_extends : (d : List (List ℕ)) (t : List ℕ) → Extends d (with_text d t)
 one_extends d t = by_there (has_text d t)
   where
     by_there : (b : Bool) → Extends d (if b then d else d ++ t ∷ [])
     by_there true = record { rest = []; is = sym (append-nil d) }
     by_there false = record { rest = t ∷ []; is = refl }
 
-extends : (d ts : List (List ℕ)) → Extends d (with_texts d ts)
+pub extends : (d ts : List (List ℕ)) → Extends d (with_texts d ts)
 extends d [] = record { rest = []; is = sym (append-nil d) }
 extends d (t ∷ ts) =
     let one : Extends d (with_text d t) = one_extends d t in
@@ -136,7 +131,7 @@ absent_found d t e = by_there (has_text d t) e
     by_there false e = refl
 
 -- A text at an index is there.
-has_at : (d : List (List ℕ)) (i : ℕ) (t : List ℕ) → slice_get d i ≡ Some t → has_text d t ≡ true
+pub has_at : (d : List (List ℕ)) (i : ℕ) (t : List ℕ) → slice_get d i ≡ Some t → has_text d t ≡ true
 has_at [] i t e = cc
 has_at (u ∷ us) zero t e = let h : u ≡ t = cc in or_true (bytes_eq u t) (has_text us t) (ap (λ z. bytes_eq z t) h ∙ eq_self t)
 has_at (u ∷ us) (suc i) t e = true_or (bytes_eq u t) (has_text us t) (has_at us i t e)
@@ -173,7 +168,7 @@ distinct_all d (t ∷ ts) old = distinct_all (with_text d t) ts (distinct_with d
 pub distinct_nil : IsDictionary []
 distinct_nil = record { each = λ i t e. cc }
 
-at_number : (d : List (List ℕ)) (t : List ℕ) → has_text d t ≡ true → slice_get d (number_of d t - 1) ≡ Some t
+pub at_number : (d : List (List ℕ)) (t : List ℕ) → has_text d t ≡ true → slice_get d (number_of d t - 1) ≡ Some t
 at_number d t h = let e : number_of d t - 1 ≡ index_of d t = omega arith in rw e (at_index d t h)
 
 pub are_numbered : (d ts : List (List ℕ)) → AreNumbered d ts

@@ -16,8 +16,8 @@ use Rattle.jfr_mask.specs.declared.masker.Masker.{Masker}
 use Rattle.jfr_mask.specs.declared.numbering.Numbering.{Numbering}
 use Rattle.jfr_mask.specs.declared.texts.MaskedStrings.{MaskedStrings}
 use Rattle.jfr_mask.specs.Fields.{masks_of}
-use Rattle.jfr_mask.specs.Masked.{is_held_masked, is_masked_string, masking, node_texts}
-use Rattle.jfr_mask.specs.MaskedLeaves.{leaf_texts}
+use Rattle.jfr_mask.specs.Masked.{is_held_masked, is_masked_string, masking, node_texts, numbered_text}
+use Rattle.jfr_mask.specs.MaskedLeaves.{leaf_text, leaf_texts}
 use Rattle.jfr_mask.specs.MaskOf.{Masking}
 use Rattle.jfr_mask.specs.Plain.{ArePlain}
 use Rattle.jfr_mask.specs.Pseudonyms.{has_text, shown}
@@ -34,6 +34,10 @@ KnowsPlain s = ArePlain s.masked.now s.chunk.now.classes s.plain.now.flags.items
 -- The texts of a leaf, and of a node, that are numbered.
 abbrev pub leaf_texts_by : Numbering → LeafAt → List (List ℕ)
 leaf_texts_by n l = leaf_texts (held_by n.strings) (has_text n.known.now) n.strings.chunk.now l
+
+-- Those of a leaf that is a masked string.
+abbrev pub string_texts_by : Numbering → LeafAt → List (List ℕ)
+string_texts_by n l = numbered_text (has_text n.known.now) (leaf_text n.strings.chunk.now l)
 
 abbrev pub node_texts_by : Numbering → NodeAt → List (List ℕ)
 node_texts_by n at = node_texts (held_by n.strings) (has_text n.known.now) n.strings.chunk.now at

@@ -27,6 +27,11 @@ abbrev pub with_texts : List (List ℕ) → List (List ℕ) → List (List ℕ)
 with_texts d [] = d
 with_texts d (t ∷ ts) = with_texts (with_text d t) ts
 
+-- Texts were added at the end.
+pub record Extends (d after : List (List ℕ)) : Type 0 where
+  pub rest : List (List ℕ)
+  pub is : after ≡ d ++ rest
+
 -- The text begins as a pseudonym does.
 abbrev pub is_like_pseudonym : List ℕ → Bool
 is_like_pseudonym t = glob (codes "masked-*") t || glob (codes "()masked-*") t

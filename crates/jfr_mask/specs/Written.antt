@@ -1,5 +1,6 @@
 -- The bytes of what is shown.
-use Rattle.std.specs.Prelude.{ℕ, List}
+use Rattle.std.specs.Prelude.{ℕ, List, ◌∷◌, ◌++◌, length}
+use Rattle.jfr_base.specs.Integer.{spell}
 use Rattle.jfr_mask.specs.declared.shown.Shown.{Shown}
 use Rattle.jfr_mask.specs.declared.shown.Shown.TheVariants.{Text, Pseudonym}
 use Rattle.jfr_mask.specs.Pseudonyms.{pseudonym}
@@ -8,3 +9,7 @@ use Rattle.jfr_mask.specs.Pseudonyms.{pseudonym}
 abbrev pub shown_bytes : Shown → List ℕ
 shown_bytes (Text text) = text.now
 shown_bytes (Pseudonym descriptor number) = pseudonym descriptor number
+
+-- A string in UTF-8 with these bytes.
+abbrev pub utf8_string : List ℕ → List ℕ
+utf8_string u = 3 ∷ (spell (length u) ++ u)

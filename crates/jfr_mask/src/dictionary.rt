@@ -1,5 +1,5 @@
 //! The dictionary of masked texts.
-ghost use Rattle.std.specs.Prelude.{◌≡◌, ◌+◌, ◌-◌, ◌∷◌, ◌++◌, ◌↔◌, [], length, IfOk, IfSome, IsTrue, OnErr, OnOk, None, Some, false, slice_get, if◌then◌else◌};
+ghost use Rattle.std.specs.Prelude.{◌≡◌, ◌+◌, ◌-◌, ◌∷◌, ◌++◌, ◌↔◌, ◌<◌, [], length, IfOk, IfSome, IsTrue, OnErr, OnOk, None, Some, false, slice_get, if◌then◌else◌};
 ghost use Rattle.std.specs.Str.{chars};
 ghost use Rattle.jfr_base.specs.Texts.{text_in};
 ghost use Rattle.jfr_mask.specs.Held.{AreNumbersOf, texts_in};
@@ -85,6 +85,14 @@ impl Dictionary {
         ensures { IsTrue result ↔ (self.now ≡ []) }
     {
         self.texts.is_empty()
+    }
+
+    /// The text with this index, from 0, which is known to be there.
+    pub(crate) fn known(&self, at: usize) -> &str
+        requires known { at < length self.now }
+        ensures text { slice_get self.now at ≡ Some (chars result.now) }
+    {
+        self.texts[at].as_str()
     }
 
     /// The text with this index, from 0, if there is one. Its number is one more.

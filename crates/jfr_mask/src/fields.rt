@@ -46,8 +46,7 @@ impl MaskedFields {
         };
         let mut fields = Vec::with_capacity(alloc, classes.len())?;
         let mut constants = false;
-        for index in 0..classes.len() {
-            let class = classes.class_at(index);
+        for class in classes.as_slice() {
             let masked = selector.class_masks(alloc, class)?;
             constants |= has_constant(class, &masked);
             fields.push(masked)?;
@@ -97,8 +96,8 @@ impl<'c> Selector<'c> {
         ensures ok { IfOk result (λ masked. masked.items ≡ map (is_masked self.now.strings.now (option_map_or (λ p. p.now) self.now.except []) self.now.classes.now class.now) class.now.fields) }
     {
         let mut masked = Vec::with_capacity(alloc, class.fields.len())?;
-        for number in 0..class.fields.len() {
-            let is_masked = self.is_masked(alloc, class, class.fields.at(number))?;
+        for field in class.fields.as_slice() {
+            let is_masked = self.is_masked(alloc, class, field)?;
             masked.push(is_masked)?;
         }
         Ok(masked)
@@ -151,8 +150,8 @@ fn full_name(alloc: Global, class: &ClassInfo, field: &FieldInfo) -> Result<Stri
 fn has_constant(class: &ClassInfo, masked: &[bool]) -> bool
     ensures { (f : FieldInfo → Bool) → masked.now ≡ map f class.now.fields → result ≡ list_any (λ field. field.shape.constant && f field) class.now.fields }
 {
-    for number in 0..class.fields.len() {
-        if is_masked_constant(class.fields.at(number), flag_at(masked, number)) {
+    for (number, field) in class.fields.as_slice().iter().enumerate() {
+        if is_masked_constant(field, flag_at(masked, number)) {
             return true;
         }
     }

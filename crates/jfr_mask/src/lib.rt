@@ -43,6 +43,7 @@ pub mod laws;
 mod left;
 mod mask;
 mod masker;
+mod noted;
 mod numbering;
 mod plain;
 mod recording;

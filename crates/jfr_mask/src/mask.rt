@@ -7,6 +7,7 @@ ghost use Rattle.jfr_rewrite.specs.Writing.{AreSomeOf, with_metadata};
 ghost use Rattle.jfr_mask.specs.declared.fault.MaskFault.TheVariants.{TooLong};
 ghost use Rattle.jfr_mask.specs.Maskers.{KnowsPlain, masking_of, rewrite_by};
 ghost use Rattle.jfr_mask.specs.MaskOf.{dictionary_after, mask_of};
+ghost use Rattle.jfr_mask.specs.Noted.{HasNoted};
 
 use crate::left::entries_left;
 use crate::masker::Masker;
@@ -67,13 +68,14 @@ pub fn mask_chunk<'m>(
         strings,
         known,
     };
-    numbering.add_chunk(dictionary, kept, &entries)?;
+    let noted = numbering.number_chunk(dictionary, kept, &entries)?;
     let metadata = slim_metadata(alloc, chunk, kept, options.filter)?;
     let masker = Masker {
         alloc,
         strings,
         known,
         dictionary,
+        noted: &noted,
     };
     let source = Source {
         chunk: &*chunk,
@@ -93,6 +95,7 @@ fn put_masked(
 ) -> Result<Vec<u8>, MaskFault>
     requires chunk { source.chunk.now ≡ source.rewriting.now.strings.chunk.now }
     requires plain { KnowsPlain source.rewriting.now.strings }
+    requires noted { HasNoted source.rewriting.now }
     requires entries { AreSomeOf source.chunk.now source.entries.now }
     ensures ok { IfOk result (λ out. out.items ≡ rewritten (with_metadata (rewrite_by source.entry.rewriting.now) (option_map (λ s. s.now) source.entry.metadata)) source.entry.chunk.now (kept_by source.entry.chunk.now source.entry.kept.now) source.entry.entries.now) }
     ensures below { IfOk result (λ out. length out.items < 2 ^ 30) }

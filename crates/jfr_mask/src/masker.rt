@@ -1,14 +1,17 @@
 //! Masked values.
-ghost use Rattle.std.specs.Prelude.{◌≡◌, ◌++◌, true, OnOk};
+ghost use Rattle.std.specs.Prelude.{◌≡◌, ◌++◌, true, IfSome, OnOk};
 ghost use Rattle.std.specs.Option.{option_map};
 ghost use Rattle.std.specs.Str.{chars};
 ghost use Rattle.jfr_meta.specs.Written.{text_bytes};
-ghost use Rattle.jfr_value.specs.Leaves.{leaf_of};
+ghost use Rattle.jfr_value.specs.Leaves.{KeyIsSpelled, leaf_of};
 ghost use Rattle.jfr_rewrite.specs.Copying.{LiesIn};
 ghost use Rattle.jfr_mask.specs.Masked.{is_string_leaf, string_bytes};
 ghost use Rattle.jfr_mask.specs.MaskedLeaves.{leaf_text};
 ghost use Rattle.jfr_mask.specs.Maskers.{shown_by};
+ghost use Rattle.jfr_mask.specs.Noted.{HasNoted, IsShownBy};
+ghost use Rattle.jfr_mask.specs.Written.{shown_bytes, utf8_string};
 
+use crate::noted::NotedTexts;
 use crate::texts::{MaskedStrings, leaf_text};
 use crate::widths::width_of;
 use crate::{Dictionary, Known, MaskedFields, Shown};
@@ -28,15 +31,18 @@ pub(crate) struct Masker<'m, 'd> {
     pub(crate) strings: MaskedStrings<'m>,
     pub(crate) known: &'m Known,
     pub(crate) dictionary: &'d Dictionary,
+    /// The numbers of the texts to which the chunk's entries lead.
+    pub(crate) noted: &'d NotedTexts,
 }
 
 impl Rewriter for Masker<'_, '_> {
     ghost use Rattle.std.specs.Prelude.{◌≡◌};
     ghost use Rattle.jfr_mask.specs.Maskers.{KnowsPlain, rewrite_by};
+    ghost use Rattle.jfr_mask.specs.Noted.{HasNoted};
 
     ghost rewrite = { λ m. rewrite_by m };
 
-    ghost suits = { λ m p. (p ≡ m.strings.chunk.now) × KnowsPlain m.strings };
+    ghost suits = { λ m p. (p ≡ m.strings.chunk.now) × KnowsPlain m.strings × HasNoted m };
 
     fn stays(&self, _chunk: &Chunk<'_>, node: Node<'_>) -> bool {
         self.strings.chunk.parts_are_valid();
@@ -73,25 +79,56 @@ impl Masker<'_, '_> {
     fn put_string(&self, out: &mut Vec<u8>, leaf: &Leaf<'_>) -> Result<(), NoMemory>
         requires string { is_string_leaf leaf.now.kind ≡ true }
         requires lies { LiesIn self.now.strings.chunk.now (leaf_of leaf.now) }
+        requires noted { HasNoted self.now }
+        ensures ok { OnOk result (out.new.items ≡ out.old.items ++ string_bytes (option_map (shown_by self.now) (leaf_text self.now.strings.chunk.now (leaf_of leaf.now)))) }
+    {
+        match self.noted_shown(leaf) {
+            Some(shown) => put_shown(out, shown),
+            None => self.put_made(out, leaf),
+        }
+    }
+
+    /// What is shown for the text of a string, if the string leads to an entry for which the text's number is noted.
+    fn noted_shown(&self, leaf: &Leaf<'_>) -> Option<Shown<'static>>
+        requires key { KeyIsSpelled (leaf_of leaf.now) }
+        requires noted { HasNoted self.now }
+        ensures { IfSome result (λ shown. IsShownBy self.now (leaf_text self.now.strings.chunk.now (leaf_of leaf.now)) (shown_bytes shown)) }
+    {
+        let entry = self.strings.entry_of(leaf)?;
+        let index = self.noted.index(entry)?;
+        let text = self.dictionary.get(index)?;
+        Some(Shown::pseudonym(text, index as u64 + 1))
+    }
+
+    /// As `put_string`. The text is made.
+    fn put_made(&self, out: &mut Vec<u8>, leaf: &Leaf<'_>) -> Result<(), NoMemory>
+        requires string { is_string_leaf leaf.now.kind ≡ true }
+        requires lies { LiesIn self.now.strings.chunk.now (leaf_of leaf.now) }
         ensures ok { OnOk result (out.new.items ≡ out.old.items ++ string_bytes (option_map (shown_by self.now) (leaf_text self.now.strings.chunk.now (leaf_of leaf.now)))) }
     {
         match leaf_text(self.alloc, self.strings.chunk, leaf)? {
-            Some(text) => self.put_shown(out, text.as_str()),
+            Some(text) => self.put_text(out, text.as_str()),
             None => Ok(out.push(NULL_BYTE)?),
         }
     }
 
     /// Appends a string with what is shown for a text. Only the empty text is shown as the empty text.
-    fn put_shown(&self, out: &mut Vec<u8>, text: &str) -> Result<(), NoMemory>
+    fn put_text(&self, out: &mut Vec<u8>, text: &str) -> Result<(), NoMemory>
         ensures ok { OnOk result (out.new.items ≡ out.old.items ++ text_bytes (shown_by self.now (chars text.now))) }
     {
         if text.is_empty() {
             out.push(EMPTY_BYTE)?;
             return Ok(());
         }
-        let shown = Shown::of(self.known, self.dictionary, text);
-        out.push(UTF8_BYTE)?;
-        push_var(out, shown.len() as u64)?;
-        shown.push(out)
+        put_shown(out, Shown::of(self.known, self.dictionary, text))
     }
+}
+
+/// Appends a string in UTF-8 with what is shown for a text that isn't empty.
+fn put_shown(out: &mut Vec<u8>, shown: Shown<'_>) -> Result<(), NoMemory>
+    ensures ok { OnOk result (out.new.items ≡ out.old.items ++ utf8_string (shown_bytes shown.entry)) }
+{
+    out.push(UTF8_BYTE)?;
+    push_var(out, shown.len() as u64)?;
+    shown.push(out)
 }

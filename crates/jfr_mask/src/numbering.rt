@@ -1,5 +1,5 @@
 //! The numbers of a chunk's masked texts.
-ghost use Rattle.std.specs.Prelude.{◌≡◌, ℕ, Bool, List, Option, IfSome, OnOk, Some, slice_get};
+ghost use Rattle.std.specs.Prelude.{◌≡◌, true, ℕ, suc, Bool, List, Option, IfOk, IfSome, OnOk, Some, slice_get};
 ghost use Rattle.std.specs.List.{AllByRecursion, flat_map};
 ghost use Rattle.std.specs.Str.{chars};
 ghost use Rattle.jfr_value.specs.Leaves.{leaf_of};
@@ -10,11 +10,14 @@ ghost use Rattle.jfr_chunk.specs.Reach.{kept_by};
 ghost use Rattle.jfr_output.specs.OutputRecords.{ShowsEvent, ShowsMetadata, output_record_as};
 ghost use Rattle.jfr_output.specs.Remaining.{NotFalling};
 ghost use Rattle.jfr_rewrite.specs.Copying.{LiesIn};
-ghost use Rattle.jfr_mask.specs.Masked.{numbered_text};
-ghost use Rattle.jfr_mask.specs.Maskers.{IsEntryValue, IsMaskingBy, KnowsPlain, entries_by, leaf_texts_by, node_texts_by};
+ghost use Rattle.jfr_mask.specs.Masked.{is_string_leaf, numbered_text};
+ghost use Rattle.jfr_mask.specs.MaskedLeaves.{leaf_text};
+ghost use Rattle.jfr_mask.specs.Maskers.{IsEntryValue, IsMaskingBy, KnowsPlain, entries_by, leaf_texts_by, node_texts_by, string_texts_by};
 ghost use Rattle.jfr_mask.specs.MaskOf.{Masking, dictionary_after, origin_of, origin_texts};
-ghost use Rattle.jfr_mask.specs.Pseudonyms.{has_text, with_texts};
+ghost use Rattle.jfr_mask.specs.Noted.{AreNoted, IsMaskedAt, NotesTexts, entry_by};
+ghost use Rattle.jfr_mask.specs.Pseudonyms.{Extends, has_text, with_texts};
 
+use crate::noted::NotedTexts;
 use crate::shown::stays;
 use crate::texts::{MaskedStrings, leaf_text};
 use crate::{Dictionary, Known};
@@ -38,16 +41,42 @@ pub(crate) struct Numbering<'m> {
 
 impl Numbering<'_> {
     /// Adds the texts of the masked chunk, in the order in which they are in it: those of the kept events, and of the
-    /// entries that are left.
-    pub(crate) fn add_chunk(
+    /// entries that are left. Returns the numbers of the texts to which entries lead.
+    pub(crate) fn number_chunk(
         &self,
         dictionary: &mut Dictionary,
+        kept: &Kept,
+        entries: &[EntryAt],
+    ) -> Result<NotedTexts, NoMemory>
+        requires plain { KnowsPlain self.now.strings }
+        requires entries { entries.now ≡ entries_by self.now.strings (kept_by self.now.strings.chunk.now kept.now) }
+        ensures ok { OnOk result ((m : Masking) → IsMaskingBy self.now m → dictionary.new ≡ dictionary_after m dictionary.old self.now.strings.chunk.now (kept_by self.now.strings.chunk.now kept.now)) }
+        ensures noted { IfOk result (λ noted. AreNoted self.now.strings.chunk.now (has_text self.now.known.now) dictionary.new noted.numbers.items) }
+    {
+        let noted = NotedTexts::new(self.alloc, self.strings.chunk.pools().len())?;
+        let mut growing = GrowingDictionary {
+            dictionary: mem::replace(dictionary, Dictionary::new(self.alloc)),
+            noted,
+            failed: false,
+        };
+        let added = self.add_chunk(&mut growing, kept, entries);
+        *dictionary = growing.dictionary;
+        added?;
+        Ok(growing.noted)
+    }
+
+    /// Adds the texts of the masked chunk.
+    fn add_chunk(
+        &self,
+        growing: &mut GrowingDictionary,
         kept: &Kept,
         entries: &[EntryAt],
     ) -> Result<(), NoMemory>
         requires plain { KnowsPlain self.now.strings }
         requires entries { entries.now ≡ entries_by self.now.strings (kept_by self.now.strings.chunk.now kept.now) }
-        ensures ok { OnOk result ((m : Masking) → IsMaskingBy self.now m → dictionary.new ≡ dictionary_after m dictionary.old self.now.strings.chunk.now (kept_by self.now.strings.chunk.now kept.now)) }
+        requires noted { NotesTexts self.now growing.old }
+        ensures ok { OnOk result ((m : Masking) → IsMaskingBy self.now m → growing.new.dictionary ≡ dictionary_after m growing.old.dictionary self.now.strings.chunk.now (kept_by self.now.strings.chunk.now kept.now)) }
+        ensures noted { OnOk result (NotesTexts self.now growing.new) }
     {
         self.strings.chunk.parts_are_valid();
         let mut cursor = Cursor {
@@ -60,7 +89,7 @@ impl Numbering<'_> {
             kept,
             &mut cursor,
         ) {
-            self.add_record(dictionary, entries, output_record)?;
+            self.add_record(growing, entries, output_record)?;
         }
         Ok(())
     }
@@ -68,53 +97,65 @@ impl Numbering<'_> {
     /// Adds the texts of an output record.
     fn add_record(
         &self,
-        dictionary: &mut Dictionary,
+        growing: &mut GrowingDictionary,
         entries: &[EntryAt],
         output_record: OutputRecord,
     ) -> Result<(), NoMemory>
         requires plain { KnowsPlain self.now.strings }
         requires order { NotFalling 0 entries.now }
         requires values { AllByRecursion (IsEntryValue self.now.strings.chunk.now) entries.now }
-        ensures ok { OnOk result ((m : Masking) (flags : List Bool) (slim : Option (List ℕ)) → IsMaskingBy self.now m → ShowsEvent self.now.strings.chunk.now flags output_record → ShowsMetadata (metadata_at self.now.strings.chunk.now.bytes) output_record → dictionary.new ≡ with_texts dictionary.old (origin_texts m self.now.strings.chunk.now (origin_of self.now.strings.chunk.now (kept_by self.now.strings.chunk.now flags) entries.now (output_record_as slim output_record)))) }
+        requires noted { NotesTexts self.now growing.old }
+        ensures ok { OnOk result ((m : Masking) (flags : List Bool) (slim : Option (List ℕ)) → IsMaskingBy self.now m → ShowsEvent self.now.strings.chunk.now flags output_record → ShowsMetadata (metadata_at self.now.strings.chunk.now.bytes) output_record → growing.new.dictionary ≡ with_texts growing.old.dictionary (origin_texts m self.now.strings.chunk.now (origin_of self.now.strings.chunk.now (kept_by self.now.strings.chunk.now flags) entries.now (output_record_as slim output_record)))) }
+        ensures noted { OnOk result (NotesTexts self.now growing.new) }
     {
         self.strings.chunk.parts_are_valid();
         match output_record {
-            OutputRecord::Event(number, _) => self.add_event(dictionary, number),
+            OutputRecord::Event(number, _) => self.add_event(growing, number),
             OutputRecord::Metadata(_) => Ok(()),
             OutputRecord::Chained(number, _) => {
-                self.add_entries(dictionary, entries_of(entries, number))
+                self.add_entries(growing, entries_of(entries, number))
             }
         }
     }
 
     /// Adds the texts of the event with this number, if there is one.
-    fn add_event(&self, dictionary: &mut Dictionary, number: usize) -> Result<(), NoMemory>
+    fn add_event(&self, growing: &mut GrowingDictionary, number: usize) -> Result<(), NoMemory>
         requires plain { KnowsPlain self.now.strings }
-        ensures ok { OnOk result (IfSome (slice_get (events_of self.now.strings.chunk.now) number) (λ e. dictionary.new ≡ with_texts dictionary.old (node_texts_by self.now e.node))) }
+        requires noted { NotesTexts self.now growing.old }
+        ensures ok { OnOk result (IfSome (slice_get (events_of self.now.strings.chunk.now) number) (λ e. growing.new.dictionary ≡ with_texts growing.old.dictionary (node_texts_by self.now e.node))) }
+        ensures noted { OnOk result (NotesTexts self.now growing.new) }
     {
         match self.strings.chunk.event(number) {
-            Some(event) => self.add_node(dictionary, event.node),
+            Some(event) => self.add_node(growing, event.node),
             None => Ok(()),
         }
     }
 
     /// Adds the texts of entries.
-    fn add_entries(&self, dictionary: &mut Dictionary, entries: &[EntryAt]) -> Result<(), NoMemory>
+    fn add_entries(
+        &self,
+        growing: &mut GrowingDictionary,
+        entries: &[EntryAt],
+    ) -> Result<(), NoMemory>
         requires plain { KnowsPlain self.now.strings }
         requires values { AllByRecursion (IsEntryValue self.now.strings.chunk.now) entries.now }
-        ensures ok { OnOk result (dictionary.new ≡ with_texts dictionary.old (flat_map (λ e. node_texts_by self.now (entry_node e)) entries.now)) }
+        requires noted { NotesTexts self.now growing.old }
+        ensures ok { OnOk result (growing.new.dictionary ≡ with_texts growing.old.dictionary (flat_map (λ e. node_texts_by self.now (entry_node e)) entries.now)) }
+        ensures noted { OnOk result (NotesTexts self.now growing.new) }
     {
         for entry in entries {
-            self.add_entry(dictionary, entry)?;
+            self.add_entry(growing, entry)?;
         }
         Ok(())
     }
 
     /// Adds the texts of an entry.
-    fn add_entry(&self, dictionary: &mut Dictionary, entry: &EntryAt) -> Result<(), NoMemory>
+    fn add_entry(&self, growing: &mut GrowingDictionary, entry: &EntryAt) -> Result<(), NoMemory>
         requires plain { KnowsPlain self.now.strings }
         requires value { IsEntryValue self.now.strings.chunk.now entry.now }
-        ensures ok { OnOk result (dictionary.new ≡ with_texts dictionary.old (node_texts_by self.now (entry_node entry.now))) }
+        requires noted { NotesTexts self.now growing.old }
+        ensures ok { OnOk result (growing.new.dictionary ≡ with_texts growing.old.dictionary (node_texts_by self.now (entry_node entry.now))) }
+        ensures noted { OnOk result (NotesTexts self.now growing.new) }
     {
         let node = Node {
             shape: Shape::inline(entry.class),
@@ -122,26 +163,23 @@ impl Numbering<'_> {
             at: entry.value_at,
             end: entry.end,
         };
-        self.add_node(dictionary, node)
+        self.add_node(growing, node)
     }
 
     /// Adds the texts of a node, from left to right. A node of a plain class isn't read.
-    fn add_node(&self, dictionary: &mut Dictionary, node: Node<'_>) -> Result<(), NoMemory>
+    fn add_node(&self, growing: &mut GrowingDictionary, node: Node<'_>) -> Result<(), NoMemory>
         requires plain { KnowsPlain self.now.strings }
         requires value { IsValue self.now.strings.chunk.now.classes node }
         requires of_chunk { node.bytes.now ≡ self.now.strings.chunk.now.bytes }
-        ensures ok { OnOk result (dictionary.new ≡ with_texts dictionary.old (node_texts_by self.now (node_of node.entry))) }
+        requires noted { NotesTexts self.now growing.old }
+        ensures ok { OnOk result (growing.new.dictionary ≡ with_texts growing.old.dictionary (node_texts_by self.now (node_of node.entry))) }
+        ensures noted { OnOk result (NotesTexts self.now growing.new) }
     {
         self.strings.chunk.parts_are_valid();
         if self.strings.are_none_in(node) {
             return Ok(());
         }
-        let mut growing = GrowingDictionary {
-            dictionary: mem::replace(dictionary, Dictionary::new(self.alloc)),
-            failed: false,
-        };
-        visit_leaves(self.strings.chunk.classes(), node, &mut growing, self);
-        *dictionary = growing.dictionary;
+        visit_leaves(self.strings.chunk.classes(), node, growing, self);
         if growing.failed {
             return Err(NoMemory);
         }
@@ -149,36 +187,84 @@ impl Numbering<'_> {
     }
 
     /// Adds the text of a leaf, if it is a masked string with a text.
-    fn add_leaf(&self, dictionary: &mut Dictionary, leaf: &Leaf<'_>) -> Result<(), NoMemory>
+    fn add_leaf(&self, growing: &mut GrowingDictionary, leaf: &Leaf<'_>) -> Result<(), NoMemory>
         requires lies { LiesIn self.now.strings.chunk.now (leaf_of leaf.now) }
-        ensures ok { OnOk result (dictionary.new ≡ with_texts dictionary.old (leaf_texts_by self.now (leaf_of leaf.now))) }
+        requires noted { NotesTexts self.now growing.old }
+        ensures ok { OnOk result (growing.new.dictionary ≡ with_texts growing.old.dictionary (leaf_texts_by self.now (leaf_of leaf.now))) }
+        ensures failed { growing.new.failed ≡ growing.old.failed }
+        ensures noted { NotesTexts self.now growing.new }
     {
         if !self.strings.has(leaf) {
             return Ok(());
         }
+        match self.strings.entry_of(leaf) {
+            Some(entry) => self.add_constant(growing, leaf, entry),
+            None => {
+                self.add_text(growing, leaf)?;
+                Ok(())
+            }
+        }
+    }
+
+    /// Adds the text of a string that leads to this entry, unless its number is noted. Otherwise notes it.
+    fn add_constant(
+        &self,
+        growing: &mut GrowingDictionary,
+        leaf: &Leaf<'_>,
+        entry: usize,
+    ) -> Result<(), NoMemory>
+        requires string { is_string_leaf leaf.now.kind ≡ true }
+        requires lies { LiesIn self.now.strings.chunk.now (leaf_of leaf.now) }
+        requires entry { entry_by self.now.strings.chunk.now (leaf_of leaf.now) ≡ Some entry }
+        requires noted { NotesTexts self.now growing.old }
+        ensures ok { OnOk result (growing.new.dictionary ≡ with_texts growing.old.dictionary (string_texts_by self.now (leaf_of leaf.now))) }
+        ensures failed { growing.new.failed ≡ growing.old.failed }
+        ensures noted { NotesTexts self.now growing.new }
+    {
+        if growing.noted.index(entry).is_some() {
+            return Ok(());
+        }
+        let number = self.add_text(growing, leaf)?;
+        growing.noted.note(entry, number);
+        Ok(())
+    }
+
+    /// Adds the text of a string, if it has one that isn't shown as it is, and returns its number. Otherwise returns 0.
+    fn add_text(&self, growing: &mut GrowingDictionary, leaf: &Leaf<'_>) -> Result<u64, NoMemory>
+        requires string { is_string_leaf leaf.now.kind ≡ true }
+        requires lies { LiesIn self.now.strings.chunk.now (leaf_of leaf.now) }
+        requires noted { NotesTexts self.now growing.old }
+        ensures ok { OnOk result (growing.new.dictionary ≡ with_texts growing.old.dictionary (string_texts_by self.now (leaf_of leaf.now))) }
+        ensures number { IfOk result (λ number. (index : ℕ) → number ≡ suc index → (text : List ℕ) × (leaf_text self.now.strings.chunk.now (leaf_of leaf.now) ≡ Some text) × IsMaskedAt (has_text self.now.known.now) growing.new.dictionary text index) }
+        ensures failed { growing.new.failed ≡ growing.old.failed }
+        ensures same { growing.new.noted ≡ growing.old.noted }
+        ensures noted { NotesTexts self.now growing.new }
+    {
         match leaf_text(self.alloc, self.strings.chunk, leaf)? {
-            Some(text) => add_unless_shown(self.known, dictionary, text.as_str()),
-            None => Ok(()),
+            Some(text) => add_unless_shown(self.known, &mut growing.dictionary, text.as_str()),
+            None => Ok(0),
         }
     }
 }
 
-/// A dictionary to which the texts of leaves are added during a visit. Once memory has run out, nothing more is added.
+/// A dictionary to which the texts of a chunk are added. Once memory has run out, nothing more is added.
 #[derive(Drop)]
-struct GrowingDictionary {
-    dictionary: Dictionary,
-    failed: bool,
+pub(crate) struct GrowingDictionary {
+    pub(crate) dictionary: Dictionary,
+    /// The numbers of the texts to which the chunk's entries lead.
+    pub(crate) noted: NotedTexts,
+    pub(crate) failed: bool,
 }
 
 impl VisitLeaf<Numbering<'_>> for GrowingDictionary {
-    ghost use Rattle.std.specs.Prelude.{⊤};
     ghost use Rattle.jfr_mask.specs.Maskers.{leaf_texts_by};
+    ghost use Rattle.jfr_mask.specs.Noted.{NotesTexts};
     ghost use Rattle.jfr_mask.specs.Visitors.{AddsTexts};
     ghost use Rattle.jfr_rewrite.specs.Copying.{LiesIn};
 
     ghost admits = { λ numbering leaf. LiesIn numbering.strings.chunk.now leaf };
 
-    ghost ready = { λ growing numbering at. ⊤ };
+    ghost ready = { λ growing numbering at. NotesTexts numbering growing };
 
     ghost takes = { λ numbering leaf old new. AddsTexts (leaf_texts_by numbering leaf) old new };
 
@@ -186,19 +272,20 @@ impl VisitLeaf<Numbering<'_>> for GrowingDictionary {
         if self.failed {
             return;
         }
-        if numbering.add_leaf(&mut self.dictionary, &leaf).is_err() {
+        if numbering.add_leaf(self, &leaf).is_err() {
             self.failed = true;
         }
     }
 }
 
-/// Adds a text, unless it is shown as it is.
-fn add_unless_shown(known: &Known, dictionary: &mut Dictionary, text: &str) -> Result<(), NoMemory>
+/// Adds a text, unless it is shown as it is, and returns its number, or 0 if it is shown as it is.
+fn add_unless_shown(known: &Known, dictionary: &mut Dictionary, text: &str) -> Result<u64, NoMemory>
     ensures ok { OnOk result (dictionary.new ≡ with_texts dictionary.old (numbered_text (has_text known.now) (Some (chars text.now)))) }
+    ensures number { IfOk result (λ number. (index : ℕ) → number ≡ suc index → IsMaskedAt (has_text known.now) dictionary.new (chars text.now) index) }
+    ensures grown { Extends dictionary.old dictionary.new }
 {
     if stays(known, text) {
-        return Ok(());
+        return Ok(0);
     }
-    dictionary.add(text)?;
-    Ok(())
+    dictionary.add(text)
 }

@@ -126,27 +126,24 @@ fn are_plain_fields(
 ) -> bool
     ensures { IsTrue result → (number : ℕ) (s : FieldLayout) → slice_get layouts.now number ≡ Some s → LayoutIsPlain masked.now flags.now index number s }
 {
-    for number in 0..layouts.len() {
-        if !is_plain_field(flags, masked, index, layouts, number) {
+    for (number, layout) in layouts.iter().enumerate() {
+        if !is_plain_field(flags, masked, index, number, layout) {
             return false;
         }
     }
     true
 }
 
-/// Whether the field with this number is plain, if there is one.
+/// Whether the field with this number and this layout is plain.
 fn is_plain_field(
     flags: &[bool],
     masked: &MaskedFields,
     index: usize,
-    layouts: &[FieldLayout],
     number: usize,
+    layout: &FieldLayout,
 ) -> bool
-    ensures { IsTrue result → (s : FieldLayout) → slice_get layouts.now number ≡ Some s → LayoutIsPlain masked.now flags.now index number s }
+    ensures { IsTrue result → LayoutIsPlain masked.now flags.now index number layout.now }
 {
-    let Some(layout) = layouts.get(number) else {
-        return true;
-    };
     if layout.shape.constant {
         return true;
     }

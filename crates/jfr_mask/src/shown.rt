@@ -31,9 +31,16 @@ impl<'t> Shown<'t> {
         if stays(known, text) {
             return Shown::Text(text);
         }
+        Shown::pseudonym(text, dictionary.number_or_next(text))
+    }
+
+    /// The pseudonym of a text with this number.
+    pub(crate) fn pseudonym(text: &str, number: u64) -> Shown<'t>
+        ensures { shown_bytes result ≡ pseudonym (is_descriptor (chars text.now)) number }
+    {
         Shown::Pseudonym {
             descriptor: is_descriptor(text),
-            number: dictionary.number_or_next(text),
+            number,
         }
     }
 

@@ -41,10 +41,7 @@ fn append_lines<P: Place>(
 {
     let mut line = TextBuilder::new(alloc);
     for at in 0..dictionary.len() {
-        let Some(text) = dictionary.get(at) else {
-            unreachable!()
-        };
-        put_line(&mut line, at as u64 + 1, text)?;
+        put_line(&mut line, at as u64 + 1, dictionary.known(at))?;
         append_output(place, line.as_bytes())?;
     }
     Ok(())

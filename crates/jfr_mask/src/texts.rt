@@ -1,12 +1,13 @@
 //! Masked strings, and their texts.
 ghost use Rattle.std.specs.Prelude.{◌≡◌, true, None, IfOk, IsTrue};
-ghost use Rattle.jfr_value.specs.Leaves.{leaf_of};
+ghost use Rattle.jfr_value.specs.Leaves.{KeyIsSpelled, leaf_of};
 ghost use Rattle.jfr_value.specs.Nodes.{IsNode, node_of};
 ghost use Rattle.jfr_value.specs.Values.{Value};
 ghost use Rattle.jfr_rewrite.specs.Copying.{LiesIn};
 ghost use Rattle.jfr_mask.specs.Masked.{is_string_leaf};
 ghost use Rattle.jfr_mask.specs.MaskedLeaves.{is_masked_leaf, leaf_text};
 ghost use Rattle.jfr_mask.specs.Maskers.{KnowsPlain, held_by};
+ghost use Rattle.jfr_mask.specs.Noted.{entry_by};
 ghost use Rattle.jfr_mask.specs.Plain.{HasNoMasked};
 
 use crate::MaskedFields;
@@ -50,12 +51,20 @@ impl MaskedStrings<'_> {
             _ => false,
         }
     }
+
+    /// The number of the entry to which a leaf refers, if it refers to one.
+    pub(crate) fn entry_of(&self, leaf: &Leaf<'_>) -> Option<usize>
+        requires { KeyIsSpelled (leaf_of leaf.now) }
+        ensures { result ≡ entry_by self.now.chunk.now (leaf_of leaf.now) }
+    {
+        let key = leaf.key()?;
+        self.chunk.pools().entry(leaf.class, key)
+    }
 }
 
 /// The text of a leaf that is a string: its own, or that of the constant to which its key leads.
 ///
-/// It takes time in proportion to the text, which is copied if it has more than 14 bytes. The text of a constant is
-/// made again for each reference to it, so n references to a text of m bytes take n times m steps.
+/// It takes time in proportion to the text, which is copied if it has more than 14 bytes.
 pub(crate) fn leaf_text(
     alloc: Global,
     chunk: &Chunk<'_>,

@@ -26,8 +26,8 @@ returns-in_err-append_output-clause-contents g c =
     let d = c.args.dictionary.now in
     let p = err_from_is_err_and c.from_residual-in_err-append_output.result c.from_residual-in_err-append_output.ensures.1 in
     let e = c.in_err-append_output.field-0.0 in
-    let line = line_at 1 d c.loop-at.at (chars c.in-Some.text.now) (sym c.in-Some.ensures.text) in
-    rw (p.1, p.2) (one_failed (take c.loop-at.at (table_lines 1 d)) (drop (suc c.loop-at.at) (table_lines 1 d)) (table_lines 1 d) (table_line (c.loop-at.at + 1) (chars c.in-Some.text.now)) e (g.P.Place.state c.args.place.now) (g.P.Place.state c.loop-at.place) (g.P.Place.state c.append_output.new.place) line.whole c.loop-at.invariant
+    let line = line_at 1 d c.loop-at.at (chars c.known.result.now) c.known.ensures.text in
+    rw (p.1, p.2) (one_failed (take c.loop-at.at (table_lines 1 d)) (drop (suc c.loop-at.at) (table_lines 1 d)) (table_lines 1 d) (table_line (c.loop-at.at + 1) (chars c.known.result.now)) e (g.P.Place.state c.args.place.now) (g.P.Place.state c.loop-at.place) (g.P.Place.state c.append_output.new.place) line.whole c.loop-at.invariant
     (subst (λ b. IsPlaceAfter (Append b ∷ []) (Err e) (g.P.Place.state c.loop-at.place) (g.P.Place.state c.append_output.new.place)) (c.as_bytes.ensures ∙ c.in_ok-put_line.ensures.ok) c.in_err-append_output.ensures.contents))
 
 pub returns-in_err-append_output-clause-counts : goal.returns-in_err-append_output-clause-counts
@@ -39,12 +39,12 @@ pub loop-at-preserved : goal.loop-at-preserved
 loop-at-preserved g c =
     let d = c.args.dictionary.now in
     let lines = take c.loop-at.at (table_lines 1 d) in
-    let new = table_line (c.loop-at.at + 1) (chars c.in-Some.text.now) in
+    let new = table_line (c.loop-at.at + 1) (chars c.known.result.now) in
     let x = g.P.Place.state c.args.place.now in
     let y = g.P.Place.state c.loop-at.place in
     let z = g.P.Place.state c.append_output.new.place in
     let o = c.in_ok-append_output.field-0 in
-    let line = line_at 1 d c.loop-at.at (chars c.in-Some.text.now) (sym c.in-Some.ensures.text) in
+    let line = line_at 1 d c.loop-at.at (chars c.known.result.now) c.known.ensures.text in
     let next : suc c.loop-at.at ≡ c.loop-at.at + 1 = omega arith in
     subst (λ n. LinesDone (take n (table_lines 1 d)) x z) next
     (subst (λ ls. LinesDone ls x z) (sym line.next)

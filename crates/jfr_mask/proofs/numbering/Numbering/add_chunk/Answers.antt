@@ -19,6 +19,7 @@ pub output_records-init : goal.output_records-init
 output_records-init c =
     let p = c.args.self.now.strings.chunk.now in
     record {
+      noted = c.requires.noted;
       cursor = cursor_first p c.args.kept.now c.parts_are_valid.ensures.parts;
       texts = λ m is. refl;
     }
@@ -38,14 +39,15 @@ output_records-preserved c =
     let p = c.args.self.now.strings.chunk.now in
     let flags = c.args.kept.now in
     record {
+      noted = c.in_ok-add_record.ensures.noted;
       cursor = c.in-Some.ensures.cursor;
       texts = λ m is.
           (let slim = new_metadata m.described p (kept_by p flags) in
           let texts : OutputRecord → List (List ℕ) = λ o. origin_texts m p (origin_of p (kept_by p flags) c.args.entries.now o) in
           let rest = flat_map texts (remaining_output_records slim p flags c.next_output_record.new.cursor) in
           ap (λ z. with_texts z rest) (c.in_ok-add_record.ensures.ok m flags slim is c.in-Some.ensures.event c.in-Some.ensures.metadata)
-          ∙ (sym (with_append c.output_records.dictionary (texts (output_record_as slim c.in-Some.output_record)) rest)
-          ∙ (ap (λ z. with_texts c.output_records.dictionary (flat_map texts z)) (sym (c.in-Some.ensures.exact slim)) ∙ c.output_records.invariant.texts m is)));
+          ∙ (sym (with_append c.output_records.growing.dictionary (texts (output_record_as slim c.in-Some.output_record)) rest)
+          ∙ (ap (λ z. with_texts c.output_records.growing.dictionary (flat_map texts z)) (sym (c.in-Some.ensures.exact slim)) ∙ c.output_records.invariant.texts m is)));
     }
 
 pub returns : goal.returns
@@ -55,8 +57,9 @@ returns c =
     record {
       ok = λ m is.
           (let slim = new_metadata m.described p (kept_by p flags) in
-          ap (λ z. with_texts c.output_records.dictionary (flat_map (λ o. origin_texts m p (origin_of p (kept_by p flags) c.args.entries.now o)) z)) (sym (c.in_default.ensures.exact slim))
+          ap (λ z. with_texts c.output_records.growing.dictionary (flat_map (λ o. origin_texts m p (origin_of p (kept_by p flags) c.args.entries.now o)) z)) (sym (c.in_default.ensures.exact slim))
           ∙ (c.output_records.invariant.texts m is
-          ∙ ap (λ es. with_texts c.args.dictionary.now (flat_map (λ o. origin_texts m p (origin_of p (kept_by p flags) es o)) (records_out m p (kept_by p flags))))
+          ∙ ap (λ es. with_texts c.args.growing.now.dictionary (flat_map (λ o. origin_texts m p (origin_of p (kept_by p flags) es o)) (records_out m p (kept_by p flags))))
           (c.requires.entries ∙ sym (entries_same c.args.self.now m is (kept_by p flags)))));
+      noted = c.output_records.invariant.noted;
     }

@@ -25,11 +25,14 @@ loop-entry-preserved c =
     let texts : EntryAt → List (List ℕ) = λ e. node_texts_by c.args.self.now (entry_node e) in
     let rest = flat_map texts (drop (i + 1) es) in
     let here = slice_get-get_or es i none c.loop-entry-test.true in
-    ap (λ z. with_texts z rest) c.in_ok-add_entry.ensures.ok
-    ∙ (sym (with_append c.loop-entry.dictionary (texts (get_or es i none)) rest)
-    ∙ (ap (λ z. with_texts c.loop-entry.dictionary (flat_map texts z)) (sym (drop_at es i (get_or es i none) here)) ∙ c.loop-entry.invariant))
+    record {
+      noted = c.in_ok-add_entry.ensures.noted;
+      texts = ap (λ z. with_texts z rest) c.in_ok-add_entry.ensures.ok
+          ∙ (sym (with_append c.loop-entry.growing.dictionary (texts (get_or es i none)) rest)
+          ∙ (ap (λ z. with_texts c.loop-entry.growing.dictionary (flat_map texts z)) (sym (drop_at es i (get_or es i none) here)) ∙ c.loop-entry.invariant.texts));
+    }
 
 pub returns : goal.returns
 returns c =
     let texts : EntryAt → List (List ℕ) = λ e. node_texts_by c.args.self.now (entry_node e) in
-    record { ok = ap (λ z. with_texts c.loop-entry.dictionary (flat_map texts z)) (sym (drop_all c.loop-entry.entry-index c.args.entries.now c.loop-entry-test.false)) ∙ c.loop-entry.invariant }
+    record { ok = ap (λ z. with_texts c.loop-entry.growing.dictionary (flat_map texts z)) (sym (drop_all c.loop-entry.entry-index c.args.entries.now c.loop-entry-test.false)) ∙ c.loop-entry.invariant.texts; noted = c.loop-entry.invariant.noted }

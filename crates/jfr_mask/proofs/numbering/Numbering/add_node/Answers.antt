@@ -19,7 +19,7 @@ returns-then-are_none_in c =
     let n = node_of c.args.node in
     let v = c.requires.value.0 in
     let node = subst (λ z. IsNode p.classes z n v) c.requires.of_chunk c.requires.value.1 in
-    record { ok = ap (λ z. with_texts c.args.dictionary.now z) (sym (node_no_texts p masked known n v c.parts_are_valid.ensures.sound node (c.are_none_in.ensures c.if-are_none_in.true v node))) }
+    record { ok = ap (λ z. with_texts c.args.growing.now.dictionary z) (sym (node_no_texts p masked known n v c.parts_are_valid.ensures.sound node (c.are_none_in.ensures c.if-are_none_in.true v node))); noted = c.requires.noted }
 
 pub visit_leaves-requires-clause-admits : goal.visit_leaves-requires-clause-admits
 visit_leaves-requires-clause-admits c =
@@ -37,7 +37,7 @@ returns c =
     record {
       ok =
           added.1
-          ∙ (ap (λ z. with_texts z (flat_map (leaf_texts_by c.args.self.now) (leaves c.classes.result.now c.args.node.bytes.now n))) c.replace.ensures.value
-          ∙ (ap (λ z. with_texts c.args.dictionary.now (flat_map (leaf_texts_by c.args.self.now) z)) (leaves_here p c.classes.result.now c.args.node.bytes.now n c.classes.ensures c.requires.of_chunk)
-          ∙ ap (λ z. with_texts c.args.dictionary.now z) (sym (node_texts_are masked p known c.parts_are_valid.ensures.sound n c.requires.value.0 node))));
+          ∙ (ap (λ z. with_texts c.args.growing.now.dictionary (flat_map (leaf_texts_by c.args.self.now) z)) (leaves_here p c.classes.result.now c.args.node.bytes.now n c.classes.ensures c.requires.of_chunk)
+          ∙ ap (λ z. with_texts c.args.growing.now.dictionary z) (sym (node_texts_are masked p known c.parts_are_valid.ensures.sound n c.requires.value.0 node)));
+      noted = c.visit_leaves.ensures.ready;
     }

@@ -22,9 +22,10 @@ returns-in-Metadata c =
     let p = c.args.self.now.strings.chunk.now in
     record {
       ok = λ m flags slim is event metadata.
-          ap (λ z. with_texts c.args.dictionary.now z)
+          ap (λ z. with_texts c.args.growing.now.dictionary z)
           (sym (ap (λ o. origin_texts m p (origin_of p (kept_by p flags) c.args.entries.now (output_record_as slim o))) c.in-Metadata.is
           ∙ metadata_texts c.args.self.now m is flags c.args.entries.now c.parts_are_valid.ensures.parts slim c.in-Metadata.field-0 (subst (ShowsMetadata (metadata_at p.bytes)) c.in-Metadata.is metadata)));
+      noted = c.requires.noted;
     }
 
 pub returns-in-Chained : goal.returns-in-Chained
@@ -34,8 +35,9 @@ returns-in-Chained c =
       ok = on_ok_weaker c.add_entries.result (λ e.
           λ m flags slim is event metadata.
           e
-          ∙ (ap (λ es. with_texts c.args.dictionary.now (flat_map (λ e. node_texts_by c.args.self.now (entry_node e)) es)) c.entries_of.ensures
-          ∙ ap (λ z. with_texts c.args.dictionary.now z)
+          ∙ (ap (λ es. with_texts c.args.growing.now.dictionary (flat_map (λ e. node_texts_by c.args.self.now (entry_node e)) es)) c.entries_of.ensures
+          ∙ ap (λ z. with_texts c.args.growing.now.dictionary z)
           (sym (ap (λ o. origin_texts m p (origin_of p (kept_by p flags) c.args.entries.now (output_record_as slim o))) c.in-Chained.is
           ∙ chained_texts c.args.self.now m is flags c.args.entries.now c.in-Chained.number c.in-Chained.field-1)))) c.add_entries.ensures.ok;
+      noted = c.add_entries.ensures.noted;
     }

@@ -1,6 +1,6 @@
 use Rattle.std.specs.Str.{chars}
-use Rattle.std.proofs.Common.{arith, sym, ◌∙◌}
-use Rattle.jfr_mask.specs.Pseudonyms.{has_text}
+use Rattle.std.proofs.Common.{arith, refl, sym, ◌∙◌}
+use Rattle.jfr_mask.specs.Pseudonyms.{has_text, is_descriptor}
 use Rattle.jfr_mask.proofs.ShownLaws.{pseudonym_shown, text_shown}
 use Rattle.jfr_mask.proofs.shown.Shown.of.Goals as goal
 
@@ -9,6 +9,6 @@ returns-then-stays c = text_shown (has_text c.args.known.now) c.args.dictionary.
 
 pub returns : goal.returns
 returns c =
-    pseudonym_shown (has_text c.args.known.now) c.args.dictionary.now (chars c.args.text.now) c.is_descriptor.result c.number_or_next.result (omega arith)
-    c.is_descriptor.ensures c.number_or_next.ensures
-    (sym c.stays.ensures ∙ c.if-stays.false)
+    c.pseudonym.ensures
+    ∙ pseudonym_shown (has_text c.args.known.now) c.args.dictionary.now (chars c.args.text.now) (is_descriptor (chars c.args.text.now)) c.number_or_next.result (omega arith)
+    refl c.number_or_next.ensures (sym c.stays.ensures ∙ c.if-stays.false)
