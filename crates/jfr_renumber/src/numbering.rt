@@ -26,8 +26,8 @@ pub(crate) fn number_class<'a>(alloc: Global, keys: &[UsedKey<'a>]) -> Result<Ve
     let mut firsts = BTreeMap::new(alloc);
     let mut numbers = Vec::with_capacity(alloc, keys.len())?;
     let mut next: u64 = 0;
-    for at in 0..keys.len() {
-        let value = keys[at].value;
+    for used in keys {
+        let value = used.value;
         if let Some(number) = known(&firsts, value) {
             numbers.push(number)?;
             continue;

@@ -18,8 +18,8 @@ pub(crate) fn with_values<'a>(
     ensures values { IfOk result (λ keys. AllByRecursion (HasValue chunk.now) keys.items) }
 {
     let mut keys = Vec::with_capacity(alloc, pairs.len())?;
-    for at in 0..pairs.len() {
-        let (class, key) = pairs[at];
+    for pair in pairs {
+        let (class, key) = *pair;
         let value = value_bytes(chunk, class, key);
         keys.push(UsedKey { class, key, value })?;
     }
