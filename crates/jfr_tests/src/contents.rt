@@ -1,6 +1,9 @@
 //! What files have, as constants.
-use crate::jdk::JDK_LIKE;
-use jfr_fixtures::{CLASSES, NO_CLASSES, NO_POOLS, PLAIN, RINGS, UNKNOWN, chunk_of, jdk_unnamed};
+use crate::pieces::{Piece, source_of, sources_of};
+use jfr_fixtures::{
+    CLASSES, NO_CLASSES, NO_POOLS, PLAIN, RINGS, UNKNOWN, assembled, chunk_of, jdk_after, jdk_like,
+    jdk_unnamed,
+};
 use std::alloc::{AllocError, Global};
 
 /// A part of a file.
@@ -14,10 +17,12 @@ pub(crate) enum Part {
     Start(usize),
     /// A chunk of these records, by the places of its last checkpoint and of its metadata record.
     Chunk(&'static [&'static [u8]], u64, u64),
+    /// A chunk of these pieces, by the same places.
+    Assembled(&'static [Piece], u64, u64),
     /// The chunk that is like the JDK's.
     JdkLike,
     /// This chunk with another first checkpoint, by the places of its last checkpoint and of its metadata record.
-    JdkAfter(&'static [u8], u64, u64),
+    JdkAfter(Piece, u64, u64),
     /// This chunk, where the later thread of key 2 has a Java name of this kind.
     JdkUnnamed(u8),
 }
@@ -46,6 +51,17 @@ pub(crate) const TWO_PLAIN: Content = (&[Part::Plain, Part::Plain], &[]);
 
 pub(crate) const THREE_PLAIN: Content = (&[Part::Plain, Part::Plain, Part::Plain], &[]);
 
+/// A chunk of pieces, by the places of its last checkpoint and of its metadata record.
+fn assembled_chunk(
+    alloc: Global,
+    pieces: &[Piece],
+    last: u64,
+    metadata: u64,
+) -> Result<Vec<u8>, AllocError> {
+    let records = assembled(alloc, &sources_of(alloc, pieces)?)?;
+    chunk_of(alloc, &[&records], last, metadata)
+}
+
 /// The bytes of a part.
 fn part_bytes(alloc: Global, part: Part) -> Result<Vec<u8>, AllocError> {
     match part {
@@ -53,10 +69,9 @@ fn part_bytes(alloc: Global, part: Part) -> Result<Vec<u8>, AllocError> {
         Part::Plain => Vec::from_slice(alloc, &PLAIN),
         Part::Start(size) => Vec::from_slice(alloc, &PLAIN[..size.min(103)]),
         Part::Chunk(records, last, metadata) => chunk_of(alloc, records, last, metadata),
-        Part::JdkLike => Vec::from_slice(alloc, &JDK_LIKE),
-        Part::JdkAfter(first, last, metadata) => {
-            chunk_of(alloc, &[first, &JDK_LIKE[145..]], last, metadata)
-        }
+        Part::Assembled(pieces, last, metadata) => assembled_chunk(alloc, pieces, last, metadata),
+        Part::JdkLike => jdk_like(alloc),
+        Part::JdkAfter(first, last, metadata) => jdk_after(alloc, source_of(first), last, metadata),
         Part::JdkUnnamed(kind) => jdk_unnamed(alloc, kind),
     }
 }

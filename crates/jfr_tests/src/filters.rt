@@ -1,84 +1,27 @@
 //! Scrubs with filters.
-use crate::contents::Part::{Chunk, JdkAfter, JdkLike, JdkUnnamed};
+use crate::contents::Part::{Assembled, Chunk, JdkAfter, JdkLike, JdkUnnamed};
 use crate::contents::{Content, OF_RINGS};
-use crate::jdk::{
-    ENTER_AND_LOAD_CLASSES, ENTER_CLASSES, LOAD_CLASSES, NO_JDK_EVENT_CLASSES,
-    PARK_AND_ENTER_CLASSES, PARK_CLASSES,
-};
 use crate::outputs::{Scrub, see_scrub, see_scrubs};
+use crate::pieces::Piece::{
+    AllLater, Enter, EnterAndLoadClasses, EnterClasses, Load, LoadClasses, NoJdkEventClasses,
+    Nothing, NothingLater, OneTrace, Park, ParkAndEnterClasses, ParkClasses, Renamed, Symbols,
+    ThreadAndSymbols, Unnamed,
+};
 use jfr_fixtures::{BYTES_LEFT, CLASSES, CLASSES_OF_A, CLASSES_OF_B, NO_EVENT_CLASSES, NO_POOLS};
 use std::alloc::Global;
 use std::process::Abort;
 use std::test::Fail;
 
-/// What remains of the first checkpoint of the chunk that is like the JDK's: a thread and three symbols;
-/// the symbols; and nothing.
-const THREAD_AND_SYMBOLS: &[u8] = &[
-    0xBD, 0x80, 0x80, 0, 1, 0, 0, 0, 0, 2, 0x1E, 1, 1, 3, 4, 0x6D, 0x61, 0x69, 0x6E, 0x64, 3, 4,
-    0x6D, 0x61, 0x69, 0x6E, 1, 0x20, 3, 1, 3, 0x10, 0x6A, 0x61, 0x76, 0x61, 0x2F, 0x6C, 0x61, 0x6E,
-    0x67, 0x2F, 0x4F, 0x62, 0x6A, 0x65, 0x63, 0x74, 2, 3, 4, 0x77, 0x61, 0x69, 0x74, 3, 3, 3, 0x28,
-    0x29, 0x56,
-];
-
-const SYMBOLS: &[u8] = &[
-    0xAC, 0x80, 0x80, 0, 1, 0, 0, 0, 0, 1, 0x20, 3, 1, 3, 0x10, 0x6A, 0x61, 0x76, 0x61, 0x2F, 0x6C,
-    0x61, 0x6E, 0x67, 0x2F, 0x4F, 0x62, 0x6A, 0x65, 0x63, 0x74, 2, 3, 4, 0x77, 0x61, 0x69, 0x74, 3,
-    3, 3, 0x28, 0x29, 0x56,
-];
-
-const NOTHING: &[u8] = &[0x8A, 0x80, 0x80, 0, 1, 0, 0, 0, 0, 0];
-
-/// What remains of its last checkpoint: a class, a method and a stack trace; the later thread of key 2
-/// with its stack trace and all that this leads to; nothing; and all.
-const ONE_TRACE: &[u8] = &[
-    0xA7, 0x80, 0x80, 0, 1, 0, 0, 0xF5, 0xF6, 0xFF, 0xFF, 0xFF, 0xFF, 0xFF, 0xFF, 0xFF, 0, 3, 0x1F,
-    1, 1, 1, 1, 0x21, 1, 1, 1, 2, 3, 1, 0, 0x23, 1, 1, 0, 1, 1, 0x0A, 2,
-];
-
-const RENAMED: &[u8] = &[
-    0xDE, 0x80, 0x80, 0, 1, 0, 0, 0x86, 0xF7, 0xFF, 0xFF, 0xFF, 0xFF, 0xFF, 0xFF, 0xFF, 0, 5, 0x1E,
-    1, 2, 3, 1, 0x77, 0x65, 3, 0x0E, 0x77, 0x6F, 0x72, 0x6B, 0x65, 0x72, 0x2D, 0x72, 0x65, 0x6E,
-    0x61, 0x6D, 0x65, 0x64, 2, 0x1F, 2, 1, 1, 1, 2, 4, 1, 0x20, 2, 4, 3, 8, 0x61, 0x70, 0x70, 0x2F,
-    0x4C, 0x6F, 0x63, 0x6B, 5, 3, 3, 0x72, 0x75, 0x6E, 0x21, 2, 1, 1, 2, 3, 1, 0, 2, 2, 5, 3, 1, 0,
-    0x23, 1, 2, 0, 2, 2, 0x14, 4, 1, 0x0A, 2,
-];
-
-const NOTHING_LATER: &[u8] = &[
-    0x92, 0x80, 0x80, 0, 1, 0, 0, 0xA8, 0xF7, 0xFF, 0xFF, 0xFF, 0xFF, 0xFF, 0xFF, 0xFF, 0, 0,
-];
-
-const ALL_LATER: &[u8] = &[
-    0xE4, 0x80, 0x80, 0, 1, 0, 0, 0xDF, 0xF6, 0xFF, 0xFF, 0xFF, 0xFF, 0xFF, 0xFF, 0xFF, 0, 5, 0x1E,
-    1, 2, 3, 1, 0x77, 0x65, 3, 0x0E, 0x77, 0x6F, 0x72, 0x6B, 0x65, 0x72, 0x2D, 0x72, 0x65, 0x6E,
-    0x61, 0x6D, 0x65, 0x64, 2, 0x1F, 2, 1, 1, 1, 2, 4, 1, 0x20, 2, 4, 3, 8, 0x61, 0x70, 0x70, 0x2F,
-    0x4C, 0x6F, 0x63, 0x6B, 5, 3, 3, 0x72, 0x75, 0x6E, 0x21, 2, 1, 1, 2, 3, 1, 0, 2, 2, 5, 3, 1, 0,
-    0x23, 2, 1, 0, 1, 1, 0x0A, 2, 2, 0, 2, 2, 0x14, 4, 1, 0x0A, 2,
-];
-
-/// The later thread of key 2 and what it leads to, where this thread has the system name `w` and no Java name.
-const UNNAMED: &[u8] = &[
-    0xCF, 0x80, 0x80, 0, 1, 0, 0, 0xC6, 0xF8, 0xFF, 0xFF, 0xFF, 0xFF, 0xFF, 0xFF, 0xFF, 0, 5, 0x1E,
-    1, 2, 3, 1, 0x77, 0x65, 0, 2, 0x1F, 2, 1, 1, 1, 2, 4, 1, 0x20, 2, 4, 3, 8, 0x61, 0x70, 0x70,
-    0x2F, 0x4C, 0x6F, 0x63, 0x6B, 5, 3, 3, 0x72, 0x75, 0x6E, 0x21, 2, 1, 1, 2, 3, 1, 0, 2, 2, 5, 3,
-    1, 0, 0x23, 1, 2, 0, 2, 2, 0x14, 4, 1, 0x0A, 2,
-];
-
-/// The three events of the chunk that is like the JDK's.
-const PARK: &[u8] = &[0x8B, 0x80, 0x80, 0, 0x65, 0xE8, 7, 0x32, 1, 1, 1];
-
-const ENTER: &[u8] = &[0x8B, 0x80, 0x80, 0, 0x66, 0xCC, 8, 0x3C, 2, 2, 2];
-
-const LOAD: &[u8] = &[0x8B, 0x80, 0x80, 0, 0x67, 0xB0, 9, 0x3E, 0x80, 0, 0];
-
-/// What stays of it if no event is kept, and if the second is and the later thread of key 2 has no Java name. The
-/// bytes that are changed are the first two of the delta of the last checkpoint.
+/// What stays of the chunk that is like the JDK's if no event is kept. The bytes that are changed are the first two of
+/// the delta of the last checkpoint.
 const NOTHING_LEFT: Content = (
-    &[Chunk(&[NOTHING, NO_JDK_EVENT_CLASSES, NOTHING_LATER], 768, 78)],
+    &[Assembled(&[Nothing, NoJdkEventClasses, NothingLater], 768, 78)],
     &[(775, 0xC4), (776, 0xFA)],
 );
 
+/// What stays of it if the second event is kept and the later thread of key 2 has no Java name.
 const UNNAMED_LEFT: Content = (
-    &[Chunk(&[SYMBOLS, ENTER, ENTER_CLASSES, UNNAMED], 1022, 123)],
+    &[Assembled(&[Symbols, Enter, EnterClasses, Unnamed], 1022, 123)],
     &[(1029, 0xC6), (1030, 0xF8)],
 );
 
@@ -87,11 +30,11 @@ const UNNAMED_LEFT: Content = (
 static BY_EVENTS: [Scrub; 3] = [
     (
         &["scrub", "--include-events", "ThreadPark", "a.jfr", "b.jfr"], (&[JdkLike], &[]), 0, "",
-        (&[Chunk(&[THREAD_AND_SYMBOLS, PARK, PARK_CLASSES, ONE_TRACE], 1032, 140)], &[(1039, 0xBC), (1040, 0xF8)]),
+        (&[Assembled(&[ThreadAndSymbols, Park, ParkClasses, OneTrace], 1032, 140)], &[(1039, 0xBC), (1040, 0xF8)]),
     ),
     (
         &["scrub", "--exclude-events", "jdk.?,park", "a.jfr", "b.jfr"], (&[JdkLike], &[]), 0, "",
-        (&[JdkAfter(THREAD_AND_SYMBOLS, 1253, 162)], &[(1260, 0xDF), (1261, 0xF6)]),
+        (&[JdkAfter(ThreadAndSymbols, 1253, 162)], &[(1260, 0xDF), (1261, 0xF6)]),
     ),
     (
         &["scrub", "--include-events", "t.A", "a.jfr", "b.jfr"], (&[JdkLike], &[]), 0, "",
@@ -104,15 +47,15 @@ static BY_EVENTS: [Scrub; 3] = [
 static BY_THREADS: [Scrub; 3] = [
     (
         &["scrub", "--include-threads", "worker*", "a.jfr", "b.jfr"], (&[JdkLike], &[]), 0, "",
-        (&[Chunk(&[SYMBOLS, ENTER, ENTER_CLASSES, RENAMED], 1022, 123)], &[(1029, 0xC6), (1030, 0xF8)]),
+        (&[Assembled(&[Symbols, Enter, EnterClasses, Renamed], 1022, 123)], &[(1029, 0xC6), (1030, 0xF8)]),
     ),
     (
         &["scrub", "--exclude-threads", "main", "a.jfr", "b.jfr"], (&[JdkLike], &[]), 0, "",
-        (&[Chunk(&[SYMBOLS, ENTER, LOAD, ENTER_AND_LOAD_CLASSES, RENAMED], 1135, 134)], &[(1142, 0xD5), (1143, 0xF7)]),
+        (&[Assembled(&[Symbols, Enter, Load, EnterAndLoadClasses, Renamed], 1135, 134)], &[(1142, 0xD5), (1143, 0xF7)]),
     ),
     (
         &["scrub", "--include-threads", "*", "a.jfr", "b.jfr"], (&[JdkLike], &[]), 0, "",
-        (&[Chunk(&[THREAD_AND_SYMBOLS, PARK, ENTER, PARK_AND_ENTER_CLASSES, ALL_LATER], 1141, 151)], &[(1148, 0xCF), (1149, 0xF7)]),
+        (&[Assembled(&[ThreadAndSymbols, Park, Enter, ParkAndEnterClasses, AllLater], 1141, 151)], &[(1148, 0xCF), (1149, 0xF7)]),
     ),
 ];
 
@@ -121,7 +64,7 @@ static BY_THREADS: [Scrub; 3] = [
 static BY_CATEGORIES: [Scrub; 1] = [
     (
         &["scrub", "--include-categories", "Operating*", "a.jfr", "b.jfr"], (&[JdkLike], &[]), 0, "",
-        (&[Chunk(&[NOTHING, LOAD, LOAD_CLASSES, NOTHING_LATER], 939, 89)], &[(946, 0x99), (947, 0xF9)]),
+        (&[Assembled(&[Nothing, Load, LoadClasses, NothingLater], 939, 89)], &[(946, 0x99), (947, 0xF9)]),
     ),
 ];
 
@@ -132,19 +75,19 @@ static BY_CATEGORIES: [Scrub; 1] = [
 static BY_TIMES: [Scrub; 4] = [
     (
         &["scrub", "--from", "2050", "--to", "2100", "a.jfr", "b.jfr"], (&[JdkLike], &[]), 0, "",
-        (&[Chunk(&[THREAD_AND_SYMBOLS, PARK, PARK_CLASSES, ONE_TRACE], 1032, 140)], &[(1039, 0xBC), (1040, 0xF8)]),
+        (&[Assembled(&[ThreadAndSymbols, Park, ParkClasses, OneTrace], 1032, 140)], &[(1039, 0xBC), (1040, 0xF8)]),
     ),
     (
         &["scrub", "--from", "2160", "a.jfr", "b.jfr"], (&[JdkLike], &[]), 0, "",
-        (&[Chunk(&[SYMBOLS, ENTER, LOAD, ENTER_AND_LOAD_CLASSES, RENAMED], 1135, 134)], &[(1142, 0xD5), (1143, 0xF7)]),
+        (&[Assembled(&[Symbols, Enter, Load, EnterAndLoadClasses, Renamed], 1135, 134)], &[(1142, 0xD5), (1143, 0xF7)]),
     ),
     (
         &["scrub", "--from", "2161", "--to", "2200", "--always", "ThreadPark", "a.jfr", "b.jfr"], (&[JdkLike], &[]), 0, "",
-        (&[Chunk(&[THREAD_AND_SYMBOLS, PARK, PARK_CLASSES, ONE_TRACE], 1032, 140)], &[(1039, 0xBC), (1040, 0xF8)]),
+        (&[Assembled(&[ThreadAndSymbols, Park, ParkClasses, OneTrace], 1032, 140)], &[(1039, 0xBC), (1040, 0xF8)]),
     ),
     (
         &["scrub", "--include-events", "ThreadPark", "--describe", "JavaMonitorEnter", "a.jfr", "b.jfr"], (&[JdkLike], &[]), 0, "",
-        (&[Chunk(&[THREAD_AND_SYMBOLS, PARK, PARK_AND_ENTER_CLASSES, ONE_TRACE], 1130, 140)], &[(1137, 0xDA), (1138, 0xF7)]),
+        (&[Assembled(&[ThreadAndSymbols, Park, ParkAndEnterClasses, OneTrace], 1130, 140)], &[(1137, 0xDA), (1138, 0xF7)]),
     ),
 ];
 

@@ -1,271 +1,144 @@
-//! The chunk that is like the JDK's, and the metadata records of its scrubs.
+//! What scrubbing leaves of the records of the chunk that is like the JDK's.
+use jfr_fixtures::Source;
+use jfr_fixtures::Source::{Bytes, Lines};
 
-/// A chunk whose classes have names of the JDK's. Its events are, in order: `jdk.ThreadPark` on the thread
-/// `main`, `jdk.JavaMonitorEnter` on the thread with key 2, and `jdk.CPULoad`, which has no thread, and the
-/// categories `Operating System` and `Processor`. The key 2 of threads occurs twice: as `worker-1` in the
-/// first of two checkpoints, and as `worker-renamed` in the last.
+/// The event of `jdk.ThreadPark`, at 1000 for 50, with thread, stack and class 1.
+pub(crate) static PARK: Source = Bytes(b"\x8B\x80\x80\0\x65\xE8\x07\x32\x01\x01\x01");
+
+/// The event of `jdk.JavaMonitorEnter`, at 1100 for 60, with thread, stack and class 2.
+pub(crate) static ENTER: Source = Bytes(b"\x8B\x80\x80\0\x66\xCC\x08\x3C\x02\x02\x02");
+
+/// The event of `jdk.CPULoad`, at 1200, with 0.25.
+pub(crate) static LOAD: Source = Bytes(b"\x8B\x80\x80\0\x67\xB0\x09\x3E\x80\0\0");
+
+/// The metadata record, if only `jdk.ThreadPark` has events.
+pub(crate) static PARK_CLASSES: Source = jfr_fixtures::PARK_CLASSES;
+
+/// The metadata record, if only `jdk.JavaMonitorEnter` has events.
+pub(crate) static ENTER_CLASSES: Source = jfr_fixtures::ENTER_CLASSES;
+
+/// The metadata record, if only `jdk.CPULoad` has events.
+pub(crate) static LOAD_CLASSES: Source = jfr_fixtures::LOAD_CLASSES;
+
+/// The metadata record, if all but `jdk.CPULoad` have events.
+pub(crate) static PARK_AND_ENTER_CLASSES: Source = jfr_fixtures::PARK_AND_ENTER_CLASSES;
+
+/// The metadata record, if all but `jdk.ThreadPark` have events.
+pub(crate) static ENTER_AND_LOAD_CLASSES: Source = jfr_fixtures::ENTER_AND_LOAD_CLASSES;
+
+/// The metadata record, if no class has events.
+pub(crate) static NO_JDK_EVENT_CLASSES: Source = jfr_fixtures::NO_JDK_EVENT_CLASSES;
+
+/// The first checkpoint with the thread of key 1 and the symbols.
+pub(crate) static THREAD_AND_SYMBOLS: Source = jfr_fixtures::THREAD_AND_SYMBOLS;
+
+/// The first checkpoint with the symbols.
 #[rattlefmt::skip]
-pub(crate) const JDK_LIKE: [u8; 1369] = [
-    0x46, 0x4C, 0x52, 0x00, 0x00, 0x02, 0x00, 0x01, 0x00, 0x00, 0x00, 0x00, 0x00, 0x00, 0x05, 0x59,
-    0x00, 0x00, 0x00, 0x00, 0x00, 0x00, 0x04, 0xF5, 0x00, 0x00, 0x00, 0x00, 0x00, 0x00, 0x00, 0xB2,
-    0x00, 0x00, 0x00, 0x00, 0x00, 0x00, 0x03, 0xE8, 0x00, 0x00, 0x00, 0x00, 0x00, 0x00, 0x00, 0x05,
-    0x00, 0x00, 0x00, 0x00, 0x00, 0x00, 0x00, 0x00, 0x00, 0x00, 0x00, 0x00, 0x3B, 0x9A, 0xCA, 0x00,
-    0x00, 0x00, 0x00, 0x01, 0xCD, 0x80, 0x80, 0x00, 0x01, 0x00, 0x00, 0x00, 0x00, 0x02, 0x1E, 0x02,
-    0x01, 0x03, 0x04, 0x6D, 0x61, 0x69, 0x6E, 0x64, 0x03, 0x04, 0x6D, 0x61, 0x69, 0x6E, 0x01, 0x02,
-    0x03, 0x01, 0x77, 0x65, 0x03, 0x08, 0x77, 0x6F, 0x72, 0x6B, 0x65, 0x72, 0x2D, 0x31, 0x02, 0x20,
-    0x03, 0x01, 0x03, 0x10, 0x6A, 0x61, 0x76, 0x61, 0x2F, 0x6C, 0x61, 0x6E, 0x67, 0x2F, 0x4F, 0x62,
-    0x6A, 0x65, 0x63, 0x74, 0x02, 0x03, 0x04, 0x77, 0x61, 0x69, 0x74, 0x03, 0x03, 0x03, 0x28, 0x29,
-    0x56, 0x8B, 0x80, 0x80, 0x00, 0x65, 0xE8, 0x07, 0x32, 0x01, 0x01, 0x01, 0x8B, 0x80, 0x80, 0x00,
-    0x66, 0xCC, 0x08, 0x3C, 0x02, 0x02, 0x02, 0x8B, 0x80, 0x80, 0x00, 0x67, 0xB0, 0x09, 0x3E, 0x80,
-    0x00, 0x00, 0xC3, 0x88, 0x80, 0x00, 0x00, 0x00, 0x00, 0x01, 0x46, 0x03, 0x04, 0x72, 0x6F, 0x6F,
-    0x74, 0x03, 0x08, 0x6D, 0x65, 0x74, 0x61, 0x64, 0x61, 0x74, 0x61, 0x03, 0x05, 0x63, 0x6C, 0x61,
-    0x73, 0x73, 0x03, 0x04, 0x6E, 0x61, 0x6D, 0x65, 0x03, 0x04, 0x6C, 0x6F, 0x6E, 0x67, 0x03, 0x02,
-    0x69, 0x64, 0x03, 0x02, 0x32, 0x30, 0x03, 0x03, 0x69, 0x6E, 0x74, 0x03, 0x02, 0x32, 0x31, 0x03,
-    0x10, 0x6A, 0x61, 0x76, 0x61, 0x2E, 0x6C, 0x61, 0x6E, 0x67, 0x2E, 0x53, 0x74, 0x72, 0x69, 0x6E,
-    0x67, 0x03, 0x02, 0x32, 0x32, 0x03, 0x07, 0x62, 0x6F, 0x6F, 0x6C, 0x65, 0x61, 0x6E, 0x03, 0x02,
-    0x32, 0x33, 0x03, 0x05, 0x66, 0x6C, 0x6F, 0x61, 0x74, 0x03, 0x02, 0x32, 0x34, 0x03, 0x10, 0x6A,
-    0x64, 0x6B, 0x2E, 0x6A, 0x66, 0x72, 0x2E, 0x43, 0x61, 0x74, 0x65, 0x67, 0x6F, 0x72, 0x79, 0x03,
-    0x02, 0x32, 0x35, 0x03, 0x05, 0x66, 0x69, 0x65, 0x6C, 0x64, 0x03, 0x05, 0x76, 0x61, 0x6C, 0x75,
-    0x65, 0x03, 0x09, 0x64, 0x69, 0x6D, 0x65, 0x6E, 0x73, 0x69, 0x6F, 0x6E, 0x03, 0x01, 0x31, 0x03,
-    0x10, 0x6A, 0x61, 0x76, 0x61, 0x2E, 0x6C, 0x61, 0x6E, 0x67, 0x2E, 0x54, 0x68, 0x72, 0x65, 0x61,
-    0x64, 0x03, 0x02, 0x33, 0x30, 0x03, 0x06, 0x6F, 0x73, 0x4E, 0x61, 0x6D, 0x65, 0x03, 0x0A, 0x6F,
-    0x73, 0x54, 0x68, 0x72, 0x65, 0x61, 0x64, 0x49, 0x64, 0x03, 0x08, 0x6A, 0x61, 0x76, 0x61, 0x4E,
-    0x61, 0x6D, 0x65, 0x03, 0x0C, 0x6A, 0x61, 0x76, 0x61, 0x54, 0x68, 0x72, 0x65, 0x61, 0x64, 0x49,
-    0x64, 0x03, 0x0F, 0x6A, 0x61, 0x76, 0x61, 0x2E, 0x6C, 0x61, 0x6E, 0x67, 0x2E, 0x43, 0x6C, 0x61,
-    0x73, 0x73, 0x03, 0x02, 0x33, 0x31, 0x03, 0x02, 0x33, 0x32, 0x03, 0x0C, 0x63, 0x6F, 0x6E, 0x73,
-    0x74, 0x61, 0x6E, 0x74, 0x50, 0x6F, 0x6F, 0x6C, 0x03, 0x04, 0x74, 0x72, 0x75, 0x65, 0x03, 0x09,
-    0x6D, 0x6F, 0x64, 0x69, 0x66, 0x69, 0x65, 0x72, 0x73, 0x03, 0x10, 0x6A, 0x64, 0x6B, 0x2E, 0x74,
-    0x79, 0x70, 0x65, 0x73, 0x2E, 0x53, 0x79, 0x6D, 0x62, 0x6F, 0x6C, 0x03, 0x06, 0x73, 0x74, 0x72,
-    0x69, 0x6E, 0x67, 0x03, 0x10, 0x6A, 0x64, 0x6B, 0x2E, 0x74, 0x79, 0x70, 0x65, 0x73, 0x2E, 0x4D,
-    0x65, 0x74, 0x68, 0x6F, 0x64, 0x03, 0x02, 0x33, 0x33, 0x03, 0x04, 0x74, 0x79, 0x70, 0x65, 0x03,
-    0x0A, 0x64, 0x65, 0x73, 0x63, 0x72, 0x69, 0x70, 0x74, 0x6F, 0x72, 0x03, 0x06, 0x68, 0x69, 0x64,
-    0x64, 0x65, 0x6E, 0x03, 0x14, 0x6A, 0x64, 0x6B, 0x2E, 0x74, 0x79, 0x70, 0x65, 0x73, 0x2E, 0x53,
-    0x74, 0x61, 0x63, 0x6B, 0x46, 0x72, 0x61, 0x6D, 0x65, 0x03, 0x02, 0x33, 0x34, 0x03, 0x06, 0x6D,
-    0x65, 0x74, 0x68, 0x6F, 0x64, 0x03, 0x0A, 0x6C, 0x69, 0x6E, 0x65, 0x4E, 0x75, 0x6D, 0x62, 0x65,
-    0x72, 0x03, 0x0D, 0x62, 0x79, 0x74, 0x65, 0x63, 0x6F, 0x64, 0x65, 0x49, 0x6E, 0x64, 0x65, 0x78,
-    0x03, 0x14, 0x6A, 0x64, 0x6B, 0x2E, 0x74, 0x79, 0x70, 0x65, 0x73, 0x2E, 0x53, 0x74, 0x61, 0x63,
-    0x6B, 0x54, 0x72, 0x61, 0x63, 0x65, 0x03, 0x02, 0x33, 0x35, 0x03, 0x09, 0x74, 0x72, 0x75, 0x6E,
-    0x63, 0x61, 0x74, 0x65, 0x64, 0x03, 0x06, 0x66, 0x72, 0x61, 0x6D, 0x65, 0x73, 0x03, 0x0E, 0x6A,
-    0x64, 0x6B, 0x2E, 0x54, 0x68, 0x72, 0x65, 0x61, 0x64, 0x50, 0x61, 0x72, 0x6B, 0x03, 0x03, 0x31,
-    0x30, 0x31, 0x03, 0x09, 0x73, 0x75, 0x70, 0x65, 0x72, 0x54, 0x79, 0x70, 0x65, 0x03, 0x0D, 0x6A,
-    0x64, 0x6B, 0x2E, 0x6A, 0x66, 0x72, 0x2E, 0x45, 0x76, 0x65, 0x6E, 0x74, 0x03, 0x09, 0x73, 0x74,
-    0x61, 0x72, 0x74, 0x54, 0x69, 0x6D, 0x65, 0x03, 0x08, 0x64, 0x75, 0x72, 0x61, 0x74, 0x69, 0x6F,
-    0x6E, 0x03, 0x0B, 0x65, 0x76, 0x65, 0x6E, 0x74, 0x54, 0x68, 0x72, 0x65, 0x61, 0x64, 0x03, 0x0A,
-    0x73, 0x74, 0x61, 0x63, 0x6B, 0x54, 0x72, 0x61, 0x63, 0x65, 0x03, 0x0B, 0x70, 0x61, 0x72, 0x6B,
-    0x65, 0x64, 0x43, 0x6C, 0x61, 0x73, 0x73, 0x03, 0x0A, 0x61, 0x6E, 0x6E, 0x6F, 0x74, 0x61, 0x74,
-    0x69, 0x6F, 0x6E, 0x03, 0x07, 0x76, 0x61, 0x6C, 0x75, 0x65, 0x2D, 0x30, 0x03, 0x10, 0x4A, 0x61,
-    0x76, 0x61, 0x20, 0x41, 0x70, 0x70, 0x6C, 0x69, 0x63, 0x61, 0x74, 0x69, 0x6F, 0x6E, 0x03, 0x14,
-    0x6A, 0x64, 0x6B, 0x2E, 0x4A, 0x61, 0x76, 0x61, 0x4D, 0x6F, 0x6E, 0x69, 0x74, 0x6F, 0x72, 0x45,
-    0x6E, 0x74, 0x65, 0x72, 0x03, 0x03, 0x31, 0x30, 0x32, 0x03, 0x0C, 0x6D, 0x6F, 0x6E, 0x69, 0x74,
-    0x6F, 0x72, 0x43, 0x6C, 0x61, 0x73, 0x73, 0x03, 0x0B, 0x6A, 0x64, 0x6B, 0x2E, 0x43, 0x50, 0x55,
-    0x4C, 0x6F, 0x61, 0x64, 0x03, 0x03, 0x31, 0x30, 0x33, 0x03, 0x0C, 0x6D, 0x61, 0x63, 0x68, 0x69,
-    0x6E, 0x65, 0x54, 0x6F, 0x74, 0x61, 0x6C, 0x03, 0x10, 0x4F, 0x70, 0x65, 0x72, 0x61, 0x74, 0x69,
-    0x6E, 0x67, 0x20, 0x53, 0x79, 0x73, 0x74, 0x65, 0x6D, 0x03, 0x07, 0x76, 0x61, 0x6C, 0x75, 0x65,
-    0x2D, 0x31, 0x03, 0x09, 0x50, 0x72, 0x6F, 0x63, 0x65, 0x73, 0x73, 0x6F, 0x72, 0x00, 0x00, 0x01,
-    0x01, 0x00, 0x0F, 0x02, 0x02, 0x03, 0x04, 0x05, 0x06, 0x00, 0x02, 0x02, 0x03, 0x07, 0x05, 0x08,
-    0x00, 0x02, 0x02, 0x03, 0x09, 0x05, 0x0A, 0x00, 0x02, 0x02, 0x03, 0x0B, 0x05, 0x0C, 0x00, 0x02,
-    0x02, 0x03, 0x0D, 0x05, 0x0E, 0x00, 0x02, 0x02, 0x03, 0x0F, 0x05, 0x10, 0x01, 0x11, 0x03, 0x03,
-    0x12, 0x02, 0x0A, 0x13, 0x14, 0x00, 0x02, 0x02, 0x03, 0x15, 0x05, 0x16, 0x04, 0x11, 0x02, 0x03,
-    0x17, 0x02, 0x0A, 0x00, 0x11, 0x02, 0x03, 0x18, 0x02, 0x06, 0x00, 0x11, 0x02, 0x03, 0x19, 0x02,
-    0x0A, 0x00, 0x11, 0x02, 0x03, 0x1A, 0x02, 0x06, 0x00, 0x02, 0x02, 0x03, 0x1B, 0x05, 0x1C, 0x02,
-    0x11, 0x03, 0x03, 0x03, 0x02, 0x1D, 0x1E, 0x1F, 0x00, 0x11, 0x02, 0x03, 0x20, 0x02, 0x08, 0x00,
-    0x02, 0x02, 0x03, 0x21, 0x05, 0x1D, 0x01, 0x11, 0x02, 0x03, 0x22, 0x02, 0x0A, 0x00, 0x02, 0x02,
-    0x03, 0x23, 0x05, 0x24, 0x05, 0x11, 0x03, 0x03, 0x25, 0x02, 0x1C, 0x1E, 0x1F, 0x00, 0x11, 0x03,
-    0x03, 0x03, 0x02, 0x1D, 0x1E, 0x1F, 0x00, 0x11, 0x03, 0x03, 0x26, 0x02, 0x1D, 0x1E, 0x1F, 0x00,
-    0x11, 0x02, 0x03, 0x20, 0x02, 0x08, 0x00, 0x11, 0x02, 0x03, 0x27, 0x02, 0x0C, 0x00, 0x02, 0x02,
-    0x03, 0x28, 0x05, 0x29, 0x03, 0x11, 0x03, 0x03, 0x2A, 0x02, 0x24, 0x1E, 0x1F, 0x00, 0x11, 0x02,
-    0x03, 0x2B, 0x02, 0x08, 0x00, 0x11, 0x02, 0x03, 0x2C, 0x02, 0x08, 0x00, 0x02, 0x02, 0x03, 0x2D,
-    0x05, 0x2E, 0x02, 0x11, 0x02, 0x03, 0x2F, 0x02, 0x0C, 0x00, 0x11, 0x03, 0x03, 0x30, 0x02, 0x29,
-    0x13, 0x14, 0x00, 0x02, 0x03, 0x03, 0x31, 0x05, 0x32, 0x33, 0x34, 0x06, 0x11, 0x02, 0x03, 0x35,
-    0x02, 0x06, 0x00, 0x11, 0x02, 0x03, 0x36, 0x02, 0x06, 0x00, 0x11, 0x03, 0x03, 0x37, 0x02, 0x16,
-    0x1E, 0x1F, 0x00, 0x11, 0x03, 0x03, 0x38, 0x02, 0x2E, 0x1E, 0x1F, 0x00, 0x11, 0x03, 0x03, 0x39,
-    0x02, 0x1C, 0x1E, 0x1F, 0x00, 0x3A, 0x02, 0x02, 0x10, 0x3B, 0x3C, 0x00, 0x02, 0x03, 0x03, 0x3D,
-    0x05, 0x3E, 0x33, 0x34, 0x06, 0x11, 0x02, 0x03, 0x35, 0x02, 0x06, 0x00, 0x11, 0x02, 0x03, 0x36,
-    0x02, 0x06, 0x00, 0x11, 0x03, 0x03, 0x37, 0x02, 0x16, 0x1E, 0x1F, 0x00, 0x11, 0x03, 0x03, 0x38,
-    0x02, 0x2E, 0x1E, 0x1F, 0x00, 0x11, 0x03, 0x03, 0x3F, 0x02, 0x1C, 0x1E, 0x1F, 0x00, 0x3A, 0x02,
-    0x02, 0x10, 0x3B, 0x3C, 0x00, 0x02, 0x03, 0x03, 0x40, 0x05, 0x41, 0x33, 0x34, 0x03, 0x11, 0x02,
-    0x03, 0x35, 0x02, 0x06, 0x00, 0x11, 0x02, 0x03, 0x42, 0x02, 0x0E, 0x00, 0x3A, 0x03, 0x02, 0x10,
-    0x3B, 0x43, 0x44, 0x45, 0x00, 0xE4, 0x80, 0x80, 0x00, 0x01, 0x00, 0x00, 0xCF, 0xF6, 0xFF, 0xFF,
-    0xFF, 0xFF, 0xFF, 0xFF, 0xFF, 0x00, 0x05, 0x1E, 0x01, 0x02, 0x03, 0x01, 0x77, 0x65, 0x03, 0x0E,
-    0x77, 0x6F, 0x72, 0x6B, 0x65, 0x72, 0x2D, 0x72, 0x65, 0x6E, 0x61, 0x6D, 0x65, 0x64, 0x02, 0x1F,
-    0x02, 0x01, 0x01, 0x01, 0x02, 0x04, 0x01, 0x20, 0x02, 0x04, 0x03, 0x08, 0x61, 0x70, 0x70, 0x2F,
-    0x4C, 0x6F, 0x63, 0x6B, 0x05, 0x03, 0x03, 0x72, 0x75, 0x6E, 0x21, 0x02, 0x01, 0x01, 0x02, 0x03,
-    0x01, 0x00, 0x02, 0x02, 0x05, 0x03, 0x01, 0x00, 0x23, 0x02, 0x01, 0x00, 0x01, 0x01, 0x0A, 0x02,
-    0x02, 0x00, 0x02, 0x02, 0x14, 0x04, 0x01, 0x0A, 0x02,
-];
+pub(crate) static SYMBOLS: Source = Lines(&[
+    b"\xAC\x80\x80\0\x01\0\0\0\0\x01", // 44 bytes, a checkpoint at 0 of one pool
+    b"\x20\x03",                       // three of jdk.types.Symbol
+    b"\x01\x03\x10java/lang/Object",
+    b"\x02\x03\x04wait",
+    b"\x03\x03\x03()V",
+]);
 
-/// The classes with the event class `jdk.ThreadPark` only.
-pub(crate) const PARK_CLASSES: &[u8] = b"\
-    \xFC\x86\x80\x80\0\0\0\0\x01\x3D\
-    \x03\x04root\x03\x08metadata\x03\x05class\x03\x04name\x03\x04long\x03\x02id\x03\x0220\
-    \x03\x03int\x03\x0221\x03\x10java.lang.String\x03\x0222\x03\x07boolean\x03\x0223\x03\x05float\
-    \x03\x0224\x03\x10jdk.jfr.Category\x03\x0225\x03\x05field\x03\x05value\x03\x09dimension\
-    \x03\x011\x03\x10java.lang.Thread\x03\x0230\x03\x06osName\x03\x0AosThreadId\x03\x08javaName\
-    \x03\x0CjavaThreadId\x03\x0Fjava.lang.Class\x03\x0231\x03\x0232\x03\x0CconstantPool\
-    \x03\x04true\x03\x09modifiers\x03\x10jdk.types.Symbol\x03\x06string\x03\x10jdk.types.Method\
-    \x03\x0233\x03\x04type\x03\x0Adescriptor\x03\x06hidden\x03\x14jdk.types.StackFrame\x03\x0234\
-    \x03\x06method\x03\x0AlineNumber\x03\x0DbytecodeIndex\x03\x14jdk.types.StackTrace\x03\x0235\
-    \x03\x09truncated\x03\x06frames\x03\x0Ejdk.ThreadPark\x03\x03101\x03\x09superType\
-    \x03\x0Djdk.jfr.Event\x03\x09startTime\x03\x08duration\x03\x0BeventThread\x03\x0AstackTrace\
-    \x03\x0BparkedClass\x03\x0Aannotation\x03\x07value-0\x03\x10Java Application\
-    \0\0\x01\x01\0\x0D\x02\x02\x03\x04\x05\x06\0\x02\x02\x03\x07\x05\x08\0\
-    \x02\x02\x03\x09\x05\x0A\0\x02\x02\x03\x0B\x05\x0C\0\x02\x02\x03\x0D\x05\x0E\0\
-    \x02\x02\x03\x0F\x05\x10\x01\x11\x03\x03\x12\x02\x0A\x13\x14\0\x02\x02\x03\x15\x05\x16\x04\
-    \x11\x02\x03\x17\x02\x0A\0\x11\x02\x03\x18\x02\x06\0\x11\x02\x03\x19\x02\x0A\0\
-    \x11\x02\x03\x1A\x02\x06\0\x02\x02\x03\x1B\x05\x1C\x02\x11\x03\x03\x03\x02\x1D\x1E\x1F\0\
-    \x11\x02\x03\x20\x02\x08\0\x02\x02\x03\x21\x05\x1D\x01\x11\x02\x03\x22\x02\x0A\0\
-    \x02\x02\x03\x23\x05\x24\x05\x11\x03\x03\x25\x02\x1C\x1E\x1F\0\
-    \x11\x03\x03\x03\x02\x1D\x1E\x1F\0\x11\x03\x03\x26\x02\x1D\x1E\x1F\0\x11\x02\x03\x20\x02\x08\0\
-    \x11\x02\x03\x27\x02\x0C\0\x02\x02\x03\x28\x05\x29\x03\x11\x03\x03\x2A\x02\x24\x1E\x1F\0\
-    \x11\x02\x03\x2B\x02\x08\0\x11\x02\x03\x2C\x02\x08\0\x02\x02\x03\x2D\x05\x2E\x02\
-    \x11\x02\x03\x2F\x02\x0C\0\x11\x03\x03\x30\x02\x29\x13\x14\0\
-    \x02\x03\x03\x31\x05\x32\x33\x34\x06\x11\x02\x03\x35\x02\x06\0\x11\x02\x03\x36\x02\x06\0\
-    \x11\x03\x03\x37\x02\x16\x1E\x1F\0\x11\x03\x03\x38\x02\x2E\x1E\x1F\0\
-    \x11\x03\x03\x39\x02\x1C\x1E\x1F\0\x3A\x02\x02\x10\x3B\x3C\0";
+/// The first checkpoint without pools, 10 bytes.
+pub(crate) static NOTHING: Source = Bytes(b"\x8A\x80\x80\0\x01\0\0\0\0\0");
 
-/// The classes with `jdk.JavaMonitorEnter` only.
-pub(crate) const ENTER_CLASSES: &[u8] = b"\
-    \x83\x87\x80\x80\0\0\0\0\x01\x3D\
-    \x03\x04root\x03\x08metadata\x03\x05class\x03\x04name\x03\x04long\x03\x02id\x03\x0220\
-    \x03\x03int\x03\x0221\x03\x10java.lang.String\x03\x0222\x03\x07boolean\x03\x0223\x03\x05float\
-    \x03\x0224\x03\x10jdk.jfr.Category\x03\x0225\x03\x05field\x03\x05value\x03\x09dimension\
-    \x03\x011\x03\x10java.lang.Thread\x03\x0230\x03\x06osName\x03\x0AosThreadId\x03\x08javaName\
-    \x03\x0CjavaThreadId\x03\x0Fjava.lang.Class\x03\x0231\x03\x0232\x03\x0CconstantPool\
-    \x03\x04true\x03\x09modifiers\x03\x10jdk.types.Symbol\x03\x06string\x03\x10jdk.types.Method\
-    \x03\x0233\x03\x04type\x03\x0Adescriptor\x03\x06hidden\x03\x14jdk.types.StackFrame\x03\x0234\
-    \x03\x06method\x03\x0AlineNumber\x03\x0DbytecodeIndex\x03\x14jdk.types.StackTrace\x03\x0235\
-    \x03\x09truncated\x03\x06frames\x03\x14jdk.JavaMonitorEnter\x03\x03102\x03\x09superType\
-    \x03\x0Djdk.jfr.Event\x03\x09startTime\x03\x08duration\x03\x0BeventThread\x03\x0AstackTrace\
-    \x03\x0CmonitorClass\x03\x0Aannotation\x03\x07value-0\x03\x10Java Application\
-    \0\0\x01\x01\0\x0D\x02\x02\x03\x04\x05\x06\0\x02\x02\x03\x07\x05\x08\0\
-    \x02\x02\x03\x09\x05\x0A\0\x02\x02\x03\x0B\x05\x0C\0\x02\x02\x03\x0D\x05\x0E\0\
-    \x02\x02\x03\x0F\x05\x10\x01\x11\x03\x03\x12\x02\x0A\x13\x14\0\x02\x02\x03\x15\x05\x16\x04\
-    \x11\x02\x03\x17\x02\x0A\0\x11\x02\x03\x18\x02\x06\0\x11\x02\x03\x19\x02\x0A\0\
-    \x11\x02\x03\x1A\x02\x06\0\x02\x02\x03\x1B\x05\x1C\x02\x11\x03\x03\x03\x02\x1D\x1E\x1F\0\
-    \x11\x02\x03\x20\x02\x08\0\x02\x02\x03\x21\x05\x1D\x01\x11\x02\x03\x22\x02\x0A\0\
-    \x02\x02\x03\x23\x05\x24\x05\x11\x03\x03\x25\x02\x1C\x1E\x1F\0\
-    \x11\x03\x03\x03\x02\x1D\x1E\x1F\0\x11\x03\x03\x26\x02\x1D\x1E\x1F\0\x11\x02\x03\x20\x02\x08\0\
-    \x11\x02\x03\x27\x02\x0C\0\x02\x02\x03\x28\x05\x29\x03\x11\x03\x03\x2A\x02\x24\x1E\x1F\0\
-    \x11\x02\x03\x2B\x02\x08\0\x11\x02\x03\x2C\x02\x08\0\x02\x02\x03\x2D\x05\x2E\x02\
-    \x11\x02\x03\x2F\x02\x0C\0\x11\x03\x03\x30\x02\x29\x13\x14\0\
-    \x02\x03\x03\x31\x05\x32\x33\x34\x06\x11\x02\x03\x35\x02\x06\0\x11\x02\x03\x36\x02\x06\0\
-    \x11\x03\x03\x37\x02\x16\x1E\x1F\0\x11\x03\x03\x38\x02\x2E\x1E\x1F\0\
-    \x11\x03\x03\x39\x02\x1C\x1E\x1F\0\x3A\x02\x02\x10\x3B\x3C\0";
+/// How far the last checkpoint is from the one before, as a negative number of nine bytes. Each table sets the
+/// first two.
+const DELTA: &[u8] = b"\x80\x80\xFF\xFF\xFF\xFF\xFF\xFF\xFF";
 
-/// The classes with `jdk.CPULoad` only.
-pub(crate) const LOAD_CLASSES: &[u8] = b"\
-    \xD2\x86\x80\x80\0\0\0\0\x01\x3C\
-    \x03\x04root\x03\x08metadata\x03\x05class\x03\x04name\x03\x04long\x03\x02id\x03\x0220\
-    \x03\x03int\x03\x0221\x03\x10java.lang.String\x03\x0222\x03\x07boolean\x03\x0223\x03\x05float\
-    \x03\x0224\x03\x10jdk.jfr.Category\x03\x0225\x03\x05field\x03\x05value\x03\x09dimension\
-    \x03\x011\x03\x10java.lang.Thread\x03\x0230\x03\x06osName\x03\x0AosThreadId\x03\x08javaName\
-    \x03\x0CjavaThreadId\x03\x0Fjava.lang.Class\x03\x0231\x03\x0232\x03\x0CconstantPool\
-    \x03\x04true\x03\x09modifiers\x03\x10jdk.types.Symbol\x03\x06string\x03\x10jdk.types.Method\
-    \x03\x0233\x03\x04type\x03\x0Adescriptor\x03\x06hidden\x03\x14jdk.types.StackFrame\x03\x0234\
-    \x03\x06method\x03\x0AlineNumber\x03\x0DbytecodeIndex\x03\x14jdk.types.StackTrace\x03\x0235\
-    \x03\x09truncated\x03\x06frames\x03\x0Bjdk.CPULoad\x03\x03103\x03\x09superType\
-    \x03\x0Djdk.jfr.Event\x03\x09startTime\x03\x0CmachineTotal\x03\x0Aannotation\x03\x07value-0\
-    \x03\x10Operating System\x03\x07value-1\x03\x09Processor\
-    \0\0\x01\x01\0\x0D\x02\x02\x03\x04\x05\x06\0\x02\x02\x03\x07\x05\x08\0\
-    \x02\x02\x03\x09\x05\x0A\0\x02\x02\x03\x0B\x05\x0C\0\x02\x02\x03\x0D\x05\x0E\0\
-    \x02\x02\x03\x0F\x05\x10\x01\x11\x03\x03\x12\x02\x0A\x13\x14\0\x02\x02\x03\x15\x05\x16\x04\
-    \x11\x02\x03\x17\x02\x0A\0\x11\x02\x03\x18\x02\x06\0\x11\x02\x03\x19\x02\x0A\0\
-    \x11\x02\x03\x1A\x02\x06\0\x02\x02\x03\x1B\x05\x1C\x02\x11\x03\x03\x03\x02\x1D\x1E\x1F\0\
-    \x11\x02\x03\x20\x02\x08\0\x02\x02\x03\x21\x05\x1D\x01\x11\x02\x03\x22\x02\x0A\0\
-    \x02\x02\x03\x23\x05\x24\x05\x11\x03\x03\x25\x02\x1C\x1E\x1F\0\
-    \x11\x03\x03\x03\x02\x1D\x1E\x1F\0\x11\x03\x03\x26\x02\x1D\x1E\x1F\0\x11\x02\x03\x20\x02\x08\0\
-    \x11\x02\x03\x27\x02\x0C\0\x02\x02\x03\x28\x05\x29\x03\x11\x03\x03\x2A\x02\x24\x1E\x1F\0\
-    \x11\x02\x03\x2B\x02\x08\0\x11\x02\x03\x2C\x02\x08\0\x02\x02\x03\x2D\x05\x2E\x02\
-    \x11\x02\x03\x2F\x02\x0C\0\x11\x03\x03\x30\x02\x29\x13\x14\0\
-    \x02\x03\x03\x31\x05\x32\x33\x34\x03\x11\x02\x03\x35\x02\x06\0\x11\x02\x03\x36\x02\x0E\0\
-    \x37\x03\x02\x10\x38\x39\x3A\x3B\0";
+/// The pool of java.lang.Thread with the later thread of key 2: w, 101, worker-renamed, 2.
+const RENAMED_THREAD: &[u8] = b"\x1E\x01\x02\x03\x01we\x03\x0Eworker-renamed\x02";
 
-/// The classes without `jdk.CPULoad`.
-pub(crate) const PARK_AND_ENTER_CLASSES: &[u8] = b"\
-    \xDE\x87\x80\x80\0\0\0\0\x01\x40\
-    \x03\x04root\x03\x08metadata\x03\x05class\x03\x04name\x03\x04long\x03\x02id\x03\x0220\
-    \x03\x03int\x03\x0221\x03\x10java.lang.String\x03\x0222\x03\x07boolean\x03\x0223\x03\x05float\
-    \x03\x0224\x03\x10jdk.jfr.Category\x03\x0225\x03\x05field\x03\x05value\x03\x09dimension\
-    \x03\x011\x03\x10java.lang.Thread\x03\x0230\x03\x06osName\x03\x0AosThreadId\x03\x08javaName\
-    \x03\x0CjavaThreadId\x03\x0Fjava.lang.Class\x03\x0231\x03\x0232\x03\x0CconstantPool\
-    \x03\x04true\x03\x09modifiers\x03\x10jdk.types.Symbol\x03\x06string\x03\x10jdk.types.Method\
-    \x03\x0233\x03\x04type\x03\x0Adescriptor\x03\x06hidden\x03\x14jdk.types.StackFrame\x03\x0234\
-    \x03\x06method\x03\x0AlineNumber\x03\x0DbytecodeIndex\x03\x14jdk.types.StackTrace\x03\x0235\
-    \x03\x09truncated\x03\x06frames\x03\x0Ejdk.ThreadPark\x03\x03101\x03\x09superType\
-    \x03\x0Djdk.jfr.Event\x03\x09startTime\x03\x08duration\x03\x0BeventThread\x03\x0AstackTrace\
-    \x03\x0BparkedClass\x03\x0Aannotation\x03\x07value-0\x03\x10Java Application\
-    \x03\x14jdk.JavaMonitorEnter\x03\x03102\x03\x0CmonitorClass\
-    \0\0\x01\x01\0\x0E\x02\x02\x03\x04\x05\x06\0\x02\x02\x03\x07\x05\x08\0\
-    \x02\x02\x03\x09\x05\x0A\0\x02\x02\x03\x0B\x05\x0C\0\x02\x02\x03\x0D\x05\x0E\0\
-    \x02\x02\x03\x0F\x05\x10\x01\x11\x03\x03\x12\x02\x0A\x13\x14\0\x02\x02\x03\x15\x05\x16\x04\
-    \x11\x02\x03\x17\x02\x0A\0\x11\x02\x03\x18\x02\x06\0\x11\x02\x03\x19\x02\x0A\0\
-    \x11\x02\x03\x1A\x02\x06\0\x02\x02\x03\x1B\x05\x1C\x02\x11\x03\x03\x03\x02\x1D\x1E\x1F\0\
-    \x11\x02\x03\x20\x02\x08\0\x02\x02\x03\x21\x05\x1D\x01\x11\x02\x03\x22\x02\x0A\0\
-    \x02\x02\x03\x23\x05\x24\x05\x11\x03\x03\x25\x02\x1C\x1E\x1F\0\
-    \x11\x03\x03\x03\x02\x1D\x1E\x1F\0\x11\x03\x03\x26\x02\x1D\x1E\x1F\0\x11\x02\x03\x20\x02\x08\0\
-    \x11\x02\x03\x27\x02\x0C\0\x02\x02\x03\x28\x05\x29\x03\x11\x03\x03\x2A\x02\x24\x1E\x1F\0\
-    \x11\x02\x03\x2B\x02\x08\0\x11\x02\x03\x2C\x02\x08\0\x02\x02\x03\x2D\x05\x2E\x02\
-    \x11\x02\x03\x2F\x02\x0C\0\x11\x03\x03\x30\x02\x29\x13\x14\0\
-    \x02\x03\x03\x31\x05\x32\x33\x34\x06\x11\x02\x03\x35\x02\x06\0\x11\x02\x03\x36\x02\x06\0\
-    \x11\x03\x03\x37\x02\x16\x1E\x1F\0\x11\x03\x03\x38\x02\x2E\x1E\x1F\0\
-    \x11\x03\x03\x39\x02\x1C\x1E\x1F\0\x3A\x02\x02\x10\x3B\x3C\0\
-    \x02\x03\x03\x3D\x05\x3E\x33\x34\x06\x11\x02\x03\x35\x02\x06\0\x11\x02\x03\x36\x02\x06\0\
-    \x11\x03\x03\x37\x02\x16\x1E\x1F\0\x11\x03\x03\x38\x02\x2E\x1E\x1F\0\
-    \x11\x03\x03\x3F\x02\x1C\x1E\x1F\0\x3A\x02\x02\x10\x3B\x3C\0";
+/// The same thread without a Java name: w, 101, null, 2.
+const UNNAMED_THREAD: &[u8] = b"\x1E\x01\x02\x03\x01we\0\x02";
 
-/// The classes without `jdk.ThreadPark`.
-pub(crate) const ENTER_AND_LOAD_CLASSES: &[u8] = b"\
-    \xE9\x87\x80\x80\0\0\0\0\x01\x43\
-    \x03\x04root\x03\x08metadata\x03\x05class\x03\x04name\x03\x04long\x03\x02id\x03\x0220\
-    \x03\x03int\x03\x0221\x03\x10java.lang.String\x03\x0222\x03\x07boolean\x03\x0223\x03\x05float\
-    \x03\x0224\x03\x10jdk.jfr.Category\x03\x0225\x03\x05field\x03\x05value\x03\x09dimension\
-    \x03\x011\x03\x10java.lang.Thread\x03\x0230\x03\x06osName\x03\x0AosThreadId\x03\x08javaName\
-    \x03\x0CjavaThreadId\x03\x0Fjava.lang.Class\x03\x0231\x03\x0232\x03\x0CconstantPool\
-    \x03\x04true\x03\x09modifiers\x03\x10jdk.types.Symbol\x03\x06string\x03\x10jdk.types.Method\
-    \x03\x0233\x03\x04type\x03\x0Adescriptor\x03\x06hidden\x03\x14jdk.types.StackFrame\x03\x0234\
-    \x03\x06method\x03\x0AlineNumber\x03\x0DbytecodeIndex\x03\x14jdk.types.StackTrace\x03\x0235\
-    \x03\x09truncated\x03\x06frames\x03\x14jdk.JavaMonitorEnter\x03\x03102\x03\x09superType\
-    \x03\x0Djdk.jfr.Event\x03\x09startTime\x03\x08duration\x03\x0BeventThread\x03\x0AstackTrace\
-    \x03\x0CmonitorClass\x03\x0Aannotation\x03\x07value-0\x03\x10Java Application\
-    \x03\x0Bjdk.CPULoad\x03\x03103\x03\x0CmachineTotal\x03\x10Operating System\x03\x07value-1\
-    \x03\x09Processor\
-    \0\0\x01\x01\0\x0E\x02\x02\x03\x04\x05\x06\0\x02\x02\x03\x07\x05\x08\0\
-    \x02\x02\x03\x09\x05\x0A\0\x02\x02\x03\x0B\x05\x0C\0\x02\x02\x03\x0D\x05\x0E\0\
-    \x02\x02\x03\x0F\x05\x10\x01\x11\x03\x03\x12\x02\x0A\x13\x14\0\x02\x02\x03\x15\x05\x16\x04\
-    \x11\x02\x03\x17\x02\x0A\0\x11\x02\x03\x18\x02\x06\0\x11\x02\x03\x19\x02\x0A\0\
-    \x11\x02\x03\x1A\x02\x06\0\x02\x02\x03\x1B\x05\x1C\x02\x11\x03\x03\x03\x02\x1D\x1E\x1F\0\
-    \x11\x02\x03\x20\x02\x08\0\x02\x02\x03\x21\x05\x1D\x01\x11\x02\x03\x22\x02\x0A\0\
-    \x02\x02\x03\x23\x05\x24\x05\x11\x03\x03\x25\x02\x1C\x1E\x1F\0\
-    \x11\x03\x03\x03\x02\x1D\x1E\x1F\0\x11\x03\x03\x26\x02\x1D\x1E\x1F\0\x11\x02\x03\x20\x02\x08\0\
-    \x11\x02\x03\x27\x02\x0C\0\x02\x02\x03\x28\x05\x29\x03\x11\x03\x03\x2A\x02\x24\x1E\x1F\0\
-    \x11\x02\x03\x2B\x02\x08\0\x11\x02\x03\x2C\x02\x08\0\x02\x02\x03\x2D\x05\x2E\x02\
-    \x11\x02\x03\x2F\x02\x0C\0\x11\x03\x03\x30\x02\x29\x13\x14\0\
-    \x02\x03\x03\x31\x05\x32\x33\x34\x06\x11\x02\x03\x35\x02\x06\0\x11\x02\x03\x36\x02\x06\0\
-    \x11\x03\x03\x37\x02\x16\x1E\x1F\0\x11\x03\x03\x38\x02\x2E\x1E\x1F\0\
-    \x11\x03\x03\x39\x02\x1C\x1E\x1F\0\x3A\x02\x02\x10\x3B\x3C\0\
-    \x02\x03\x03\x3D\x05\x3E\x33\x34\x03\x11\x02\x03\x35\x02\x06\0\x11\x02\x03\x3F\x02\x0E\0\
-    \x3A\x03\x02\x10\x3B\x40\x41\x42\0";
+/// The pool of java.lang.Class: 1 has the name 1, and 2 the name 4; both are public.
+const TWO_CLASSES: &[u8] = b"\x1F\x02\x01\x01\x01\x02\x04\x01";
 
-/// The classes without any event class.
-pub(crate) const NO_JDK_EVENT_CLASSES: &[u8] = b"\
-    \xB2\x85\x80\x80\0\0\0\0\x01\x31\
-    \x03\x04root\x03\x08metadata\x03\x05class\x03\x04name\x03\x04long\x03\x02id\x03\x0220\
-    \x03\x03int\x03\x0221\x03\x10java.lang.String\x03\x0222\x03\x07boolean\x03\x0223\x03\x05float\
-    \x03\x0224\x03\x10jdk.jfr.Category\x03\x0225\x03\x05field\x03\x05value\x03\x09dimension\
-    \x03\x011\x03\x10java.lang.Thread\x03\x0230\x03\x06osName\x03\x0AosThreadId\x03\x08javaName\
-    \x03\x0CjavaThreadId\x03\x0Fjava.lang.Class\x03\x0231\x03\x0232\x03\x0CconstantPool\
-    \x03\x04true\x03\x09modifiers\x03\x10jdk.types.Symbol\x03\x06string\x03\x10jdk.types.Method\
-    \x03\x0233\x03\x04type\x03\x0Adescriptor\x03\x06hidden\x03\x14jdk.types.StackFrame\x03\x0234\
-    \x03\x06method\x03\x0AlineNumber\x03\x0DbytecodeIndex\x03\x14jdk.types.StackTrace\x03\x0235\
-    \x03\x09truncated\x03\x06frames\
-    \0\0\x01\x01\0\x0C\x02\x02\x03\x04\x05\x06\0\x02\x02\x03\x07\x05\x08\0\
-    \x02\x02\x03\x09\x05\x0A\0\x02\x02\x03\x0B\x05\x0C\0\x02\x02\x03\x0D\x05\x0E\0\
-    \x02\x02\x03\x0F\x05\x10\x01\x11\x03\x03\x12\x02\x0A\x13\x14\0\x02\x02\x03\x15\x05\x16\x04\
-    \x11\x02\x03\x17\x02\x0A\0\x11\x02\x03\x18\x02\x06\0\x11\x02\x03\x19\x02\x0A\0\
-    \x11\x02\x03\x1A\x02\x06\0\x02\x02\x03\x1B\x05\x1C\x02\x11\x03\x03\x03\x02\x1D\x1E\x1F\0\
-    \x11\x02\x03\x20\x02\x08\0\x02\x02\x03\x21\x05\x1D\x01\x11\x02\x03\x22\x02\x0A\0\
-    \x02\x02\x03\x23\x05\x24\x05\x11\x03\x03\x25\x02\x1C\x1E\x1F\0\
-    \x11\x03\x03\x03\x02\x1D\x1E\x1F\0\x11\x03\x03\x26\x02\x1D\x1E\x1F\0\x11\x02\x03\x20\x02\x08\0\
-    \x11\x02\x03\x27\x02\x0C\0\x02\x02\x03\x28\x05\x29\x03\x11\x03\x03\x2A\x02\x24\x1E\x1F\0\
-    \x11\x02\x03\x2B\x02\x08\0\x11\x02\x03\x2C\x02\x08\0\x02\x02\x03\x2D\x05\x2E\x02\
-    \x11\x02\x03\x2F\x02\x0C\0\x11\x03\x03\x30\x02\x29\x13\x14\0";
+/// The pool of jdk.types.Symbol: 4 and 5.
+const TWO_SYMBOLS: &[u8] = b"\x20\x02\x04\x03\x08app/Lock\x05\x03\x03run";
+
+/// The method 1: class 1, name 2, descriptor 3, public, shown.
+const FIRST_METHOD: &[u8] = b"\x01\x01\x02\x03\x01\0";
+
+/// The method 2: class 2, name 5, descriptor 3, public, shown.
+const SECOND_METHOD: &[u8] = b"\x02\x02\x05\x03\x01\0";
+
+/// The stack trace 1: one frame, method 1 at line 10, bytecode 2.
+const FIRST_TRACE: &[u8] = b"\x01\0\x01\x01\x0A\x02";
+
+/// The stack trace 2: method 2 at line 20, bytecode 4; method 1 as in the other.
+const SECOND_TRACE: &[u8] = b"\x02\0\x02\x02\x14\x04\x01\x0A\x02";
+
+/// The last checkpoint with the stack trace 1 and all that it leads to.
+#[rattlefmt::skip]
+pub(crate) static ONE_TRACE: Source = Lines(&[
+    b"\xA7\x80\x80\0\x01\0\0", // 39 bytes, a checkpoint
+    DELTA,
+    b"\0\x03",                 // three pools
+    b"\x1F\x01\x01\x01\x01",   // one of java.lang.Class: 1 has the name 1, public
+    b"\x21\x01",               // one of jdk.types.Method
+    FIRST_METHOD,
+    b"\x23\x01",               // one of jdk.types.StackTrace
+    FIRST_TRACE,
+]);
+
+/// The last checkpoint with the thread of key 2, the stack trace 2 and all that it leads to.
+#[rattlefmt::skip]
+pub(crate) static RENAMED: Source = Lines(&[
+    b"\xDE\x80\x80\0\x01\0\0", // 94 bytes, a checkpoint
+    DELTA,
+    b"\0\x05",                 // five pools
+    RENAMED_THREAD,
+    TWO_CLASSES,
+    TWO_SYMBOLS,
+    b"\x21\x02",               // two of jdk.types.Method
+    FIRST_METHOD,
+    SECOND_METHOD,
+    b"\x23\x01",               // one of jdk.types.StackTrace
+    SECOND_TRACE,
+]);
+
+/// The same, if this thread has no Java name.
+#[rattlefmt::skip]
+pub(crate) static UNNAMED: Source = Lines(&[
+    b"\xCF\x80\x80\0\x01\0\0", // 79 bytes, a checkpoint
+    DELTA,
+    b"\0\x05",                 // five pools
+    UNNAMED_THREAD,
+    TWO_CLASSES,
+    TWO_SYMBOLS,
+    b"\x21\x02",               // two of jdk.types.Method
+    FIRST_METHOD,
+    SECOND_METHOD,
+    b"\x23\x01",               // one of jdk.types.StackTrace
+    SECOND_TRACE,
+]);
+
+/// The last checkpoint with all that it had.
+#[rattlefmt::skip]
+pub(crate) static ALL_LATER: Source = Lines(&[
+    b"\xE4\x80\x80\0\x01\0\0", // 100 bytes, a checkpoint
+    DELTA,
+    b"\0\x05",                 // five pools
+    RENAMED_THREAD,
+    TWO_CLASSES,
+    TWO_SYMBOLS,
+    b"\x21\x02",               // two of jdk.types.Method
+    FIRST_METHOD,
+    SECOND_METHOD,
+    b"\x23\x02",               // two of jdk.types.StackTrace
+    FIRST_TRACE,
+    SECOND_TRACE,
+]);
+
+/// The last checkpoint without pools.
+#[rattlefmt::skip]
+pub(crate) static NOTHING_LATER: Source = Lines(&[
+    b"\x92\x80\x80\0\x01\0\0", // 18 bytes, a checkpoint
+    DELTA,
+    b"\0\0",                   // no pools
+]);

@@ -6,6 +6,8 @@ mod builds;
 #[cfg(test)]
 mod checks;
 #[cfg(test)]
+mod classes;
+#[cfg(test)]
 mod commands;
 #[cfg(test)]
 mod constants;
@@ -25,6 +27,8 @@ mod masks;
 mod outputs;
 #[cfg(test)]
 mod parts;
+#[cfg(test)]
+mod pieces;
 #[cfg(test)]
 mod places;
 #[cfg(test)]

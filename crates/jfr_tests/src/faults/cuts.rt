@@ -1,7 +1,6 @@
 //! Recordings that end anywhere in their first chunk.
 use crate::faults::scrub::see_scrub;
-use crate::jdk::JDK_LIKE;
-use jfr_fixtures::PLAIN;
+use jfr_fixtures::{PLAIN, jdk_like};
 use std::alloc::Global;
 use std::process::Abort;
 use std::test::Fail;
@@ -28,5 +27,5 @@ fn see_cuts(rt: &impl Abort, alloc: Global, chunk: &[u8]) -> Result<(), Fail> {
 #[test]
 fn starts_of_chunks_are_refused(rt: HostRuntime) -> Result<(), Fail> {
     see_cuts(&rt, rt.alloc(), &PLAIN)?;
-    see_cuts(&rt, rt.alloc(), &JDK_LIKE)
+    see_cuts(&rt, rt.alloc(), &jdk_like(rt.alloc())?)
 }
