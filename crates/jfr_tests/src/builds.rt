@@ -10,8 +10,9 @@ use std::test::Fail;
 const TEXT: &str = "class 5 long\nevent 8 t.A\nfield n 5 -\nrecord 8 300\n";
 
 /// The event and the checkpoint, at the end of the chunk.
-const RECORDS: &[u8] =
-    b"\x88\x80\x80\x80\x00\x08\xac\x02\x8b\x80\x80\x80\x00\x01\x00\x00\x00\x00\x00";
+const RECORDS: &[u8] = b"\
+    \x88\x80\x80\x80\0\x08\xAC\x02\
+    \x8B\x80\x80\x80\0\x01\0\0\0\0\0";
 
 /// Texts that are refused, and the lines that say so.
 static REFUSED: [(&[u8], &str); 12] = [

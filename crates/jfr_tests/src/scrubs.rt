@@ -66,17 +66,29 @@ fn changed_chunks_are_refused(rt: HostRuntime) -> Result<(), Fail> {
     see_refused(&rt, rt.alloc(), &CHANGED)
 }
 
-/// Metadata records with trees of 16 and of 17 levels, each after its strings.
+/// A metadata record with a tree of 16 levels after its strings.
+#[rattlefmt::skip]
 const SIXTEEN_LEVELS: &[u8] = &[
-    0x46, 0, 0, 0, 1, 2, 3, 4, 0x72, 0x6F, 0x6F, 0x74, 3, 8, 0x6D, 0x65, 0x74, 0x61, 0x64, 0x61,
-    0x74, 0x61, 1, 0, 1, 1, 0, 1, 1, 0, 1, 1, 0, 1, 1, 0, 1, 1, 0, 1, 1, 0, 1, 1, 0, 1, 1, 0, 1, 1,
-    0, 1, 1, 0, 1, 1, 0, 1, 1, 0, 1, 1, 0, 1, 1, 0, 1, 1, 0, 0,
+    70, 0, 0, 0, 1, 2, // 70 bytes, two texts
+    3, 4, b'r', b'o', b'o', b't',
+    3, 8, b'm', b'e', b't', b'a', b'd', b'a', b't', b'a',
+    1, 0, 1, 1, 0, 1, 1, 0, 1, 1, 0, 1, // levels 1 to 4
+    1, 0, 1, 1, 0, 1, 1, 0, 1, 1, 0, 1, // levels 5 to 8
+    1, 0, 1, 1, 0, 1, 1, 0, 1, 1, 0, 1, // levels 9 to 12
+    1, 0, 1, 1, 0, 1, 1, 0, 1, 1, 0, 0, // levels 13 to 16
 ];
 
+/// A metadata record with a tree of 17 levels.
+#[rattlefmt::skip]
 const SEVENTEEN_LEVELS: &[u8] = &[
-    0x49, 0, 0, 0, 1, 2, 3, 4, 0x72, 0x6F, 0x6F, 0x74, 3, 8, 0x6D, 0x65, 0x74, 0x61, 0x64, 0x61,
-    0x74, 0x61, 1, 0, 1, 1, 0, 1, 1, 0, 1, 1, 0, 1, 1, 0, 1, 1, 0, 1, 1, 0, 1, 1, 0, 1, 1, 0, 1, 1,
-    0, 1, 1, 0, 1, 1, 0, 1, 1, 0, 1, 1, 0, 1, 1, 0, 1, 1, 0, 1, 1, 0, 0,
+    73, 0, 0, 0, 1, 2, // 73 bytes, two texts
+    3, 4, b'r', b'o', b'o', b't',
+    3, 8, b'm', b'e', b't', b'a', b'd', b'a', b't', b'a',
+    1, 0, 1, 1, 0, 1, 1, 0, 1, 1, 0, 1, // levels 1 to 4
+    1, 0, 1, 1, 0, 1, 1, 0, 1, 1, 0, 1, // levels 5 to 8
+    1, 0, 1, 1, 0, 1, 1, 0, 1, 1, 0, 1, // levels 9 to 12
+    1, 0, 1, 1, 0, 1, 1, 0, 1, 1, 0, 1, // levels 13 to 16
+    1, 0, 0, // level 17
 ];
 
 /// The plain chunk made of its records.
@@ -98,10 +110,14 @@ fn other_records_are_refused(rt: HostRuntime) -> Result<(), Fail> {
 }
 
 /// The tree of 16 levels without the text that it doesn't use.
+#[rattlefmt::skip]
 const SIXTEEN_LEVELS_SLIM: &[u8] = &[
-    0xC4, 0x80, 0x80, 0x80, 0, 0, 0, 0, 1, 1, 3, 8, 0x6D, 0x65, 0x74, 0x61, 0x64, 0x61, 0x74, 0x61,
-    0, 0, 1, 0, 0, 1, 0, 0, 1, 0, 0, 1, 0, 0, 1, 0, 0, 1, 0, 0, 1, 0, 0, 1, 0, 0, 1, 0, 0, 1, 0, 0,
-    1, 0, 0, 1, 0, 0, 1, 0, 0, 1, 0, 0, 1, 0, 0, 0,
+    0xC4, 0x80, 0x80, 0x80, 0, 0, 0, 0, 1, 1, // 68 bytes, one text
+    3, 8, b'm', b'e', b't', b'a', b'd', b'a', b't', b'a',
+    0, 0, 1, 0, 0, 1, 0, 0, 1, 0, 0, 1, // levels 1 to 4
+    0, 0, 1, 0, 0, 1, 0, 0, 1, 0, 0, 1, // levels 5 to 8
+    0, 0, 1, 0, 0, 1, 0, 0, 1, 0, 0, 1, // levels 9 to 12
+    0, 0, 1, 0, 0, 1, 0, 0, 1, 0, 0, 0, // levels 13 to 16
 ];
 
 #[rattlefmt::skip]

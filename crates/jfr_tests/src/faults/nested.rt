@@ -5,13 +5,10 @@ use std::alloc::{AllocError, Global};
 use std::process::Abort;
 use std::test::Fail;
 
-// Texts that the classes share, as the first ten strings: root, metadata, class, name, id, field, long, 5,
-// c, x.
-const SHARED: [u8; 55] = [
-    3, 4, 0x72, 0x6F, 0x6F, 0x74, 3, 8, 0x6D, 0x65, 0x74, 0x61, 0x64, 0x61, 0x74, 0x61, 3, 5, 0x63,
-    0x6C, 0x61, 0x73, 0x73, 3, 4, 0x6E, 0x61, 0x6D, 0x65, 3, 2, 0x69, 0x64, 3, 5, 0x66, 0x69, 0x65,
-    0x6C, 0x64, 3, 4, 0x6C, 0x6F, 0x6E, 0x67, 3, 1, 0x35, 3, 1, 0x63, 3, 1, 0x78,
-];
+// Texts that the classes share, as the first ten strings.
+const SHARED: &[u8] = b"\
+    \x03\x04root\x03\x08metadata\x03\x05class\x03\x04name\x03\x02id\
+    \x03\x05field\x03\x04long\x03\x015\x03\x01c\x03\x01x";
 
 // The class `long`, whose id is 5.
 const LONG: [u8; 7] = [2, 2, 3, 6, 4, 7, 0];
@@ -44,7 +41,7 @@ fn record_of(alloc: Global, body: &[u8]) -> Result<Vec<u8>, AllocError> {
 // Adds the strings of a metadata record: their number, the shared ones, and the ids of the classes.
 fn push_strings(body: &mut Vec<u8>, classes: u8) -> Result<(), AllocError> {
     body.extend_from_slice(&[0, 0, 0, 1, classes.saturating_add(10)])?;
-    body.extend_from_slice(&SHARED)?;
+    body.extend_from_slice(SHARED)?;
     for number in 0..classes {
         body.extend_from_slice(&[3, 3, b'1', number / 10 + b'0', number % 10 + b'0'])?;
     }
