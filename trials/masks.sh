@@ -4,12 +4,13 @@
 # Each FILE is masked in six ways: all texts; those of some fields; all but those that recipes/masked leaves; with names
 # of code masked, too, but those of the JDKs; by recipes/masked; and by it with names of code masked, too, but those of
 # java.util. Of each output, every JDK in /usr/lib/jvm (or those in the variable JDKS) must read all that it reads of a
-# scrub with the same filter: `jfr summary`, with the same counts; `jfr print`; and `jfr view all-views` where the JDK has
-# it. `masks.py` compares what it shows of both. Their stacks must have the same counts.
+# scrub with the same filter: `jfr summary`, with the same counts; `jfr print`; and `jfr view all-views`. `masks.py`
+# compares what it shows of both. Their stacks must have the same counts.
 #
 # So must the stacks that async-profiler's converter finds, which `converted.py` compares: the variable CONVERTER, or
 # Debian's, which needs a `java` on the PATH. This names those of JDK 17, 21 and 25 and the converter that aren't there,
-# and passes over them. Prints a row for each output and reader, and how many were wrong.
+# and passes over them. Prints a row for each output and reader, which says what the JDK reads of neither file, such as
+# views, which JDK 17 hasn't; and then how many were wrong.
 set -u
 # shellcheck source=common.sh
 . "$(dirname "$(readlink -f -- "$0")")/common.sh"
@@ -55,13 +56,18 @@ events() { "$1/bin/jfr" summary "$2" | sed -E 's/^( .* [0-9]+) +[0-9]+ *$/\1/' |
 # The counts of the stacks in a recording.
 counts() { "$program" stacks "$1" | sed 's/.* //' | sort -n; }
 
-# What a JDK says of the output when it doesn't read it, but the scrub.
+# What a JDK says of the output when it doesn't read it, but the scrub. The file `unread` has what reads neither.
 read_by() {
     local jfr=$1/bin/jfr command
+    : >"$work/unread"
     # shellcheck disable=SC2086 # `view` has two words
     for command in summary print 'view all-views'; do
-        if ! "$jfr" $command "$work/masked.jfr" >/dev/null 2>"$work/said" && "$jfr" $command "$work/plain.jfr" >/dev/null 2>&1; then
+        if "$jfr" $command "$work/masked.jfr" >/dev/null 2>"$work/said"; then
+            :
+        elif "$jfr" $command "$work/plain.jfr" >/dev/null 2>&1; then
             echo "jfr $command: $(head -n 1 "$work/said")"
+        else
+            echo "$command" >>"$work/unread"
         fi
     done
     cmp -s <(events "$1" "$work/plain.jfr") <(events "$1" "$work/masked.jfr") || echo "jfr summary: other events"
@@ -110,7 +116,8 @@ for file; do
             [ -z "$said" ] || fail "$name: $jdk: $said"
             said=$("$here/masks.py" "$jdk/bin/jfr" "$work"/{plain.jfr,masked.jfr,table} "${masked_fields[@]}" 2>&1) \
                 || fail "$name: $jdk: $said"
-            echo "| $row | $(basename "$jdk") | $(tail -n 1 <<<"$said") |"
+            unread=$(paste -sd, "$work/unread")
+            echo "| $row | $(basename "$jdk") | $(tail -n 1 <<<"$said")${unread:+; neither is read by $unread} |"
         done
         if [ -r "$converter" ] && command -v java >/dev/null; then
             cases=$((cases + 1))
