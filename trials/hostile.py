@@ -259,13 +259,12 @@ def key_chain(size):
 
 
 def known_texts(size):
-    """A million events with texts, of which each quarter has the 250,000 numbers of seven digits from 0."""
-    many = count(250000, size)
-    return texts_of([text("%07d" % n) for n in range(many)] * 4)
+    """Four times 250,000 events, whose texts are the numbers from 0, in seven digits."""
+    return texts_of([text("%07d" % n) for n in range(count(250000, size))] * 4)
 
 
 def known_alike(size):
-    """250,000 events with texts that begin with the same 300 characters, and end with such a number."""
+    """250,000 events, whose texts are the same 300 characters and such a number."""
     return texts_of(text("a" * 300 + "%07d" % n) for n in range(count(250000, size)))
 
 
