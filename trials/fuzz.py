@@ -1,12 +1,12 @@
 #!/usr/bin/env python3
 """Runs the commands on mutated recordings and texts: fuzz.py [--jobs N] [--inputs N] [--texts] PROGRAM SECONDS SEED FILE..
 
-Takes the given recordings and small ones of hostile.py, changes one in some places (mutations.py: bits, integers at
-their limits, pieces moved, repeated and cut; half the time records, classes and values besides, with sizes, positions
-and deltas that are true again), and runs commands on the outcome, with 1 GB of memory: `summary` first. On an input that
-it accepts come `print --json` and scrub, a scrub with an option or a window, and half of the other commands that read
-chunks, and `sample`; on one that it refuses, and those are four of five, one of all these. The choice rotates with the
-input's number.
+Takes the given recordings, small ones of hostile.py, and some of events with times, changes one in some places
+(mutations.py: bits, integers at their limits, pieces moved, repeated and cut; half the time records, classes and values
+besides, with sizes, positions and deltas that are true again), and runs commands on the outcome, with 1 GB of memory:
+`summary` first. On an input that it accepts come `print --json` and scrub, a scrub with an option or a window, and half
+of the other commands that read chunks, and `sample`; on one that it refuses, and those are four of five, one of all
+these. The choice rotates with the input's number.
 
 Every fifth input, or with --texts each, is a text for `build` instead, which is one of those below with changes in its
 lines, words and bytes. If a recording is built of it, `summary` and `scrub` have to accept that. Wrong is
@@ -643,8 +643,20 @@ def option_of(rng, data):
     return (*option, "--describe", rng.choice(PATTERNS["events"])) if rng.random() < 0.3 else option
 
 
+def timed_seeds():
+    """Recordings of events with times near the moments of windows: with a duration and without one, and both."""
+    fields = ("startTime", hostile.LONG, {}), ("duration", hostile.LONG, {})
+    times = [(start, took) for start in (-1, 0, 1, 2, 5, 6) for took in (0, 1, -1)]
+
+    def chunk(many):
+        events = (b"".join(map(hostile.integer, time[:many])) for time in times)
+        described = hostile.metadata(hostile.event_class(*fields[:many]))
+        return hostile.chunk(described, b"".join(hostile.record(hostile.EVENT, event) for event in events))
+    return [chunk(2), chunk(1), chunk(2) + chunk(1)]
+
+
 def seeds_of(files):
-    seeds = []
+    seeds = timed_seeds()
     for path in files:
         with open(path, "rb") as file:
             seeds.append(file.read())
