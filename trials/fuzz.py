@@ -1,11 +1,12 @@
 #!/usr/bin/env python3
 """Runs the commands on mutated recordings and texts: fuzz.py [--jobs N] [--inputs N] [--texts] PROGRAM SECONDS SEED FILE..
 
-Takes the given recordings and small ones of hostile.py, changes one in some places (mutations.py: bits, integers at
-their limits, pieces moved, repeated and cut; half the time records, classes and values besides, with sizes, positions
-and deltas that are true again), and runs commands on the outcome, with 1 GB of memory: `summary` first. On an input that
-it accepts come `print --json` and scrub, a scrub with one option, and half of the other commands that read chunks; on
-one that it refuses, and those are four of five, one of all these. The choice rotates with the input's number.
+Takes the given recordings, small ones of hostile.py, and some of events with times, changes one in some places
+(mutations.py: bits, integers at their limits, pieces moved, repeated and cut; half the time records, classes and values
+besides, with sizes, positions and deltas that are true again), and runs commands on the outcome, with 1 GB of memory:
+`summary` first. On an input that it accepts come `print --json` and scrub, a scrub with an option or a window, and half
+of the other commands that read chunks, and `sample`; on one that it refuses, and those are four of five, one of all
+these. The choice rotates with the input's number.
 
 Every fifth input, or with --texts each, is a text for `build` instead, which is one of those below with changes in its
 lines, words and bytes. If a recording is built of it, `summary` and `scrub` have to accept that. Wrong is
@@ -14,13 +15,19 @@ lines, words and bytes. If a recording is built of it, `summary` and `scrub` hav
 - more than 20 times the input's size and 64 MB of memory of a command other than print and stacks;
 - another answer of two commands that check the same: status or line on the error stream;
 - a line of `print --json` that Python's json doesn't read, or another number of lines than `summary` counts events;
+- JSON of `summary` or `metadata` that doesn't say what their text says;
+- events of `print`, or stacks, that aren't those of a scrub with the same option or window;
 - a scrub's output that isn't accepted, that scrubs to something else with the same options, or, without options, of
   which `print --json` shows something else;
 - a scrub with new keys that is longer than the one without, or of which `print --json` shows more than other keys;
 - a scrub that its receipts don't verify, and one with a byte changed, in it or in the receipts, that they verify, but
   of which `print --json` shows something else;
+- a mask whose events differ from a scrub's other than by one pseudonym of its table for each text, or which has other
+  numbers of events or of stacks; one of all texts in which one is left that isn't known; one with known texts that
+  numbers others than the rest, in the same order;
 - lines of `stacks` that aren't texts with counts, in order, or that count more events than there are;
 - parts, or files joined, that aren't the input again;
+- a sample with other numbers than it was asked for;
 - an output of `build` if it refuses a text, a line that isn't there, or a recording with another number of events than
   the text has lines of them.
 
@@ -48,6 +55,7 @@ from concurrent.futures import ProcessPoolExecutor
 sys.path.insert(0, os.path.dirname(os.path.realpath(__file__)))
 sys.dont_write_bytecode = True
 import hostile
+from masks import PSEUDONYM, differences, texts_in
 from mutations import mutated, mutated_text, parsed_or_none
 
 LARGEST_TEXT = 64 << 20
@@ -56,6 +64,15 @@ DOUBT = re.compile(r"chunk [0-9]+: [A-Za-z]+\n")
 BAD_LINE = re.compile(r"line ([0-9]+): [A-Za-z]+\n")
 STACK = re.compile(rb"[^ ]* ([1-9][0-9]*)\n")
 KEY = re.compile(rb'("class":"(?:[^"\\]|\\.)*"),"key":\d+')
+DIGITS = re.compile(r"0x(?:[0-9a-f]{8}){1,2}")
+LIKE_PSEUDONYM = "masked-", "()masked-"
+# Texts that are longer aren't compared: most are one value many times.
+LARGEST_COMPARED = 1 << 20
+PATTERNS = {
+    "threads": ["*", "main*", "worker*", "*e*", "nosuch", "*a*a*b"],
+    "categories": ["*", "Java*", "*System", "a?", "nosuch", "*a*a*b"],
+    "events": ["*", "A", "t.*", "*E", "nosuch", "ThreadPark"],
+}
 
 # Texts for `build`, besides the small ones of hostile.py.
 TEXTS = [
@@ -153,6 +170,65 @@ class Wrong(Exception):
     pass
 
 
+# Texts that the program writes, read by these rules of docs/SCRUBBING.md.
+
+
+def quoted(text):
+    """The text between quotes."""
+    escaped = {ord(one): "\\" + one for one in '"\\'}
+    escaped.update({code: "\\u%04x" % code for code in [*range(0x20), 0x7F]})
+    return '"%s"' % text.translate(escaped)
+
+
+def summary_of(line):
+    """The text of `summary`, from its line of JSON."""
+    members = json.loads(line)
+    types = members.pop("types")
+    text = "".join("%s %s\n" % member for member in members.items())
+    return text + "".join("%s %d %d\n" % tuple(one[name] for name in ("name", "events", "bytes")) for one in types)
+
+
+def class_of(line):
+    """A class's chunk and its text in `metadata`, from its line of JSON."""
+    one = json.loads(line)
+    lines = ["%s id %d%s" % (one["name"], one["id"], "" if one["super"] is None else " super " + one["super"])]
+    if one["categories"]:
+        lines.append("  category " + ", ".join(map(quoted, one["categories"])))
+    for each in one["fields"]:
+        marks = "[]" * each["array"] + " constant" * each["constant"]
+        lines.append("  %s: %s%s" % (each["name"], each["class"], marks))
+    return one["chunk"], "\n".join(lines) + "\n"
+
+
+def metadata_of(lines, many):
+    """The text of `metadata` for so many chunks, from its lines of JSON."""
+    texts = ["chunk %d\n" % number for number in range(1, many + 1)]
+    for line in lines:
+        number, text = class_of(line)
+        texts[number - 1] += text
+    return "".join(texts)
+
+
+def texts_of(value):
+    """The texts in a value, but not the names of classes beside keys."""
+    if isinstance(value, str):
+        yield value
+    elif isinstance(value, list):
+        for item in value:
+            yield from texts_of(item)
+    elif isinstance(value, dict) and not {"class", "key"} <= set(value):
+        for member in value.values():
+            yield from texts_of(member)
+
+
+def is_masked(text, shown, texts, known):
+    """Whether a mask with this table may show this in place of a text, or of a key that isn't followed to its text."""
+    pseudonym = PSEUDONYM.fullmatch(shown) if isinstance(shown, str) else None
+    if isinstance(text, dict) and text.get("class") == "java.lang.String":
+        return not shown or shown in known or pseudonym is not None
+    return pseudonym is not None and texts.get(pseudonym[1]) == text and text.startswith("(") == shown.startswith("(")
+
+
 class Stream:
     """A file that stays open, to which runs write in turn: opening one costs more than what most of them write."""
 
@@ -196,6 +272,7 @@ class Trial:
         self.nowhere = os.open(os.devnull, os.O_WRONLY)
         names = "said", "totals", "lines", "other", "nothing"
         self.said, self.totals, self.lines, self.other, self.nothing = map(Stream, map(self.name, names))
+        self.peak = os.open("/proc/self/clear_refs", os.O_WRONLY)
         self.child = None
         self.late = False
         signal.signal(signal.SIGALRM, self.end)
@@ -215,6 +292,10 @@ class Trial:
         out = text.place if text else self.nowhere
         actions = [(os.POSIX_SPAWN_DUP2, out, 1), (os.POSIX_SPAWN_DUP2, self.said.place, 2)]
         self.late = False
+        # A run begins as a part of this process, so its peak of memory is at least this one's, which is set to what is in
+        # use. Peaks are counted roughly.
+        os.write(self.peak, b"5")
+        own = (resource.getrusage(resource.RUSAGE_SELF).ru_maxrss << 10) + (4 << 20)
         self.child = os.posix_spawn(self.program, [self.program, *words], {}, file_actions=actions)
         signal.alarm(20)
         _, answer, used = os.wait4(self.child, 0)
@@ -232,7 +313,7 @@ class Trial:
         said = {2: REFUSAL, 7: DOUBT, 8: BAD_LINE}
         if any((status == one) != bool(form.fullmatch(line)) for one, form in said.items()) or status == 0 and line:
             raise Wrong("%s: status %d, said %r" % (label, status, line))
-        if most is not None and used.ru_maxrss * 1024 > most:
+        if most is not None and used.ru_maxrss * 1024 > max(most, own):
             raise Wrong("%s takes %d KB" % (label, used.ru_maxrss))
         return status, line
 
@@ -262,8 +343,30 @@ class Trial:
         if answer != verdict:
             raise Wrong("%s answers otherwise than summary" % label)
 
+    def chunks_shown(self):
+        """How many chunks come before the first refused one."""
+        if self.verdict[0] == 2:
+            return int(self.verdict[1].split()[1]) - 1
+        return int(re.search(rb"\nchunks ([0-9]+)\n", self.totals.bytes())[1])
+
     def metadata(self):
-        self.agrees("metadata", self.run("metadata", ["metadata", self.source], (0, 2), most=self.most), self.verdict)
+        """The classes, as text and as JSON."""
+        for label, text in ("metadata", self.other), ("metadata --json", self.lines):
+            answer = self.run(label, [*label.split(), self.source], (0, 2), text, self.most)
+            if answer[0] == 4:
+                return
+            self.agrees(label, answer, self.verdict)
+        if self.other.size() <= LARGEST_COMPARED:
+            lines = self.lines.bytes().decode().split("\n")[:-1]
+            if metadata_of(lines, self.chunks_shown()) != self.other.bytes().decode():
+                raise Wrong("metadata --json says something else than metadata")
+
+    def summary_json(self):
+        """The totals as JSON."""
+        answer = self.run("summary --json", ["summary", "--json", self.source], (0, 2), self.other, self.most)
+        self.agrees("summary --json", answer, self.verdict)
+        if answer[0] == 0 and summary_of(self.other.bytes()) != self.totals.bytes().decode():
+            raise Wrong("summary --json says something else than summary")
 
     def print_text(self, *options):
         label = " ".join(["print", *options])
@@ -311,6 +414,96 @@ class Trial:
         """What `print --json` shows of a file, or nothing if that is too long."""
         answer = self.run("print --json, of " + name, ["print", "--json", self.name(name)], (0, 5), text)
         return text.bytes() if answer[0] == 0 else None
+
+    def shown_like_scrub(self, *option):
+        """The events and the stacks by an option or a window, and those of a scrub by it."""
+        words = {"--include-events": "--events", "--include-categories": "--categories"}
+        if option[0] not in ("--from", "--to", *words):
+            return
+        # The last words may be for descriptions, of which these commands show nothing.
+        shown = option[: option.index("--describe")] if "--describe" in option else option
+        given, out = [words.get(word, word) for word in shown], self.fresh("out.jfr")
+        self.run("scrub", ["scrub", *option, self.source, out], (0, 2), most=self.most)
+        for command in ("print", "--json"), ("stacks",):
+            label = " ".join([*command, *given[:1]])
+            answer = self.run(label, [*command, *given, self.source], (0, 2, 5), self.other)
+            if answer[0] not in (4, 5):
+                self.agrees(label, answer, self.verdict)
+            if answer[0] == 0:
+                status = self.run(label + ", of a scrub", [*command, out], (0, 5), self.lines)[0]
+                if status == 0 and self.lines.bytes() != self.other.bytes():
+                    raise Wrong("%s shows something else than of a scrub" % label)
+
+    def masked(self, label, words, filters):
+        """A mask of the input with a table, by these words: the texts of the table, if the input is accepted."""
+        masked, table = self.fresh("masked.jfr"), self.fresh("table")
+        words = ["mask", *filters, *words, "--table", table, self.source, masked]
+        self.agrees(label, self.run(label, words, (0, 2), most=self.most), self.verdict)
+        if self.verdict[0] != 0:
+            return None
+        texts = texts_in(table)
+        if list(texts) != ["masked-%d" % number for number in range(1, len(texts) + 1)]:
+            raise Wrong("%s: the table has other numbers" % label)
+        if len(set(texts.values())) < len(texts):
+            raise Wrong("%s: the table has a text twice" % label)
+        return texts
+
+    def compare_masked(self, texts, known, all_masked):
+        """Compares the events of a mask and of a scrub."""
+        shown = [self.printed_deep(name, text) for name, text in (("out.jfr", self.lines), ("masked.jfr", self.other))]
+        if None in shown:
+            return
+        if len(shown[0]) != len(shown[1]):
+            raise Wrong("a mask has other events than a scrub")
+        for one, other in zip(*shown):
+            one, other = json.loads(one), json.loads(other)
+            for path, text, shown_for in differences(one, other, one["type"]):
+                if not is_masked(text, shown_for, texts, known):
+                    raise Wrong("a mask shows %s as %r in place of %r" % (path, shown_for, text))
+            for left in texts_of(other["values"]) if all_masked else ():
+                if left and left not in known and not PSEUDONYM.fullmatch(left) and not DIGITS.fullmatch(left):
+                    raise Wrong("a mask of all texts shows %r" % left)
+
+    def printed_deep(self, name, text):
+        """The lines of the events of a file, or nothing if they are too long."""
+        words = ["print", "--json", "--depth", "8", self.name(name)]
+        answer = self.run("print --json --depth 8, of " + name, words, (0, 5), text)
+        return text.bytes().splitlines() if answer[0] == 0 and text.size() <= LARGEST_COMPARED else None
+
+    def mask(self, rng, *filters):
+        """A mask, and one with some of its texts known."""
+        words = strings_of(rng)
+        texts = self.masked("mask", words, filters)
+        if texts is None:
+            return
+        out = self.fresh("out.jfr")
+        self.run("scrub", ["scrub", *filters, self.source, out], (0,), most=self.most)
+        self.compare_masked(texts, (), words == ["--strings", "*"])
+        known = {text for text in texts.values() if "\n" not in text and rng.random() < 0.5}
+        with open(self.name("known"), "w", encoding="utf-8", newline="") as file:
+            file.write("\n".join(sorted(known)))
+        known = {text for text in known if not text.startswith(LIKE_PSEUDONYM)}
+        rest = self.masked("mask --known", [*words, "--known", self.name("known")], filters)
+        if list(rest.values()) != [text for text in texts.values() if text not in known]:
+            raise Wrong("mask --known numbers other texts")
+        self.compare_masked(rest, known, words == ["--strings", "*"])
+        counts = [self.stacks_of(name) for name in ("out.jfr", "masked.jfr")]
+        if None not in counts and counts[0] != counts[1]:
+            raise Wrong("a mask has stacks of other events than a scrub")
+
+    def stacks_of(self, name):
+        """How many events have a stack in a file, or nothing if its stacks are too long."""
+        answer = self.run("stacks, of " + name, ["stacks", self.name(name)], (0, 5), self.other)
+        return sum(int(line.rpartition(b" ")[2]) for line in self.other.bytes().splitlines()) if answer[0] == 0 else None
+
+    def sample(self, rng):
+        """A sample of a seed and a number of events."""
+        seed, many = rng.choice((0, 1, rng.randrange(2**32), 2**32 - 1)), rng.choice((1, 2, rng.randrange(1, 2000)))
+        self.run("sample", ["sample", str(seed), str(many)], (0,), self.other, 64 << 20)
+        lines = [line.rpartition(" ") for line in self.other.bytes().decode().splitlines()]
+        said = {name: int(number) for name, _, number in lines}
+        if (said["events"], said["constants"]) != (many, many) or said["kept events"] > many or said["kept bytes"] > said["bytes"]:
+            raise Wrong("sample %d %d has other numbers" % (seed, many))
 
     def renumber(self, *filters):
         """A scrub with new keys, and one without."""
@@ -417,6 +610,12 @@ class Trial:
             lambda: self.verify(rng),
             self.renumber,
             self.stacks,
+            lambda: self.mask(rng),
+            lambda: self.shown_like_scrub(*option),
+            lambda: self.mask(rng, *option),
+            self.summary_json,
+            lambda: self.shown_like_scrub(*window_of(rng, data)),
+            lambda: self.sample(rng),
         )
         groups = first + others
         accepted = self.verdict[0] == 0
@@ -424,19 +623,45 @@ class Trial:
             group()
 
 
-def option_of(rng):
-    """An option of a scrub with its pattern."""
-    patterns = {
-        "threads": ["*", "main*", "worker*", "*e*", "nosuch", "*a*a*b"],
-        "categories": ["*", "Java*", "*System", "a?", "nosuch", "*a*a*b"],
-        "events": ["*", "A", "t.*", "*E", "nosuch", "ThreadPark"],
-    }
-    name, given = rng.choice(list(patterns.items()))
-    return "--%s-%s" % (rng.choice(("include", "exclude")), name), rng.choice(given)
+def window_of(rng, data):
+    """A window, by moments near the first chunk's, and sometimes with events that are always in it."""
+    start, took = (int.from_bytes(data[at:at + 8], "big") for at in (32, 40))
+    near = [start + change for change in (-1, 0, 1, took // 2, took, took + 1)]
+    moments = [str(max(0, min(2**63 - 1, rng.choice([*near, 0, 2**63 - 1])))) for _ in range(2)]
+    words = rng.choice((("--from", moments[0]), ("--to", moments[0]), ("--from", moments[0], "--to", moments[1])))
+    return (*words, "--always", rng.choice(PATTERNS["events"])) if rng.random() < 0.3 else words
+
+
+def strings_of(rng):
+    """The words for which strings are masked."""
+    words = ["--strings", rng.choice(("*", "*", "t.*", "*.text", "*.string,*Name", "nosuch", "*a*a*b,java.lang.*"))]
+    return [*words, "--except", rng.choice(("t.E.*", "*.name", "*", "nosuch"))] if rng.random() < 0.4 else words
+
+
+def option_of(rng, data):
+    """An option of a scrub with its pattern, or a window, and sometimes types to describe."""
+    if rng.random() < 0.3:
+        option = window_of(rng, data)
+    else:
+        name, given = rng.choice(list(PATTERNS.items()))
+        option = "--%s-%s" % (rng.choice(("include", "exclude")), name), rng.choice(given)
+    return (*option, "--describe", rng.choice(PATTERNS["events"])) if rng.random() < 0.3 else option
+
+
+def timed_seeds():
+    """Recordings of events with times near the moments of windows: with a duration and without one, and both."""
+    fields = ("startTime", hostile.LONG, {}), ("duration", hostile.LONG, {})
+    times = [(start, took) for start in (-1, 0, 1, 2, 5, 6) for took in (0, 1, -1)]
+
+    def chunk(many):
+        events = (b"".join(map(hostile.integer, time[:many])) for time in times)
+        described = hostile.metadata(hostile.event_class(*fields[:many]))
+        return hostile.chunk(described, b"".join(hostile.record(hostile.EVENT, event) for event in events))
+    return [chunk(2), chunk(1), chunk(2) + chunk(1)]
 
 
 def seeds_of(files):
-    seeds = []
+    seeds = timed_seeds()
     for path in files:
         with open(path, "rb") as file:
             seeds.append(file.read())
@@ -482,7 +707,7 @@ class Task:
                 rng = random.Random("%d %d" % (self.seed, number))
                 is_text = self.only_texts or number % 5 == 4
                 data = mutated_text(rng, self.texts) if is_text else mutated(rng, self.seeds, self.parsed)
-                option = ("a text",) if is_text else option_of(rng)
+                option = ("a text",) if is_text else option_of(rng, data)
                 tally.inputs, tally.size = tally.inputs + 1, tally.size + len(data)
                 try:
                     if is_text:

@@ -4,8 +4,8 @@
 The recording is spelled by the rules of docs/FORMAT.md, with all sizes, positions and deltas true unless its kind
 says otherwise. SIZE scales what is large in it, from 0 to 1; without it 1, so that the largest recordings are chunks
 of the greatest size. Writes the recording to OUT and prints nothing; the status is 1 where there is no such kind.
-A kind whose name begins with text_ makes a text for the command `build` instead, and one that begins with patterns_ is
-for long patterns.
+A kind whose name begins with text_ makes a text for the command `build` instead, one that begins with patterns_ is for
+long patterns, and one that begins with known_ for files of known texts.
 """
 import math
 import struct
@@ -249,6 +249,23 @@ def equal_texts(size):
 def long_masked_text(size):
     """An event with a text of 100 megabytes."""
     return texts_of([text("t" * count(10**8, size))])
+
+
+def key_chain(size):
+    """A million events with the same text, to which a chain of 16 keys leads."""
+    described = metadata(event_class(("text", STRING, {})))
+    links = [(n, key_text(n + 1)) for n in range(1, 16)] + [(16, text("the text"))]
+    return chunk(described, record(EVENT, key_text(1)) * count(10**6, size), checkpoint([pool(STRING, links)]))
+
+
+def known_texts(size):
+    """Four times 250,000 events, whose texts are the numbers from 0, in seven digits."""
+    return texts_of([text("%07d" % n) for n in range(count(250000, size))] * 4)
+
+
+def known_alike(size):
+    """250,000 events, whose texts are the same 300 characters and such a number."""
+    return texts_of(text("a" * 300 + "%07d" % n) for n in range(count(250000, size)))
 
 
 # Metadata.
@@ -841,7 +858,7 @@ KINDS = {make.__name__: make for make in (
     references, array, array_short, strings, elements, attributes, long_key, long_names, alike_fields, classes,
     patterns_classes, patterns_name, same_names, fields, categories, long_categories, long_class_names, alike_classes, inline_32, inline_33,
     inline_wide, inline_array, ring, string_ring, fan, chain, thread_name, shared_name, shared_text,
-    distinct_texts, equal_texts, long_masked_text, stacks, long_stack, long_methods, frame_ring, late_names, late_method, equal_constants, alike_constants, equal_megabytes, alike_megabytes,
+    distinct_texts, equal_texts, long_masked_text, key_chain, known_texts, known_alike, stacks, long_stack, long_methods, frame_ring, late_names, late_method, equal_constants, alike_constants, equal_megabytes, alike_megabytes,
     chunks,
     delta_self, delta_forward, delta_amid,
 )}

@@ -13,6 +13,10 @@
 # may grow with the product of the lengths, by 10 nanoseconds for each character of a pattern and each of a name, and by 25
 # for each pattern of one character and each class. By smaller scales, these two runs take ten minutes each at scale 1.
 #
+# A kind whose name begins with known_ is for `mask --known`: with a file of 250,000 lines that are the texts of the
+# recording, with one of as many lines that have a character more, and with one of as many lines that are the first text.
+# The size of this file counts, too.
+#
 # `verify` of a recording with itself and its receipt has both chunks in memory, so that its bound is 60 times both files.
 #
 # Of a kind that is a text for `build`, runs that command, which has to end with status 0, 5 or 8, and then `summary` and
@@ -106,6 +110,22 @@ patterns() {
     fi
 }
 
+# The runs of a kind for files of known texts.
+known() {
+    local recording=$size start='' lines=$work/lines
+    [ "$kind" = known_texts ] || start=$(repeated a 300)
+    seq -f "$start%07.0f" 0 $(($(so_many 250000) - 1)) >"$lines"
+    size=$((recording + $(stat -c %s "$lines")))
+    run 'mask, all known' mask --strings '*' --known "$lines" "$file" "$work/out.jfr"
+    sed -i 's/$/x/' "$lines"
+    size=$((recording + $(stat -c %s "$lines")))
+    run 'mask, none known' mask --strings '*' --known "$lines" "$file" "$work/out.jfr"
+    yes "${start}0000000" | head -n "$(so_many 250000)" >"$lines"
+    size=$((recording + $(stat -c %s "$lines")))
+    run 'mask, one known' mask --strings '*' --known "$lines" "$file" "$work/out.jfr"
+    rm -f "$lines"
+}
+
 echo "| kind | bytes | command | status | seconds | of processor | peak MB | times | said | missed |"
 echo "|---|---:|---|---:|---:|---:|---:|---:|---|---|"
 for kind in "${kinds[@]}"; do
@@ -126,6 +146,11 @@ for kind in "${kinds[@]}"; do
     fi
     if [[ $kind == patterns_* ]]; then
         patterns
+        rm -f "$file"
+        continue
+    fi
+    if [[ $kind == known_* ]]; then
+        known
         rm -f "$file"
         continue
     fi
