@@ -201,7 +201,7 @@ def class_of(line):
 
 
 def metadata_of(lines, many):
-    """The text of `metadata` for so many chunks, from its lines of JSON."""
+    """The text of `metadata` for this number of chunks, from its lines of JSON."""
     texts = ["chunk %d\n" % number for number in range(1, many + 1)]
     for line in lines:
         number, text = class_of(line)

@@ -14,7 +14,7 @@
 # for each pattern of one character and each class. By smaller scales, these two runs take ten minutes each at scale 1.
 #
 # A kind whose name begins with known_ is for `mask --known`: with a file of 250,000 lines that are the texts of the
-# recording, with one of as many lines that have a character more, and with one of as many lines that are the first text.
+# recording, with one of 250,000 lines that have a character more, and with one in which each line is the first text.
 # The size of this file counts, too.
 #
 # `verify` of a recording with itself and its receipt has both chunks in memory, so that its bound is 60 times both files.
