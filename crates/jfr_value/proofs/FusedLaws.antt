@@ -1,15 +1,18 @@
 -- Fields that are passed at once end where they do one by one.
-use Rattle.std.specs.Prelude.{◌≡◌, ◌⊎◌, ℕ, zero, suc, ◌+◌, ◌-◌, ◌<◌, ◌≤◌, List, [], ◌∷◌, ◌++◌, take, drop, length, slice_get, Option, Some, None, Result, Ok, Err, IfOk, IfSome, nat_le, option_map, option_to_list, true, if◌then◌else◌}
+use Rattle.std.specs.Prelude.{◌≡◌, ◌⊎◌, ℕ, zero, suc, ◌+◌, ◌-◌, ◌<◌, ◌≤◌, List, [], ◌∷◌, ◌++◌, take, drop, length, map, slice_get, Option, Some, None, Result, Ok, Err, IfOk, IfSome, nat_le, option_map, option_to_list, true, if◌then◌else◌}
 use Rattle.std.specs.List.{AllByRecursion, flat_map}
+use Rattle.std.specs.Option.{option_map_or}
+use Rattle.std.specs.Result.{result_ok}
 use Rattle.std.proofs.Common.{ap, arith, get_or, inl, inr, refl, subst, sym, ◌∙◌}
 use Rattle.std.proofs.lemmas.List.{drop_all, drop_more}
 use Rattle.jfr_base.specs.declared.flaw.Flaw.{Flaw}
 use Rattle.jfr_base.specs.declared.integer.Var.{Var}
 use Rattle.jfr_base.specs.Formats.{Answer, Format, Done, Int, int_at, after_int, integer, unchecked, refused, run, end_or_flaw, times}
 use Rattle.jfr_base.specs.declared.reason.Reason.TheVariants.{Short}
+use Rattle.jfr_base.proofs.Ranges.{range_length}
 use Rattle.jfr_base.proofs.FormatEnds.{then_at, then_at_ok, end_or_flaw-for_each, end_or_flaw-times}
 use Rattle.jfr_layout.specs.Classes.{AreFieldLayouts, Class, Classes, IsFieldLayout, inline_form, item_of}
-use Rattle.jfr_layout.specs.Fused.{AreIntegers, AreFused, AreRaw, IsEventPrelude, IsFused, IsOf, passed_by}
+use Rattle.jfr_layout.specs.Fused.{AreIntegers, AreFused, AreRaw, IsEventPrelude, IsFused, IsOf, Passes, passed_by}
 use Rattle.jfr_layout.specs.Resolved.{IsClassLayout}
 use Rattle.jfr_layout.specs.declared.class_layout.ClassLayout.{ClassLayout}
 use Rattle.jfr_layout.specs.declared.fused.FusedFields.{FusedFields}
@@ -22,12 +25,13 @@ use Rattle.jfr_text.specs.Strings.{string_format}
 use Rattle.jfr_value.specs.declared.leaf.LeafKind.TheVariants as leaf_kinds
 use Rattle.jfr_value.specs.Values.{IsLayoutOrKey, Value, Single, key_of, targets_of}
 use Rattle.jfr_value.specs.Reading.{base_format, class_format, item_format, values_format, shape_format}
-use Rattle.jfr_value.specs.Visits.{TakesAll, TakesRead, TakesReadAll}
+use Rattle.jfr_value.specs.Visits.{AreNumbers, IsNumbers, TakesAll, TakesRead, TakesReadAll, field_shapes, shapes_of_layouts}
 use Rattle.jfr_value.proofs.AppendLaws.{both_seen, both_taken, then_same}
 use Rattle.jfr_value.proofs.EndLaws.{key_ends, shape_item}
 use Rattle.jfr_value.proofs.FormLaws.{inline_there, key_there, plain_there}
 use Rattle.jfr_value.proofs.PlaceLaws.{get_within}
 use Rattle.jfr_value.proofs.SkipLaws.{base_skipped}
+use Rattle.jfr_value.proofs.LayoutLaws.{by_shapes, of_shapes}
 use Rattle.jfr_value.proofs.LayoutEnds.{base_ends, inline_taken, text_ends, text_taken}
 use Rattle.jfr_value.proofs.TakingLaws.{TakesRemaining, cons_taken, item_taken, no_value, plain_taken}
 
@@ -77,6 +81,23 @@ raw_ends kind count x end at e l = by_kind kind e
     by_kind kinds.Long e = cc
     by_kind kinds.Text e = cc
     by_kind kinds.Composite e = cc
+
+pub all_integers : (ss : List FieldLayout) → AllByRecursion (λ s. s.form ≡ forms.Integer) ss → AreNumbers ss
+all_integers [] e = tt
+all_integers (s ∷ ss) e = (inl e.0, all_integers ss e.1)
+
+pub all_raw : (ss : List FieldLayout) (count : ℕ) → AreRaw count ss → AreNumbers ss
+all_raw [] count a = tt
+all_raw (s ∷ ss) count a = (inr (a.0, a.2), all_raw ss a.1 a.4)
+
+-- What is found where the values end.
+pub found_end : (r e : Result ℕ Flaw) (o : Option ℕ) → o ≡ result_ok r → r ≡ e → IfSome o (λ to. Ok to ≡ e)
+found_end (Ok to) e o f q = subst (λ z. IfSome z (λ to. Ok to ≡ e)) (sym f) q
+found_end (Err w) e o f q = subst (λ z. IfSome z (λ to. Ok to ≡ e)) (sym f) tt
+
+pub found_bytes : (r e : Result ℕ Flaw) (o : Option ℕ) (at count end : ℕ) → o ≡ result_ok r → IfOk r (λ to. (to ≡ at + count) × (to ≤ end)) → (at + count ≤ end → Ok (at + count) ≡ e) → IfSome o (λ to. Ok to ≡ e)
+found_bytes (Ok to) e o at count end f h q = subst (λ z. IfSome z (λ to. Ok to ≡ e)) (sym f) (ap (λ n. Ok n) h.0 ∙ q (let x = h.0 in omega (arith, h.1)))
+found_bytes (Err w) e o at count end f h q = subst (λ z. IfSome z (λ to. Ok to ≡ e)) (sym f) tt
 
 module _ (k : Classes) (levels : ℕ) (x : List ℕ) (end : ℕ) where
   abbrev inline : Shape → Format Value
@@ -161,26 +182,15 @@ module _ (k : Classes) (levels : ℕ) (x : List ℕ) (end : ℕ) where
     unfolding run
     alone_taken s at old new h = cons_ends s [] at old new new h (λ to e. refl)
 
-    abbrev IsPlain : FieldLayout → Type 0
-    IsPlain s = (s.form ≡ forms.Integer) ⊎ ((count : ℕ) × (s.form ≡ forms.Raw count))
-
-    plain_one : (s : FieldLayout) (at : ℕ) (a : A) → IsFieldLayout k s → IsPlain s → TakesRead takes (run (one s) x end at) a a
+    plain_one : (s : FieldLayout) (at : ℕ) (a : A) → IsFieldLayout k s → IsNumbers s → TakesRead takes (run (one s) x end at) a a
     plain_one s at a i e =
         let m = plain_there s i.form e in
         inline_taken k s levels x end at (placed s i) takes a a m.array m.constant (plain_taken takes x end at (levels + 1) k s a (omega arith) i m.not_composite m.not_text)
 
-    plain_all : (ss : List FieldLayout) (at : ℕ) (a : A) → AllByRecursion (IsFieldLayout k) ss → AllByRecursion IsPlain ss → TakesReadAll takes (row ss at) a a
+    plain_all : (ss : List FieldLayout) (at : ℕ) (a : A) → AllByRecursion (IsFieldLayout k) ss → AreNumbers ss → TakesReadAll takes (row ss at) a a
     unfolding run
     plain_all [] at a i e = refl
     plain_all (s ∷ ss) at a i e = cons_ends s ss at a a a (plain_one s at a i.0 e.0) (λ to q. plain_all ss to a i.1 e.1)
-
-    all_integers : (ss : List FieldLayout) → AllByRecursion (λ s. s.form ≡ forms.Integer) ss → AllByRecursion IsPlain ss
-    all_integers [] e = tt
-    all_integers (s ∷ ss) e = (inl e.0, all_integers ss e.1)
-
-    all_raw : (ss : List FieldLayout) (count : ℕ) → AreRaw count ss → AllByRecursion IsPlain ss
-    all_raw [] count a = tt
-    all_raw (s ∷ ss) count a = (inr (a.0, a.2), all_raw ss a.1 a.4)
 
     pub integers_taken : (count : ℕ) (ss : List FieldLayout) (at : ℕ) (a : A) → AllByRecursion (IsFieldLayout k) ss → AreIntegers count ss → TakesReadAll takes (row ss at) a a
     integers_taken count ss at a i e = plain_all ss at a i (all_integers ss e.1)
@@ -269,10 +279,22 @@ module _ (k : Classes) (levels : ℕ) (x : List ℕ) (end : ℕ) where
         (key_taken takes thread (f.threads ∷ []) threads old now (each.1.1.0, tt) (f.threads, refl, f.thread_is) h)
         (key_taken takes trace (f.traces ∷ []) traces now new (each.1.1.1.0, tt) (f.traces, refl, f.trace_is) t)))
 
+pub passed_length : (ss : List FieldLayout) (l : FusedFields) → IsFused ss l → length (passed_by ss l) ≡ l.fields
+passed_length ss l i = let x = range_length ss l.first (l.first + l.fields) i.within in omega arith
+
 -- The layout of the class at a place.
 pub row_layouts : (k : Classes) (o : Option Class) (row : ClassLayout) → IfSome o (λ c. IsClassLayout k c row) → IfSome o (λ c. AreFieldLayouts k c.fields row.layouts.items)
 row_layouts k None row h = h
 row_layouts k (Some c) row h = h.layouts
+
+pub row_shapes : (k : Classes) (place : ℕ) (row : ClassLayout) → place < length k → IfSome (slice_get k place) (λ c. IsClassLayout k c row) → field_shapes k place ≡ shapes_of_layouts row.layouts.items
+row_shapes k place row l h =
+    let c = get_within k place l in
+    let i : AreFieldLayouts k c.0.fields row.layouts.items = (subst (λ o. IfSome o (λ c. IsClassLayout k c row)) c.1 h).layouts in
+    ap (λ o. option_map_or (λ c. map (λ f. f.shape) c.fields) o []) c.1 ∙ sym i.shapes
+
+pub row_each : (k : Classes) (place : ℕ) (row : ClassLayout) → place < length k → IfSome (slice_get k place) (λ c. IsClassLayout k c row) → AllByRecursion (IsFieldLayout k) row.layouts.items
+row_each k place row l h = let c = get_within k place l in (subst (λ o. IfSome o (λ c. IsClassLayout k c row)) c.1 h).layouts.each
 
 pub row_fused : (k : Classes) (place : ℕ) (row : ClassLayout) → place < length k → IfSome (slice_get k place) (λ c. IsClassLayout k c row) → AreFused row.layouts.items row.fused_fields.items
 row_fused k place row l h = let c = get_within k place l in (subst (λ o. IfSome o (λ c. IsClassLayout k c row)) c.1 h).fused_fields
@@ -290,14 +312,14 @@ module _ (ss : List FieldLayout) (fused_fields : List FusedFields) where
       all_get (l ∷ ls) zero d h a = a.0
       all_get (l ∷ ls) (suc i) d h a = all_get ls i d (omega arith) a.1
 
-  left_next : (i : ℕ) (d : FusedFields) → i < length fused_fields → left_by i ≡ passed_by ss (get_or fused_fields i d) ++ left_by (i + 1)
+  pub left_next : (i : ℕ) (d : FusedFields) → i < length fused_fields → left_by i ≡ passed_by ss (get_or fused_fields i d) ++ left_by (i + 1)
   left_next i d h = ap (flat_map (passed_by ss)) (drop_more fused_fields i d h)
 
   module _ (k : Classes) (levels : ℕ) (x : List ℕ) (end : ℕ) where
     abbrev by_fused : ℕ → ℕ → Answer (List Value)
     by_fused i at = run (values_format (levels + 1) k (left_by i)) x end at
 
-    left_none : (i : ℕ) → length fused_fields ≤ i → left_by i ≡ []
+    pub left_none : (i : ℕ) → length fused_fields ≤ i → left_by i ≡ []
     left_none i h = ap (flat_map (passed_by ss)) (drop_all i fused_fields h)
 
     pub fused_end : (i at : ℕ) → length fused_fields ≤ i → end_or_flaw (by_fused i at) ≡ Ok at
@@ -321,3 +343,32 @@ module _ (ss : List FieldLayout) (fused_fields : List FusedFields) where
           (subst (λ z. TakesReadAll takes (run (values_format (levels + 1) k z) x end at) now last) (sym (left_next i d h))
           (both_taken (λ (s : FieldLayout). shape_format (class_format (levels + 1) k) s.shape) x end takes (passed_by ss (get_or fused_fields i d)) (left_by (i + 1)) at to now new last e t u));
     }
+
+-- The next fused fields of a class.
+pub record NextFused (k : Classes) (P : Shape → Type 0) (row : ClassLayout) (i : ℕ) (l : FusedFields) (passed : List FieldLayout) : Type 0 where
+  pub left : left_by row.layouts.items row.fused_fields.items i ≡ passed ++ left_by row.layouts.items row.fused_fields.items (i + 1)
+  pub fused : IsFused row.layouts.items l
+  pub each : AllByRecursion (IsFieldLayout k) passed
+  pub count : length passed ≡ l.fields
+  pub passes : Passes l.kind passed
+  pub shapes : AllByRecursion P (shapes_of_layouts passed)
+
+pub next_fused : (k : Classes) (place : ℕ) (row : ClassLayout) (fs : List FusedFields) (i : ℕ) (d : FusedFields) (passed : List FieldLayout) (P : Shape → Type 0) → place < length k → IfSome (slice_get k place) (λ c. IsClassLayout k c row) → AllByRecursion P (field_shapes k place)
+    → fs ≡ row.fused_fields.items → i < length fs → passed ≡ passed_by row.layouts.items (get_or fs i d) → NextFused k P row i (get_or fs i d) passed
+next_fused k place row fs i d passed P l h a e n q = subst (λ z. NextFused k P row i (get_or z i d) passed) (sym e) (made (subst (λ z. i < length z) e n) (subst (λ z. passed ≡ passed_by row.layouts.items (get_or z i d)) e q))
+  where
+    ss : List FieldLayout
+    ss = row.layouts.items
+
+    made : i < length row.fused_fields.items → passed ≡ passed_by row.layouts.items (get_or row.fused_fields.items i d) → NextFused k P row i (get_or row.fused_fields.items i d) passed
+    made n q =
+        let fused = get_or row.fused_fields.items i d in
+        let u = fused_there ss row.fused_fields.items i d n (row_fused k place row l h).each in
+        subst (NextFused k P row i fused) (sym q) (record {
+          left = left_next ss row.fused_fields.items i d n;
+          fused = u;
+          each = all_passed (IsFieldLayout k) ss fused (row_each k place row l h);
+          count = passed_length ss fused u;
+          passes = u.passes;
+          shapes = of_shapes P (passed_by ss fused) (all_passed (λ s. P s.shape) ss fused (by_shapes P ss (subst (AllByRecursion P) (row_shapes k place row l h) a)));
+        })

@@ -11,6 +11,7 @@ use Rattle.jfr_layout.specs.declared.kind.Kind.TheVariants as kinds
 use Rattle.jfr_layout.specs.declared.shape.Shape.{Shape}
 use Rattle.jfr_layout.specs.declared.field_layout.FieldLayout.{FieldLayout}
 use Rattle.jfr_value.specs.Values.{IsLayoutOrKey}
+use Rattle.jfr_value.specs.Visits.{shapes_of_layouts}
 use Rattle.jfr_value.proofs.PlaceLaws.{get_within, kind_there, placed_class, placed_some, placed_within}
 
 -- The class of a layout's shape.
@@ -96,3 +97,12 @@ field_of k place number ss l a n =
 
 pub few_fields : (k : Classes) (place number : ℕ) (ss : List FieldLayout) → place < length k → IfSome (slice_get k place) (λ c. AreFieldLayouts k c.fields ss) → length ss ≤ number → IfSome (slice_get k place) (λ c. length c.fields ≤ number)
 few_fields k place number ss l a n = let c = layouts_of k place ss l a in subst (λ o. IfSome o (λ c. length c.fields ≤ number)) (sym c.there) (omega (arith, c.count))
+
+-- What is known of the layouts of fields, by their shapes.
+pub by_shapes : (P : Shape → Type 0) (ss : List FieldLayout) → AllByRecursion P (shapes_of_layouts ss) → AllByRecursion (λ s. P s.shape) ss
+by_shapes P [] a = tt
+by_shapes P (s ∷ ss) a = (a.0, by_shapes P ss a.1)
+
+pub of_shapes : (P : Shape → Type 0) (ss : List FieldLayout) → AllByRecursion (λ s. P s.shape) ss → AllByRecursion P (shapes_of_layouts ss)
+of_shapes P [] a = tt
+of_shapes P (s ∷ ss) a = (a.0, of_shapes P ss a.1)

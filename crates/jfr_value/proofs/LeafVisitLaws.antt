@@ -1,25 +1,23 @@
 -- A visit of the leaves of values, one after another.
-use Rattle.std.specs.Prelude.{◌≡◌, ℕ, zero, suc, ◌+◌, ◌-◌, ◌<◌, ◌≤◌, false, true, List, [], ◌∷◌, ◌++◌, length, map, drop, replicate, slice_get, slice_range, Option, Some, None}
+use Rattle.std.specs.Prelude.{◌≡◌, ℕ, zero, suc, ◌+◌, ◌-◌, ◌<◌, ◌≤◌, false, List, [], ◌∷◌, ◌++◌, length, map, drop, slice_get, slice_range, Option, Some, None}
 use Rattle.std.specs.List.{AllByRecursion}
 use Rattle.std.specs.Option.{option_map_or}
-use Rattle.std.proofs.Common.{ap, arith, refl, sym, ◌∙◌, subst}
-use Rattle.std.proofs.lemmas.List.{append_assoc, append-nil, length-append}
-use Rattle.jfr_base.specs.declared.integer.Var.{Var}
-use Rattle.jfr_base.specs.Formats.{int_at}
+use Rattle.std.proofs.Common.{ap, arith, get_or, refl, sym, ◌∙◌, subst}
+use Rattle.std.proofs.lemmas.List.{append_assoc, append-nil, drop_more, length-append, length-map, map-append}
 use Rattle.jfr_base.proofs.Ranges.{range_length}
-use Rattle.jfr_layout.specs.Classes.{Class, Classes, Field, field_at, find_class, item_of, kind_of}
+use Rattle.jfr_layout.specs.Classes.{Class, Classes, find_class, kind_of}
 use Rattle.jfr_layout.specs.declared.kind.Kind.TheVariants as kinds
+use Rattle.jfr_layout.specs.declared.field_layout.FieldLayout.{FieldLayout}
 use Rattle.jfr_layout.specs.declared.shape.Shape.{Shape}
 use Rattle.jfr_value.specs.declared.leaf.Holder.{Holder}
 use Rattle.jfr_value.specs.declared.leaf.LeafKind.{LeafKind}
-use Rattle.jfr_value.specs.declared.leaf.LeafKind.TheVariants as leaf_kinds
-use Rattle.jfr_value.specs.Values.{Value, Values, Cons, Nil, bytes_of, shape_of}
+use Rattle.jfr_value.specs.Values.{Value, Values, Cons, Nil, bytes_of}
 use Rattle.jfr_value.specs.Nodes.{AreValues, IsNode, NodeAt, node_at}
-use Rattle.jfr_value.specs.Leaves.{LeafAt, leaves, leaves_at}
-use Rattle.jfr_value.specs.Visits.{AreToVisit, Passed, TakesAll, Visits, field_shapes}
+use Rattle.jfr_value.specs.Leaves.{LeafAt, leaves_at}
+use Rattle.jfr_value.specs.Visits.{AreToVisit, TakesAll, Visits, field_shapes, shapes_of_layouts}
 use Rattle.jfr_value.specs.Walks.{fields_from, leaves_held}
-use Rattle.jfr_value.proofs.TargetLaws.{leaves_are}
-use Rattle.jfr_value.proofs.VisitLaws.{field_next, none_left, takes_append}
+use Rattle.jfr_value.proofs.LayoutLaws.{no_layout}
+use Rattle.jfr_value.proofs.VisitLaws.{none_left, takes_append}
 use Rattle.jfr_value.proofs.WalkLaws.{Taken, fields_next, first_of, no_leaves}
 
 all_rest : {X : Type 0} (P : X → Type 0) (xs ys : List X) → AllByRecursion P (xs ++ ys) → AllByRecursion P ys
@@ -31,6 +29,16 @@ module _ (admits : LeafAt → Type 0) (k : Classes) (c : List ℕ) (end : ℕ) w
   -- The first value, with the others after it.
   pub first_to_visit : (g : Option Holder) (gs : List (Option Holder)) (s : Shape) (ss : List Shape) (at : ℕ) → AreToVisit admits k c end (g ∷ gs) (s ∷ ss) at → AreToVisit admits k c end (g ∷ []) (s ∷ []) at
   first_to_visit g gs s ss at a = record { other_holders = gs ++ a.other_holders; other_shapes = ss ++ a.other_shapes; values = a.values; row = a.row; admitted = a.admitted }
+
+  -- The first values, with the others after them.
+  pub front_to_visit : (gs hs : List (Option Holder)) (ss ts : List Shape) (at : ℕ) → AreToVisit admits k c end (gs ++ hs) (ss ++ ts) at → AreToVisit admits k c end gs ss at
+  front_to_visit gs hs ss ts at a = record {
+    other_holders = hs ++ a.other_holders;
+    other_shapes = ts ++ a.other_shapes;
+    values = a.values;
+    row = subst (λ z. AreValues k c at end z a.values) (append_assoc ss ts a.other_shapes) a.row;
+    admitted = subst (λ z. AllByRecursion admits (leaves_held z at a.values)) (append_assoc gs hs a.other_holders) a.admitted;
+  }
 
   -- A leaf that comes first is admitted.
   pub leaf_admitted : (g : Option Holder) (s : Shape) (at to class : ℕ) (kind : LeafKind) (gs : List (Option Holder)) (ss : List Shape) (a : AreToVisit admits k c end (g ∷ []) (s ∷ []) at) → Taken k c at end to kind class ss a.values g a.other_holders gs
@@ -65,6 +73,12 @@ module _ {A : Type 0} (takes : LeafAt → A → A → Type 0) (k : Classes) (c :
   -- The first value, with the others after it.
   pub visits_first : (g : Option Holder) (gs : List (Option Holder)) (s : Shape) (ss : List Shape) (at to before after : ℕ) (old new : A) → Visits takes k c end (g ∷ []) (s ∷ []) at old before [] [] to new after → Visits takes k c end (g ∷ gs) (s ∷ ss) at old before gs ss to new after
   visits_first g gs s ss at to before after old new v = λ is us vs r. v (gs ++ is) (ss ++ us) vs r
+
+  -- The first values, with the others after them.
+  pub visits_front : (gs hs : List (Option Holder)) (ss ts : List Shape) (at to before after : ℕ) (old new : A) → Visits takes k c end gs ss at old before [] [] to new after → Visits takes k c end (gs ++ hs) (ss ++ ts) at old before hs ts to new after
+  visits_front gs hs ss ts at to before after old new v = λ is us vs r.
+      (let p = v (hs ++ is) (ts ++ us) vs (subst (λ z. AreValues k c at end z vs) (append_assoc ss ts us) r) in
+      record { first = p.first; others = p.others; row = p.row; leaves = ap (λ z. leaves_held z at vs) (append_assoc gs hs is) ∙ p.leaves; taken = p.taken; steps = p.steps })
 
   -- A visit that goes on with the next value.
   pub visits_next : (gs hs is : List (Option Holder)) (ss ts us : List Shape) (g : Option Holder) (s : Shape) (at mid to before between after : ℕ) (old now new : A) → hs ≡ g ∷ is → ts ≡ s ∷ us
@@ -127,13 +141,59 @@ visits_node takes k c n v to before after old new i w =
     let l : leaves_at None n.at v ≡ p.first = sym (append-nil (leaves_at None n.at v)) ∙ (p.leaves ∙ (ap (λ z. p.first ++ z) (no_leaves k c to n.end [] p.others p.row) ∙ append-nil p.first)) in
     (subst (λ z. TakesAll takes z old new) (sym l) p.taken, (let s = p.steps in let x = ap length l in omega arith), (none_left k c to n.end [] p.others p.row refl).ends)
 
--- The next field.
-pub fields_next_held : (k : Classes) (class place number : ℕ) (f : Field) (s : Shape) → field_at k place number ≡ Some f → s ≡ f.shape → fields_from class number (drop number (field_shapes k place)) ≡ Some (record { class = class; field = number }) ∷ fields_from class (number + 1) (drop (number + 1) (field_shapes k place))
-fields_next_held k class place number f s e q = ap (fields_from class number) (field_next k place number f s e q)
-
 -- A leaf ends where its bytes do.
 pub leaf_end : (c : List ℕ) (l m : LeafAt) (to : ℕ) → l ≡ m → m.spelled ≡ slice_range c m.at to → m.at ≤ to → to ≤ length c → l.at + length l.spelled ≡ to
 leaf_end c l m to e s o w =
     let x : length m.spelled ≡ to - m.at = ap length s ∙ range_length c m.at to w in
     let y : l.at + length l.spelled ≡ m.at + length m.spelled = ap (λ (z : LeafAt). z.at + length z.spelled) e in
     omega arith
+
+-- The fields of a class in two parts.
+pub fields_from_append : (class number : ℕ) (ss ts : List Shape) → fields_from class number (ss ++ ts) ≡ fields_from class number ss ++ fields_from class (number + length ss) ts
+fields_from_append class number [] ts = let e : number ≡ number + 0 = omega arith in ap (λ n. fields_from class n ts) e
+fields_from_append class number (s ∷ ss) ts =
+    let e : number + 1 + length ss ≡ number + length (s ∷ ss) = omega arith in
+    ap (λ z. Some (record { class = class; field = number }) ∷ z) (fields_from_append class (number + 1) ss ts ∙ ap (λ n. fields_from class (number + 1) ss ++ fields_from class n ts) e)
+
+-- The next of some fields.
+pub layout_next : (ss : List FieldLayout) (class number i : ℕ) → i < length ss
+    → (shapes_of_layouts (drop i ss) ≡ (get_or ss i no_layout).shape ∷ shapes_of_layouts (drop (i + 1) ss))
+    × (fields_from class (number + i) (shapes_of_layouts (drop i ss)) ≡ Some (record { class = class; field = number + i }) ∷ fields_from class (number + (i + 1)) (shapes_of_layouts (drop (i + 1) ss)))
+layout_next ss class number i h =
+    let e : shapes_of_layouts (drop i ss) ≡ (get_or ss i no_layout).shape ∷ shapes_of_layouts (drop (i + 1) ss) = ap shapes_of_layouts (drop_more ss i no_layout h) in
+    let n : number + i + 1 ≡ number + (i + 1) = omega arith in
+    (e, ap (fields_from class (number + i)) e ∙ ap (λ m. Some (record { class = class; field = number + i }) ∷ fields_from class m (shapes_of_layouts (drop (i + 1) ss))) n)
+
+pub shape_there : (P : Shape → Type 0) (ss : List FieldLayout) (i : ℕ) → AllByRecursion P (shapes_of_layouts ss) → i < length ss → P (get_or ss i no_layout).shape
+shape_there P [] i a h = absurd (omega arith)
+shape_there P (s ∷ ss) zero a h = a.0
+shape_there P (s ∷ ss) (suc i) a h = shape_there P ss i a.1 (omega arith)
+
+-- The next of some fused fields: `passed`, before `rest`.
+module _ (k : Classes) (c : List ℕ) (end class number : ℕ) (left passed rest : List FieldLayout) (fields : ℕ) (e : left ≡ passed ++ rest) (n : length passed ≡ fields) where
+  shapes_left : shapes_of_layouts left ≡ shapes_of_layouts passed ++ shapes_of_layouts rest
+  shapes_left = ap shapes_of_layouts e ∙ map-append (λ s. s.shape) passed rest
+
+  holders_left : fields_from class number (shapes_of_layouts left) ≡ fields_from class number (shapes_of_layouts passed) ++ fields_from class (number + fields) (shapes_of_layouts rest)
+  holders_left =
+      ap (fields_from class number) shapes_left
+      ∙ (fields_from_append class number (shapes_of_layouts passed) (shapes_of_layouts rest)
+      ∙ ap (λ m. fields_from class number (shapes_of_layouts passed) ++ fields_from class (number + m) (shapes_of_layouts rest)) (length-map passed (λ s. s.shape) ∙ n))
+
+  pub fused_to_visit : (admits : LeafAt → Type 0) (at : ℕ) → AreToVisit admits k c end (fields_from class number (shapes_of_layouts left)) (shapes_of_layouts left) at → AreToVisit admits k c end (fields_from class number (shapes_of_layouts passed)) (shapes_of_layouts passed) at
+  fused_to_visit admits at a =
+      front_to_visit admits k c end (fields_from class number (shapes_of_layouts passed)) (fields_from class (number + fields) (shapes_of_layouts rest)) (shapes_of_layouts passed) (shapes_of_layouts rest) at
+      (subst (λ z. AreToVisit admits k c end z (shapes_of_layouts passed ++ shapes_of_layouts rest) at) holders_left (subst (λ z. AreToVisit admits k c end (fields_from class number (shapes_of_layouts left)) z at) shapes_left a))
+
+  pub fused_visited : {A : Type 0} (takes : LeafAt → A → A → Type 0) (gs : List (Option Holder)) (ss : List Shape) (at mid to before between after : ℕ) (old now new : A)
+      → Visits takes k c end gs ss at old before (fields_from class number (shapes_of_layouts left)) (shapes_of_layouts left) mid now between
+      → Visits takes k c end (fields_from class number (shapes_of_layouts passed)) (shapes_of_layouts passed) mid now between [] [] to new after
+      → Visits takes k c end gs ss at old before (fields_from class (number + fields) (shapes_of_layouts rest)) (shapes_of_layouts rest) to new after
+  fused_visited takes gs ss at mid to before between after old now new v w =
+      let hs = fields_from class number (shapes_of_layouts passed) in
+      let is = fields_from class (number + fields) (shapes_of_layouts rest) in
+      let ts = shapes_of_layouts passed in
+      let us = shapes_of_layouts rest in
+      visits_then takes k c end gs (hs ++ is) is ss (ts ++ us) us at mid to before between after old now new
+      (subst (λ z. Visits takes k c end gs ss at old before z (ts ++ us) mid now between) holders_left (subst (λ z. Visits takes k c end gs ss at old before (fields_from class number (shapes_of_layouts left)) z mid now between) shapes_left v))
+      (visits_front takes k c end hs is ts us mid to between after now new w)

@@ -33,4 +33,5 @@ pub mod VisitLaws
 pub mod WalkLaws
 mod ChildrenLaws
 mod NextLeaf
+mod NumberLaws
 mod ReferenceLaws

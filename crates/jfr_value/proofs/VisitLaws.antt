@@ -3,7 +3,7 @@ use Rattle.std.specs.Prelude.{◌≡◌, ◌≢◌, ℕ, zero, suc, ◌+◌, ◌
 use Rattle.std.specs.Option.{option_map_or}
 use Rattle.std.specs.List.{AllByRecursion, cons_option, filter_map}
 use Rattle.std.proofs.Common.{ap, arith, refl, sym, ◌∙◌, subst}
-use Rattle.std.proofs.lemmas.List.{drop_all, length-append, length-map, nil_from_length}
+use Rattle.std.proofs.lemmas.List.{drop_all, length-map, nil_from_length}
 use Rattle.jfr_base.specs.declared.integer.Var.{Var}
 use Rattle.jfr_base.specs.Integer.{worth_within}
 use Rattle.jfr_base.specs.Formats.{int_at, run, end_or_flaw}
@@ -19,7 +19,7 @@ use Rattle.jfr_value.specs.declared.leaf.LeafKind.TheVariants as leaf_kinds
 use Rattle.jfr_value.specs.Values.{Value, Values, Single, Nil, Cons, shape_of, shapes_of, bytes_of, bytes_of_all, targets_of, targets_of_all, key_of, IsBase, IsHollow, AllFit}
 use Rattle.jfr_value.specs.Reading.{base_format}
 use Rattle.jfr_value.specs.Nodes.{node_at, IsNode, AreValues}
-use Rattle.jfr_value.specs.Leaves.{LeafAt, leaf_target, leaves_at, leaves_from}
+use Rattle.jfr_value.specs.Leaves.{leaf_target, leaves_at, leaves_from}
 use Rattle.jfr_value.specs.Visits.{TakesAll, field_shapes}
 use Rattle.jfr_value.specs.Walks.{IsLayoutIfKnown, DepthBound}
 use Rattle.jfr_value.proofs.ChildLaws.{inline_known}
@@ -31,7 +31,6 @@ use Rattle.jfr_value.proofs.RowLaws.{hollow_bytes}
 use Rattle.jfr_value.proofs.LayoutLaws.{layout_class}
 use Rattle.jfr_value.proofs.StackLaws.{field_there, inner_depth}
 use Rattle.jfr_value.proofs.StringLaws.{is_exact}
-use Rattle.jfr_value.proofs.WalkLaws.{first_of}
 
 -- Members that are taken after others.
 pub takes_append : {A X : Type 0} (takes : X → A → A → Type 0) (xs ys : List X) (a b c : A) → TakesAll takes xs a b → TakesAll takes ys b c → TakesAll takes (xs ++ ys) a c

@@ -1,11 +1,16 @@
 -- A visit of a value: the visitor takes its leaves, or what they refer to, from left to right.
-use Rattle.std.specs.Prelude.{◌≡◌, ℕ, ◌+◌, List, [], ◌∷◌, ◌++◌, length, IfOk, Option, map, slice_get}
+use Rattle.std.specs.Prelude.{◌≡◌, ◌≢◌, ◌⊎◌, ℕ, ◌+◌, List, [], ◌∷◌, ◌++◌, length, IfOk, Option, map, slice_get}
 use Rattle.std.specs.List.{AllByRecursion}
 use Rattle.std.specs.Option.{option_map_or}
 use Rattle.jfr_base.specs.Formats.{Answer}
 use Rattle.jfr_layout.specs.Classes.{Classes}
+use Rattle.jfr_layout.specs.declared.field_layout.FieldLayout.{FieldLayout}
+use Rattle.jfr_layout.specs.declared.form.Form.TheVariants as forms
+use Rattle.jfr_layout.specs.declared.kind.Kind.{Kind}
+use Rattle.jfr_layout.specs.declared.kind.Kind.TheVariants as kinds
 use Rattle.jfr_layout.specs.declared.shape.Shape.{Shape}
 use Rattle.jfr_value.specs.declared.leaf.Holder.{Holder}
+use Rattle.jfr_value.specs.declared.leaf.LeafKind.TheVariants as leaf_kinds
 use Rattle.jfr_value.specs.Values.{Value, Values, targets_of, targets_of_all, values_of}
 use Rattle.jfr_value.specs.Nodes.{AreValues}
 use Rattle.jfr_value.specs.Leaves.{LeafAt}
@@ -23,6 +28,21 @@ TakesRead takes answer old new = IfOk answer (λ got. TakesAll takes (targets_of
 -- If values were read one after another, the visitor takes what they refer to.
 abbrev pub TakesReadAll : {A : Type 0} → (ℕ × ℕ → A → A → Type 0) → Answer (List Value) → A → A → Type 0
 TakesReadAll takes answer old new = IfOk answer (λ got. TakesAll takes (targets_of_all (values_of got.value)) old new)
+
+-- A leaf that is a value of a base name, but not a string.
+abbrev pub IsNumber : LeafAt → Type 0
+IsNumber l = (kind : Kind) × (l.kind ≡ leaf_kinds.Base kind) × (kind ≢ kinds.Text)
+
+-- The values of fields with this layout are such leaves.
+abbrev pub IsNumbers : FieldLayout → Type 0
+IsNumbers s = (s.form ≡ forms.Integer) ⊎ ((count : ℕ) × (s.form ≡ forms.Raw count))
+
+abbrev pub AreNumbers : List FieldLayout → Type 0
+AreNumbers = AllByRecursion IsNumbers
+
+-- The shapes of fields with these layouts.
+abbrev pub shapes_of_layouts : List FieldLayout → List Shape
+shapes_of_layouts ss = map (λ s. s.shape) ss
 
 -- The shapes of the fields of the class with this index.
 abbrev pub field_shapes : Classes → ℕ → List Shape

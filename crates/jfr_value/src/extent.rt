@@ -201,7 +201,7 @@ pub(crate) fn is_hollow(classes: &Classes, place: usize) -> bool
 
 /// The offset after a run of `count` bytes.
 #[inline(always)]
-fn run_end(count: usize, at: usize, end: usize) -> Result<usize, Flaw>
+pub(crate) fn run_end(count: usize, at: usize, end: usize) -> Result<usize, Flaw>
     requires order { at ≤ end }
     ensures fits { IfOk result (λ to. (to ≡ at + count) × (to ≤ end)) }
     ensures short { IfErr result (λ flaw. (end < at + count) × (flaw ≡ record { offset = at; reason = Reason.Short })) }

@@ -1,23 +1,26 @@
 //! The visit of the leaves of a value that is known to be there. `visit_targets` is built on it.
-ghost use Rattle.std.specs.Prelude.{◌≡◌, ◌≢◌, ℕ, ◌+◌, ◌<◌, ◌≤◌, ◌∷◌, [], length, slice_range, true, false};
+ghost use Rattle.std.specs.Prelude.{◌≡◌, ◌≢◌, ℕ, ◌+◌, ◌^◌, ◌<◌, ◌≤◌, ◌∷◌, [], length, slice_range, true, false};
 ghost use Rattle.std.specs.List.{AllByRecursion};
-ghost use Rattle.jfr_layout.specs.Classes.{Sound};
+ghost use Rattle.jfr_layout.specs.Classes.{IsFieldLayout, Sound};
+ghost use Rattle.jfr_layout.specs.Fused.{Passes};
 ghost use Rattle.jfr_layout.specs.declared.kind.Kind.TheVariants as kinds;
 ghost use Rattle.jfr_value.specs.Leaves.{LeafAt, leaf_of, leaves};
 ghost use Rattle.jfr_value.specs.Nodes.{IsValue, node_of};
-ghost use Rattle.jfr_value.specs.Visits.{AreToVisit, TakesAll, Visits, field_shapes};
+ghost use Rattle.jfr_value.specs.Visits.{AreToVisit, IsNumber, TakesAll, Visits, field_shapes, shapes_of_layouts};
 ghost use Rattle.jfr_value.specs.Walks.{IsLayoutIfKnown, DepthBound, fields_from};
 
 use crate::cursor::items_to_walk;
 use crate::extent::{base_end, item_layout, layout_of};
+use crate::fused::{fused_layouts, numbers_end};
 use crate::walk::{LEVELS, Walk};
 use crate::{Holder, Leaf, LeafKind, Node, Steps};
 use jfr_base::known_integer;
-use jfr_layout::{Classes, FieldLayout, Form};
+use jfr_layout::{Classes, FieldLayout, Form, FusedFields, Kind};
 use std::marker::Brand;
 use std::sync::ledger::{Blank, Ledger};
 
 /// A visitor takes the leaves of a value one by one. For each it may look something up in `with`, such as the pools.
+/// Only strings, references and counts can change it.
 /// Every visitor of targets (`Visit`) is one: it takes what the leaves refer to.
 pub trait VisitLeaf<C> {
     // Which leaves a visitor can take.
@@ -29,7 +32,12 @@ pub trait VisitLeaf<C> {
     // How taking a leaf changes the visitor.
     ghost takes: { C → LeafAt → Self → Self → Type 0 };
 
-    /// Takes a leaf.
+    /// Numbers, and truth values, leave a visitor as it is, so they aren't passed to it.
+    fn passes_numbers()
+        ensures same { (with : C) (leaf : LeafAt) (visitor : Self) → IsNumber leaf → takes with leaf visitor visitor }
+        ensures ready { (with : C) (visitor : Self) (at to : ℕ) → ready visitor with at → at ≤ to → ready visitor with to };
+
+    /// Takes a leaf that is no number.
     fn visit_leaf(&mut self, with: &C, leaf: Leaf<'_>)
         requires admits { admits with.now (leaf_of leaf) }
         requires ready { ready self.old with.now leaf.at }
@@ -40,10 +48,21 @@ pub trait VisitLeaf<C> {
 /// Where a value starts, the most composite classes that can be nested from there on, and the innermost field around
 /// it.
 #[derive(Clone, Copy)]
-struct Start {
+struct ValueStart {
     at: usize,
     levels: u32,
     holder: Option<Holder>,
+}
+
+/// Fields of a class, one after another: their layouts, the number of the first of them, where its value starts, and
+/// the most composite classes that can be nested from there on.
+#[derive(Clone, Copy)]
+struct NextFields<'k> {
+    layouts: &'k [FieldLayout],
+    class: u64,
+    number: usize,
+    at: usize,
+    levels: u32,
 }
 
 /// Passes the leaves of a node to the visitor, from left to right. It allocates nothing. The node must be one of a
@@ -106,7 +125,7 @@ pub(crate) fn visit_leaves_and_count<C, V: VisitLeaf<C>, L: Ledger>(
         end: node.end,
         with,
     };
-    let start = Start {
+    let start = ValueStart {
         at: node.at,
         levels: LEVELS,
         holder: None,
@@ -120,7 +139,7 @@ pub(crate) fn visit_leaves_and_count<C, V: VisitLeaf<C>, L: Ledger>(
 fn visit_value<C, V: VisitLeaf<C>, L: Ledger>(
     walk: &Walk<'_, '_, C>,
     layout: &FieldLayout,
-    start: Start,
+    start: ValueStart,
     visitor: &mut V,
     steps: &mut Steps<L>,
 ) -> usize
@@ -138,7 +157,7 @@ fn visit_value<C, V: VisitLeaf<C>, L: Ledger>(
         ),
         Form::Key => visit_key(walk, layout, start, visitor, steps),
         Form::Fields => {
-            let inner = Start {
+            let inner = ValueStart {
                 at: start.at,
                 levels: start.levels - 1,
                 holder: start.holder,
@@ -154,7 +173,7 @@ fn visit_value<C, V: VisitLeaf<C>, L: Ledger>(
 fn visit_fields<C, V: VisitLeaf<C>, L: Ledger>(
     walk: &Walk<'_, '_, C>,
     layout: &FieldLayout,
-    start: Start,
+    start: ValueStart,
     visitor: &mut V,
     steps: &mut Steps<L>,
 ) -> usize
@@ -166,15 +185,84 @@ fn visit_fields<C, V: VisitLeaf<C>, L: Ledger>(
     ensures visited { Visits (V.takes walk.now.with.now) walk.now.classes.now walk.now.bytes.now walk.now.end (fields_from layout.now.shape.class 0 (field_shapes walk.now.classes.now layout.now.class_index)) (field_shapes walk.now.classes.now layout.now.class_index) start.at visitor.old steps.old [] [] result visitor.new steps.new }
     ensures ready { V.ready visitor.new walk.now.with.now result }
 {
-    let class = layout.shape.class;
+    let class_layout = walk.classes.class_layout(layout.class_index);
+    let mut number = 0;
     let mut to = start.at;
-    for (field, layout) in walk.classes.layouts(layout.class_index).iter().enumerate() {
-        let next = Start {
+    for fused in &class_layout.fused_fields {
+        let next = NextFields {
+            layouts: fused_layouts(class_layout, fused),
+            class: layout.shape.class,
+            number,
             at: to,
             levels: start.levels,
-            holder: Some(Holder { class, field }),
         };
-        to = visit_value(walk, layout, next, visitor, steps);
+        to = visit_fused(walk, fused, next, visitor, steps);
+        number += fused.fields;
+    }
+    to
+}
+
+/// Visits fused fields, and returns where they end. Numbers are passed at once.
+#[cycle(visits)]
+#[inline(always)]
+fn visit_fused<C, V: VisitLeaf<C>, L: Ledger>(
+    walk: &Walk<'_, '_, C>,
+    fused: &FusedFields,
+    next: NextFields<'_>,
+    visitor: &mut V,
+    steps: &mut Steps<L>,
+) -> usize
+    requires sound { Sound walk.now.classes.now }
+    requires layouts { AllByRecursion (IsFieldLayout walk.now.classes.now) next.layouts.now }
+    requires few { next.number + length next.layouts.now < 2 ^ 64 }
+    requires fused { Passes fused.now.kind next.layouts.now }
+    requires depth { AllByRecursion (DepthBound walk.now.classes.now next.levels) (shapes_of_layouts next.layouts.now) }
+    requires values { AreToVisit (V.admits walk.now.with.now) walk.now.classes.now walk.now.bytes.now walk.now.end (fields_from next.class next.number (shapes_of_layouts next.layouts.now)) (shapes_of_layouts next.layouts.now) next.at }
+    requires ready { V.ready visitor.old walk.now.with.now next.at }
+    ensures visited { Visits (V.takes walk.now.with.now) walk.now.classes.now walk.now.bytes.now walk.now.end (fields_from next.entry.class next.entry.number (shapes_of_layouts next.entry.layouts.now)) (shapes_of_layouts next.entry.layouts.now) next.entry.at visitor.old steps.old [] [] result visitor.new steps.new }
+    ensures ready { V.ready visitor.new walk.now.with.now result }
+{
+    match numbers_end(walk.bytes, fused, next.at, walk.end) {
+        Some(to) => {
+            V::passes_numbers();
+            steps.take(next.layouts.len());
+            to
+        }
+        None => visit_each(walk, next, visitor, steps),
+    }
+}
+
+/// Visits fields one by one, and returns where they end.
+#[cycle(visits)]
+#[inline(always)]
+fn visit_each<C, V: VisitLeaf<C>, L: Ledger>(
+    walk: &Walk<'_, '_, C>,
+    next: NextFields<'_>,
+    visitor: &mut V,
+    steps: &mut Steps<L>,
+) -> usize
+    requires sound { Sound walk.now.classes.now }
+    requires layouts { AllByRecursion (IsFieldLayout walk.now.classes.now) next.layouts.now }
+    requires few { next.number + length next.layouts.now < 2 ^ 64 }
+    requires depth { AllByRecursion (DepthBound walk.now.classes.now next.levels) (shapes_of_layouts next.layouts.now) }
+    requires values { AreToVisit (V.admits walk.now.with.now) walk.now.classes.now walk.now.bytes.now walk.now.end (fields_from next.class next.number (shapes_of_layouts next.layouts.now)) (shapes_of_layouts next.layouts.now) next.at }
+    requires ready { V.ready visitor.old walk.now.with.now next.at }
+    ensures visited { Visits (V.takes walk.now.with.now) walk.now.classes.now walk.now.bytes.now walk.now.end (fields_from next.entry.class next.entry.number (shapes_of_layouts next.entry.layouts.now)) (shapes_of_layouts next.entry.layouts.now) next.entry.at visitor.old steps.old [] [] result visitor.new steps.new }
+    ensures ready { V.ready visitor.new walk.now.with.now result }
+{
+    let class = next.class;
+    let mut to = next.at;
+    for (field, layout) in next.layouts.iter().enumerate() {
+        let holder = Holder {
+            class,
+            field: next.number + field,
+        };
+        let value = ValueStart {
+            at: to,
+            levels: next.levels,
+            holder: Some(holder),
+        };
+        to = visit_value(walk, layout, value, visitor, steps);
     }
     to
 }
@@ -184,7 +272,7 @@ fn visit_fields<C, V: VisitLeaf<C>, L: Ledger>(
 fn visit_array<C, V: VisitLeaf<C>, L: Ledger>(
     walk: &Walk<'_, '_, C>,
     layout: &FieldLayout,
-    start: Start,
+    start: ValueStart,
     visitor: &mut V,
     steps: &mut Steps<L>,
 ) -> usize
@@ -206,7 +294,7 @@ fn visit_array<C, V: VisitLeaf<C>, L: Ledger>(
     let item = item_layout(layout);
     let mut to = count.end;
     'items: for _ in 0..items {
-        let next = Start {
+        let next = ValueStart {
             at: to,
             levels: start.levels,
             holder: start.holder,
@@ -221,7 +309,7 @@ fn visit_array<C, V: VisitLeaf<C>, L: Ledger>(
 fn visit_key<C, V: VisitLeaf<C>, L: Ledger>(
     walk: &Walk<'_, '_, C>,
     layout: &FieldLayout,
-    start: Start,
+    start: ValueStart,
     visitor: &mut V,
     steps: &mut Steps<L>,
 ) -> usize
@@ -245,7 +333,7 @@ fn visit_key<C, V: VisitLeaf<C>, L: Ledger>(
 fn visit_base<C, V: VisitLeaf<C>, L: Ledger>(
     walk: &Walk<'_, '_, C>,
     layout: &FieldLayout,
-    start: Start,
+    start: ValueStart,
     visitor: &mut V,
     steps: &mut Steps<L>,
 ) -> usize
@@ -261,16 +349,24 @@ fn visit_base<C, V: VisitLeaf<C>, L: Ledger>(
     let Ok(to) = base_end(layout.kind, walk.bytes, start.at, walk.end) else {
         unreachable!()
     };
-    let kind = LeafKind::Base(layout.kind);
-    let leaf = leaf_to(walk.bytes, start, to, kind, layout.shape.class);
-    visitor.visit_leaf(walk.with, leaf);
     steps.tick();
-    to
+    match layout.kind {
+        Kind::Text => {
+            let kind = LeafKind::Base(layout.kind);
+            let leaf = leaf_to(walk.bytes, start, to, kind, layout.shape.class);
+            visitor.visit_leaf(walk.with, leaf);
+            to
+        }
+        _ => {
+            V::passes_numbers();
+            to
+        }
+    }
 }
 
 /// The value that starts here and ends at an offset, as a leaf of this kind and class.
 #[inline(always)]
-fn leaf_to(bytes: &[u8], start: Start, to: usize, kind: LeafKind, class: u64) -> Leaf<'_>
+fn leaf_to(bytes: &[u8], start: ValueStart, to: usize, kind: LeafKind, class: u64) -> Leaf<'_>
     requires order { start.at ≤ to }
     requires within { to ≤ length bytes.now }
     ensures { leaf_of result ≡ record { kind = kind; class = class; holder = start.holder; at = start.at; spelled = slice_range bytes.now start.at to } }

@@ -5,7 +5,7 @@ use std::marker::Model;
 use std::sync::ledger::{Blank, Book, Ledger, Share};
 
 /// The number of steps taken, for contracts that bound the work of a call. It takes no space at run time, and
-/// only `tick` changes it.
+/// only `tick` and `take` change it.
 #[derive(Drop)]
 pub struct Steps<L: Ledger> {
     book: Book<L>,
@@ -38,6 +38,13 @@ impl<L: Ledger> Steps<L> {
     pub fn tick(&mut self)
         ensures { self.new ≡ self.old + 1 }
     {
-        self.book.add(&mut self.share, 1);
+        self.take(1);
+    }
+
+    /// Takes some steps.
+    pub fn take(&mut self, count: usize)
+        ensures { self.new ≡ self.old + count }
+    {
+        self.book.add(&mut self.share, count as u64);
     }
 }

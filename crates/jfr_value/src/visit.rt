@@ -37,6 +37,8 @@ impl<C, V: Visit<C>> VisitLeaf<C> for V {
 
     ghost takes = { λ with leaf old new. TakesAll (V.Visit.takes with) (option_to_list (leaf_target leaf)) old new };
 
+    fn passes_numbers() {}
+
     #[inline(always)]
     fn visit_leaf(&mut self, with: &C, leaf: Leaf<'_>) {
         if let Some(key) = leaf.key() {

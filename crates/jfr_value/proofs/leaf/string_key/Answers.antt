@@ -1,4 +1,4 @@
-use Rattle.jfr_value.proofs.LeafKeys.{key_read, key_there, other_key}
+use Rattle.jfr_value.proofs.LeafKeys.{key_read, key_there}
 use Rattle.jfr_value.proofs.leaf.string_key.Goals as goal
 
 pub known_integer-requires-clause-known : goal.known_integer-requires-clause-known

@@ -1,22 +1,26 @@
 -- The leaves of each part come one after another.
-use Rattle.std.proofs.Common.{◌≡◌, ◌∷◌, [], ◌+◌, ◌-◌, ◌<◌, ◌++◌, length, refl, sym, ◌∙◌, ap, subst, arith, drop, get_or, rules}
+use Rattle.std.proofs.Common.{◌≡◌, ◌∷◌, [], ◌+◌, ◌-◌, ◌^◌, ◌<◌, ◌++◌, length, refl, sym, ◌∙◌, ap, subst, arith, drop, get_or, rules}
 use Rattle.std.specs.List.{AllByRecursion}
-use Rattle.std.specs.Prelude.{Option, Some, replicate, slice_range}
-use Rattle.jfr_base.specs.Formats.{int_at}
-use Rattle.jfr_layout.specs.Classes.{item_of}
+use Rattle.std.specs.Prelude.{IsSome, Ok, Option, Some, replicate, slice_range}
+use Rattle.std.proofs.lemmas.List.{drop_all, length-append}
+use Rattle.jfr_base.specs.Formats.{end_or_flaw, int_at, run}
+use Rattle.jfr_layout.specs.Classes.{IsFieldLayout, item_of}
 use Rattle.jfr_layout.specs.declared.form.Form.TheVariants as forms
 use Rattle.jfr_layout.specs.declared.field_layout.FieldLayout.{FieldLayout}
 use Rattle.jfr_value.specs.declared.leaf.Holder.{Holder}
 use Rattle.jfr_value.specs.declared.leaf.LeafKind.TheVariants as leaf_kinds
 use Rattle.jfr_value.specs.Leaves.{LeafAt, leaf_of}
-use Rattle.jfr_value.specs.Visits.{AreToVisit, Visits, field_shapes}
+use Rattle.jfr_value.specs.Visits.{AreNumbers, AreToVisit, Visits, field_shapes, shapes_of_layouts}
 use Rattle.jfr_value.specs.Walks.{IsLayoutIfKnown, DepthBound, fields_from}
-use Rattle.jfr_value.proofs.FormLaws.{base_there, fields_kind, inline_there, key_there}
-use Rattle.jfr_value.proofs.LayoutLaws.{few_fields, field_of, no_layout}
-use Rattle.jfr_value.proofs.LeafVisitLaws.{fields_next_held, first_node, leaf_admitted, leaf_end, left_to_visit, next_to_visit, visits_end, visits_fields, visits_leaf, visits_next, visits_none, visits_then}
+use Rattle.jfr_value.proofs.FormLaws.{fields_kind, inline_there}
+use Rattle.jfr_value.proofs.LayoutLaws.{layouts_at, no_layout}
+use Rattle.jfr_value.proofs.LeafVisitLaws.{first_node, fused_to_visit, fused_visited, layout_next, shape_there, leaf_admitted, leaf_end, left_to_visit, next_to_visit, visits_end, visits_fields, visits_leaf, visits_next, visits_none, visits_then}
 use Rattle.jfr_value.proofs.StackLaws.{inner_depth}
-use Rattle.jfr_value.proofs.VisitLaws.{InlineNode, bound_of_first, depth_within, field_next, fields_past, inline_node, item_next, items_past}
+use Rattle.jfr_value.proofs.VisitLaws.{depth_within, inline_node, item_next, items_past}
 use Rattle.jfr_value.proofs.WalkLaws.{array_found, array_taken, array_there, some_there}
+use Rattle.jfr_value.specs.Reading.{values_format}
+use Rattle.jfr_value.proofs.NumberLaws.{numbers_visited}
+use Rattle.jfr_value.proofs.FusedLaws.{left_by, left_none, next_fused, row_fused, row_shapes}
 use Rattle.jfr_value.proofs.leaf_visit.+visits.Goals as goal
 
 pub visit_array-known_integer-count-requires-clause-known : goal.visit_array-known_integer-count-requires-clause-known
@@ -94,62 +98,6 @@ visit_array-returns-clause-visited g t c =
     visits_end (g.V.VisitLeaf.takes walk.with.now) walk.classes.now walk.bytes.now walk.end (holder ∷ []) (replicate (items - c.items.counter) holder) (layout.shape ∷ []) (replicate (items - c.items.counter) (item_of layout.shape)) c.args.start.at c.items.to c.args.steps.now c.items.steps c.args.visitor.now c.items.visitor
     (items_past items c.items.counter holder c.items-test.false) (items_past items c.items.counter (item_of layout.shape) c.items-test.false) c.items.invariant.visited
 
-pub visit_fields-loop-field-init : goal.visit_fields-loop-field-init
-visit_fields-loop-field-init g t c = record {
-  ready = c.requires.ready;
-  visited =
-      let walk = c.args.walk.now in
-      let layout = c.args.layout.now in
-      let shapes = field_shapes walk.classes.now layout.class_index in
-      visits_none (g.V.VisitLeaf.takes walk.with.now) walk.classes.now walk.bytes.now walk.end (fields_from layout.shape.class 0 shapes) shapes c.args.start.at c.args.steps.now c.args.visitor.now;
-}
-
-pub visit_fields-visit_value-to-requires : goal.visit_fields-visit_value-to-requires
-visit_fields-visit_value-to-requires g t c =
-    let walk = c.args.walk.now in
-    let place = c.args.layout.now.class_index in
-    let class = c.args.layout.now.shape.class in
-    let number = c.loop-field.field in
-    let shapes = field_shapes walk.classes.now place in
-    let layout = get_or c.layouts-layout-items.result.now number no_layout in
-    let admits = g.V.VisitLeaf.admits walk.with.now in
-    let holder : Option Holder = Some (record { class = class; field = number }) in
-    let f = field_of walk.classes.now place number c.layouts-layout-items.result.now c.requires.placed c.layouts-layout-items.ensures.exact c.loop-field-test.true in
-    let x = field_next walk.classes.now place number f.field layout.shape f.there f.shape in
-    let known : IsLayoutIfKnown walk.classes.now layout = (let s = f.of_class in record { form = s.form; of_class = λ o h. s }) in
-    let depth : DepthBound walk.classes.now c.args.start.levels layout.shape = bound_of_first (DepthBound walk.classes.now c.args.start.levels) shapes number layout.shape _ c.requires.depth x in
-    let values : AreToVisit admits walk.classes.now walk.bytes.now walk.end (holder ∷ []) (layout.shape ∷ []) c.loop-field.to =
-    next_to_visit (g.V.VisitLeaf.takes walk.with.now) walk.classes.now walk.bytes.now walk.end admits (fields_from class 0 shapes) (fields_from class number (drop number shapes)) (fields_from class (number + 1) (drop (number + 1) shapes)) shapes (drop number shapes) (drop (number + 1) shapes) holder layout.shape c.args.start.at c.loop-field.to c.args.steps.now c.loop-field.steps c.args.visitor.now c.loop-field.visitor
-    (fields_next_held walk.classes.now class place number f.field layout.shape f.there f.shape) x c.loop-field.invariant.visited c.requires.values in
-    search (rules, values, known, depth)
-
-pub visit_fields-loop-field-preserved : goal.visit_fields-loop-field-preserved
-visit_fields-loop-field-preserved g t c = record {
-  ready = c.visit_value-to.ensures.ready;
-  visited =
-      let walk = c.args.walk.now in
-      let place = c.args.layout.now.class_index in
-      let class = c.args.layout.now.shape.class in
-      let number = c.loop-field.field in
-      let shapes = field_shapes walk.classes.now place in
-      let layout = get_or c.layouts-layout-items.result.now number no_layout in
-      let f = field_of walk.classes.now place number c.layouts-layout-items.result.now c.requires.placed c.layouts-layout-items.ensures.exact c.loop-field-test.true in
-      let x = field_next walk.classes.now place number f.field layout.shape f.there f.shape in
-      visits_next (g.V.VisitLeaf.takes walk.with.now) walk.classes.now walk.bytes.now walk.end (fields_from class 0 shapes) (fields_from class number (drop number shapes)) (fields_from class (number + 1) (drop (number + 1) shapes)) shapes (drop number shapes) (drop (number + 1) shapes) (Some (record { class = class; field = number })) layout.shape c.args.start.at c.loop-field.to c.visit_value-to.result c.args.steps.now c.loop-field.steps c.visit_value-to.new.steps c.args.visitor.now c.loop-field.visitor c.visit_value-to.new.visitor
-      (fields_next_held walk.classes.now class place number f.field layout.shape f.there f.shape) x c.loop-field.invariant.visited c.visit_value-to.ensures.visited;
-}
-
-pub visit_fields-returns-clause-visited : goal.visit_fields-returns-clause-visited
-visit_fields-returns-clause-visited g t c =
-    let walk = c.args.walk.now in
-    let place = c.args.layout.now.class_index in
-    let class = c.args.layout.now.shape.class in
-    let number = c.loop-field.field in
-    let shapes = field_shapes walk.classes.now place in
-    let e = fields_past walk.classes.now place number c.requires.placed (few_fields walk.classes.now place number c.layouts-layout-items.result.now c.requires.placed c.layouts-layout-items.ensures.exact c.loop-field-test.false) in
-    visits_end (g.V.VisitLeaf.takes walk.with.now) walk.classes.now walk.bytes.now walk.end (fields_from class 0 shapes) (fields_from class number (drop number shapes)) shapes (drop number shapes) c.args.start.at c.loop-field.to c.args.steps.now c.loop-field.steps c.args.visitor.now c.loop-field.visitor
-    (ap (fields_from class number) e) e c.loop-field.invariant.visited
-
 pub visit_value-overflow_sub-inner : goal.visit_value-overflow_sub-inner
 visit_value-overflow_sub-inner g t c =
     let walk = c.args.walk.now in
@@ -189,3 +137,147 @@ visit_value-returns-in-Fields-clause-visited g t c =
     visits_then takes walk.classes.now walk.bytes.now walk.end (c.args.start.holder ∷ []) (fields_from layout.shape.class 0 shapes) [] (layout.shape ∷ []) shapes [] c.args.start.at c.args.start.at c.visit_fields.result c.args.steps.now c.args.steps.now c.visit_fields.new.steps c.args.visitor.now c.args.visitor.now c.visit_fields.new.visitor
     (visits_fields takes walk.classes.now walk.bytes.now walk.end c.args.start.holder layout.shape d.class layout.class_index c.args.start.at c.args.steps.now c.args.visitor.now m.array m.constant d.found d.there (sym d.kind_is ∙ fields_kind layout.kind m.form))
     c.visit_fields.ensures.visited
+
+pub visit_each-loop-field-init : goal.visit_each-loop-field-init
+visit_each-loop-field-init g t c = record {
+  ready = c.requires.ready;
+  visited =
+      let walk = c.args.walk.now in
+      let shapes = shapes_of_layouts c.args.next.layouts.now in
+      let e : c.args.next.number ≡ c.args.next.number + 0 = omega arith in
+      subst (λ n. Visits (g.V.VisitLeaf.takes walk.with.now) walk.classes.now walk.bytes.now walk.end (fields_from c.args.next.class c.args.next.number shapes) shapes c.args.next.at c.args.visitor.now c.args.steps.now (fields_from c.args.next.class n shapes) shapes c.args.next.at c.args.visitor.now c.args.steps.now) e
+      (visits_none (g.V.VisitLeaf.takes walk.with.now) walk.classes.now walk.bytes.now walk.end (fields_from c.args.next.class c.args.next.number shapes) shapes c.args.next.at c.args.steps.now c.args.visitor.now);
+}
+
+pub visit_each-overflow_add-holder : goal.visit_each-overflow_add-holder
+visit_each-overflow_add-holder g t c = omega (arith, c.requires.few, c.loop-field-test.true)
+
+pub visit_each-visit_value-to-requires : goal.visit_each-visit_value-to-requires
+visit_each-visit_value-to-requires g t c =
+    let walk = c.args.walk.now in
+    let next = c.args.next in
+    let number = c.loop-field.field in
+    let shapes = shapes_of_layouts next.layouts.now in
+    let layout = get_or next.layouts.now number no_layout in
+    let admits = g.V.VisitLeaf.admits walk.with.now in
+    let holder : Option Holder = Some (record { class = next.class; field = next.number + number }) in
+    let n = layout_next next.layouts.now next.class next.number number c.loop-field-test.true in
+    let known : IsLayoutIfKnown walk.classes.now layout = (let s = layouts_at walk.classes.now next.layouts.now number c.requires.layouts c.loop-field-test.true in record { form = s.form; of_class = λ o h. s }) in
+    let depth : DepthBound walk.classes.now next.levels layout.shape = shape_there (DepthBound walk.classes.now next.levels) next.layouts.now number c.requires.depth c.loop-field-test.true in
+    let values : AreToVisit admits walk.classes.now walk.bytes.now walk.end (holder ∷ []) (layout.shape ∷ []) c.loop-field.to =
+    next_to_visit (g.V.VisitLeaf.takes walk.with.now) walk.classes.now walk.bytes.now walk.end admits (fields_from next.class next.number shapes) (fields_from next.class (next.number + number) (shapes_of_layouts (drop number next.layouts.now))) (fields_from next.class (next.number + (number + 1)) (shapes_of_layouts (drop (number + 1) next.layouts.now))) shapes (shapes_of_layouts (drop number next.layouts.now)) (shapes_of_layouts (drop (number + 1) next.layouts.now)) holder layout.shape next.at c.loop-field.to c.args.steps.now c.loop-field.steps c.args.visitor.now c.loop-field.visitor
+    n.1 n.0 c.loop-field.invariant.visited c.requires.values in
+    search (rules, values, known, depth)
+
+pub visit_each-loop-field-preserved : goal.visit_each-loop-field-preserved
+visit_each-loop-field-preserved g t c = record {
+  ready = c.visit_value-to.ensures.ready;
+  visited =
+      let walk = c.args.walk.now in
+      let next = c.args.next in
+      let number = c.loop-field.field in
+      let shapes = shapes_of_layouts next.layouts.now in
+      let layout = get_or next.layouts.now number no_layout in
+      let n = layout_next next.layouts.now next.class next.number number c.loop-field-test.true in
+      visits_next (g.V.VisitLeaf.takes walk.with.now) walk.classes.now walk.bytes.now walk.end (fields_from next.class next.number shapes) (fields_from next.class (next.number + number) (shapes_of_layouts (drop number next.layouts.now))) (fields_from next.class (next.number + (number + 1)) (shapes_of_layouts (drop (number + 1) next.layouts.now))) shapes (shapes_of_layouts (drop number next.layouts.now)) (shapes_of_layouts (drop (number + 1) next.layouts.now)) (Some (record { class = next.class; field = next.number + number })) layout.shape next.at c.loop-field.to c.visit_value-to.result c.args.steps.now c.loop-field.steps c.visit_value-to.new.steps c.args.visitor.now c.loop-field.visitor c.visit_value-to.new.visitor
+      n.1 n.0 c.loop-field.invariant.visited c.visit_value-to.ensures.visited;
+}
+
+pub visit_each-returns-clause-visited : goal.visit_each-returns-clause-visited
+visit_each-returns-clause-visited g t c =
+    let walk = c.args.walk.now in
+    let next = c.args.next in
+    let number = c.loop-field.field in
+    let shapes = shapes_of_layouts next.layouts.now in
+    let e : shapes_of_layouts (drop number next.layouts.now) ≡ [] = ap shapes_of_layouts (drop_all number next.layouts.now c.loop-field-test.false) in
+    visits_end (g.V.VisitLeaf.takes walk.with.now) walk.classes.now walk.bytes.now walk.end (fields_from next.class next.number shapes) (fields_from next.class (next.number + number) (shapes_of_layouts (drop number next.layouts.now))) shapes (shapes_of_layouts (drop number next.layouts.now)) next.at c.loop-field.to c.args.steps.now c.loop-field.steps c.args.visitor.now c.loop-field.visitor
+    (ap (fields_from next.class (next.number + number)) e) e c.loop-field.invariant.visited
+
+pub visit_fused-returns-in-Some-clause-visited : goal.visit_fused-returns-in-Some-clause-visited
+visit_fused-returns-in-Some-clause-visited g t c =
+    let walk = c.args.walk.now in
+    let next = c.args.next in
+    let numbers : AreNumbers next.layouts.now = c.numbers_end.ensures.numbers next.layouts.now c.requires.fused (subst IsSome (sym c.in-Some.is) refl) in
+    let ends : Ok c.in-Some.to ≡ end_or_flaw (run (values_format (0 + 1) walk.classes.now next.layouts.now) walk.bytes.now walk.end next.at) = rw c.in-Some.is at c.numbers_end.ensures.exact walk.classes.now 0 next.layouts.now c.requires.layouts c.requires.fused in
+    subst (λ n. Visits (g.V.VisitLeaf.takes walk.with.now) walk.classes.now walk.bytes.now walk.end (fields_from next.class next.number (shapes_of_layouts next.layouts.now)) (shapes_of_layouts next.layouts.now) next.at c.args.visitor.now c.args.steps.now [] [] c.in-Some.to c.args.visitor.now n) (sym c.take.ensures)
+    (numbers_visited (g.V.VisitLeaf.takes walk.with.now) walk.classes.now 0 walk.bytes.now walk.end (c.passes_numbers.ensures.same walk.with.now) next.layouts.now next.class next.number next.at c.in-Some.to c.args.steps.now c.args.visitor.now c.requires.layouts numbers ends)
+
+pub visit_fields-loop-fused-init : goal.visit_fields-loop-fused-init
+visit_fields-loop-fused-init g t c = record {
+  ready = c.requires.ready;
+  counted =
+      let row = c.class_layout-class_layout.result.now in
+      let f = row_fused c.args.walk.now.classes.now c.args.layout.now.class_index row c.requires.placed c.class_layout-class_layout.ensures in
+      (let e = ap length f.all in omega arith);
+  visited =
+      let walk = c.args.walk.now in
+      let layout = c.args.layout.now in
+      let row = c.class_layout-class_layout.result.now in
+      let f = row_fused walk.classes.now layout.class_index row c.requires.placed c.class_layout-class_layout.ensures in
+      let shapes = field_shapes walk.classes.now layout.class_index in
+      let e : shapes ≡ shapes_of_layouts (left_by row.layouts.items row.fused_fields.items 0) = row_shapes walk.classes.now layout.class_index row c.requires.placed c.class_layout-class_layout.ensures ∙ ap shapes_of_layouts (sym f.all) in
+      subst (λ z. Visits (g.V.VisitLeaf.takes walk.with.now) walk.classes.now walk.bytes.now walk.end (fields_from layout.shape.class 0 shapes) shapes c.args.start.at c.args.visitor.now c.args.steps.now (fields_from layout.shape.class 0 z) z c.args.start.at c.args.visitor.now c.args.steps.now) e
+      (visits_none (g.V.VisitLeaf.takes walk.with.now) walk.classes.now walk.bytes.now walk.end (fields_from layout.shape.class 0 shapes) shapes c.args.start.at c.args.steps.now c.args.visitor.now);
+}
+
+pub visit_fields-fused_layouts-requires : goal.visit_fields-fused_layouts-requires
+visit_fields-fused_layouts-requires g t c = (next_fused c.args.walk.now.classes.now c.args.layout.now.class_index c.class_layout-class_layout.result.now c.deref-fused-items.result.now c.loop-fused.fused-index _ _ (DepthBound c.args.walk.now.classes.now c.args.start.levels) c.requires.placed c.class_layout-class_layout.ensures c.requires.depth c.deref-fused-items.ensures.value c.loop-fused-test.true refl).fused
+
+pub visit_fields-overflow_add-number : goal.visit_fields-overflow_add-number
+visit_fields-overflow_add-number g t c =
+    let row = c.class_layout-class_layout.result.now in
+    let passed = c.fused_layouts.result.now in
+    let n = next_fused c.args.walk.now.classes.now c.args.layout.now.class_index c.class_layout-class_layout.result.now c.deref-fused-items.result.now c.loop-fused.fused-index _ passed (DepthBound c.args.walk.now.classes.now c.args.start.levels) c.requires.placed c.class_layout-class_layout.ensures c.requires.depth c.deref-fused-items.ensures.value c.loop-fused-test.true c.fused_layouts.ensures.exact in
+    let x = c.loop-fused.invariant.counted in
+    let y = ap length n.left in
+    let z = length-append passed (left_by row.layouts.items row.fused_fields.items (c.loop-fused.fused-index + 1)) in
+    omega (arith, n.count, c.fused_layouts.ensures.few)
+
+pub visit_fields-visit_fused-to-requires : goal.visit_fields-visit_fused-to-requires
+visit_fields-visit_fused-to-requires g t c =
+    let walk = c.args.walk.now in
+    let layout = c.args.layout.now in
+    let row = c.class_layout-class_layout.result.now in
+    let passed = c.fused_layouts.result.now in
+    let admits = g.V.VisitLeaf.admits walk.with.now in
+    let class = layout.shape.class in
+    let shapes = field_shapes walk.classes.now layout.class_index in
+    let left = left_by row.layouts.items row.fused_fields.items c.loop-fused.fused-index in
+    let rest = left_by row.layouts.items row.fused_fields.items (c.loop-fused.fused-index + 1) in
+    let n = next_fused c.args.walk.now.classes.now c.args.layout.now.class_index c.class_layout-class_layout.result.now c.deref-fused-items.result.now c.loop-fused.fused-index _ passed (DepthBound c.args.walk.now.classes.now c.args.start.levels) c.requires.placed c.class_layout-class_layout.ensures c.requires.depth c.deref-fused-items.ensures.value c.loop-fused-test.true c.fused_layouts.ensures.exact in
+    let each : AllByRecursion (IsFieldLayout walk.classes.now) passed = n.each in
+    let few : c.loop-fused.number + length passed < 2 ^ 64 = (let x = c.loop-fused.invariant.counted in let y = ap length n.left in let z = length-append passed rest in omega (arith, c.fused_layouts.ensures.few)) in
+    let passes = n.passes in
+    let depth : AllByRecursion (DepthBound walk.classes.now c.args.start.levels) (shapes_of_layouts passed) = n.shapes in
+    let values : AreToVisit admits walk.classes.now walk.bytes.now walk.end (fields_from class c.loop-fused.number (shapes_of_layouts passed)) (shapes_of_layouts passed) c.loop-fused.to =
+    fused_to_visit walk.classes.now walk.bytes.now walk.end class c.loop-fused.number left passed rest _ n.left n.count admits c.loop-fused.to
+    (left_to_visit (g.V.VisitLeaf.takes walk.with.now) walk.classes.now walk.bytes.now walk.end admits (fields_from class 0 shapes) (fields_from class c.loop-fused.number (shapes_of_layouts left)) shapes (shapes_of_layouts left) c.args.start.at c.loop-fused.to c.args.steps.now c.loop-fused.steps c.args.visitor.now c.loop-fused.visitor c.loop-fused.invariant.visited c.requires.values) in
+    search (rules, each, few, passes, depth, values)
+
+pub visit_fields-loop-fused-preserved : goal.visit_fields-loop-fused-preserved
+visit_fields-loop-fused-preserved g t c =
+    let walk = c.args.walk.now in
+    let layout = c.args.layout.now in
+    let row = c.class_layout-class_layout.result.now in
+    let passed = c.fused_layouts.result.now in
+    let class = layout.shape.class in
+    let shapes = field_shapes walk.classes.now layout.class_index in
+    let left = left_by row.layouts.items row.fused_fields.items c.loop-fused.fused-index in
+    let rest = left_by row.layouts.items row.fused_fields.items (c.loop-fused.fused-index + 1) in
+    let n = next_fused c.args.walk.now.classes.now c.args.layout.now.class_index c.class_layout-class_layout.result.now c.deref-fused-items.result.now c.loop-fused.fused-index _ passed (DepthBound c.args.walk.now.classes.now c.args.start.levels) c.requires.placed c.class_layout-class_layout.ensures c.requires.depth c.deref-fused-items.ensures.value c.loop-fused-test.true c.fused_layouts.ensures.exact in
+    record {
+      ready = c.visit_fused-to.ensures.ready;
+      counted = (let x = c.loop-fused.invariant.counted in let y = ap length n.left in let z = length-append passed rest in omega (arith, n.count));
+      visited = fused_visited walk.classes.now walk.bytes.now walk.end class c.loop-fused.number left passed rest _ n.left n.count (g.V.VisitLeaf.takes walk.with.now) (fields_from class 0 shapes) shapes c.args.start.at c.loop-fused.to c.visit_fused-to.result c.args.steps.now c.loop-fused.steps c.visit_fused-to.new.steps c.args.visitor.now c.loop-fused.visitor c.visit_fused-to.new.visitor c.loop-fused.invariant.visited c.visit_fused-to.ensures.visited;
+    }
+
+pub visit_fields-returns-clause-visited : goal.visit_fields-returns-clause-visited
+visit_fields-returns-clause-visited g t c =
+    let walk = c.args.walk.now in
+    let class = c.args.layout.now.shape.class in
+    let row = c.class_layout-class_layout.result.now in
+    let shapes = field_shapes walk.classes.now c.args.layout.now.class_index in
+    let left = left_by row.layouts.items row.fused_fields.items c.loop-fused.fused-index in
+    let e : shapes_of_layouts left ≡ [] = ap shapes_of_layouts (left_none row.layouts.items row.fused_fields.items walk.classes.now 0 walk.bytes.now walk.end c.loop-fused.fused-index (rw c.deref-fused-items.ensures.value at c.loop-fused-test.false)) in
+    visits_end (g.V.VisitLeaf.takes walk.with.now) walk.classes.now walk.bytes.now walk.end (fields_from class 0 shapes) (fields_from class c.loop-fused.number (shapes_of_layouts left)) shapes (shapes_of_layouts left) c.args.start.at c.loop-fused.to c.args.steps.now c.loop-fused.steps c.args.visitor.now c.loop-fused.visitor
+    (ap (fields_from class c.loop-fused.number) e) e c.loop-fused.invariant.visited

@@ -1,10 +1,8 @@
 -- The value that is visited is the node's.
-use Rattle.std.proofs.Common.{[], ◌∷◌, subst, sym, ap, length, refl, ◌∙◌, arith}
-use Rattle.std.proofs.lemmas.List.{append-nil}
+use Rattle.std.proofs.Common.{[], ◌∷◌, subst, sym, ap, length, arith}
 use Rattle.std.specs.List.{AllByRecursion}
 use Rattle.std.specs.Prelude.{None}
-use Rattle.jfr_layout.specs.declared.shape.Shape.{Shape}
-use Rattle.jfr_value.specs.Nodes.{IsNode, node_at, node_of}
+use Rattle.jfr_value.specs.Nodes.{node_of}
 use Rattle.jfr_value.specs.Visits.{AreToVisit, TakesAll, Visits}
 use Rattle.jfr_value.proofs.DepthLaws.{sound_inline}
 use Rattle.jfr_value.proofs.LeafVisitLaws.{to_visit_node, visits_node}

@@ -1,5 +1,5 @@
 -- What the leaves refer to is what the value refers to.
-use Rattle.std.proofs.Common.{subst, ◌∙◌}
+use Rattle.std.proofs.Common.{subst}
 use Rattle.jfr_value.specs.Leaves.{leaf_target, leaves}
 use Rattle.jfr_value.specs.Nodes.{node_of}
 use Rattle.jfr_value.specs.Visits.{TakesAll}
