@@ -15,7 +15,7 @@ use Rattle.jfr_pool.specs.declared.entry.EntryAt.{EntryAt}
 use Rattle.jfr_pool.specs.Entries.{inline, number_in_force}
 use Rattle.jfr_chunk.specs.declared.event_index.EventIndexEntry.{EventIndexEntry}
 use Rattle.jfr_chunk.specs.declared.refs.ConstantRefs.{ConstantRefs}
-use Rattle.jfr_chunk.specs.Refs.{AddsRefs}
+use Rattle.jfr_chunk.specs.Refs.{AddsRefs, TakesRefs}
 use Rattle.jfr_chunk.specs.Parts.{EventAt}
 use Rattle.jfr_worklist.specs.Marks.{those}
 use Rattle.jfr_chunk.specs.Reach.{node_entries}
@@ -34,8 +34,12 @@ refs_then xs ys a b c p q = record {
 }
 
 -- Targets that are taken note the numbers of their entries.
-pub takes_refs : (es : List EntryAt) (ts : List (ℕ × ℕ)) (old new : ConstantRefs) → TakesAll (λ t a b. AddsRefs (those (number_in_force es) (t ∷ [])) a b) ts old new → AddsRefs (those (number_in_force es) ts) old new
-takes_refs es = takes_those AddsRefs refs_none refs_then (number_in_force es)
+takes_refs : (es : List EntryAt) (ts : List (ℕ × ℕ)) (old new : ConstantRefs) → TakesAll (λ t a b. TakesRefs es (t ∷ []) a b) ts old new → AddsRefs (those (number_in_force es) ts) old new
+takes_refs es ts old new h = takes_those AddsRefs refs_none refs_then (number_in_force es) ts old new (numbers ts old new h)
+  where
+    numbers : (ts : List (ℕ × ℕ)) (a b : ConstantRefs) → TakesAll (λ t a b. TakesRefs es (t ∷ []) a b) ts a b → TakesAll (λ t a b. AddsRefs (those (number_in_force es) (t ∷ [])) a b) ts a b
+    numbers [] a b h = h
+    numbers (t ∷ ts) a b h = let x = h.1 in (h.0, x.numbers, numbers ts h.0 b h.2)
 
 module _ (indexed_refs : EventIndexEntry → List ℕ) where
   -- One event more.
@@ -115,7 +119,7 @@ range_got None xs a b (inr h) order within = absurd (omega arith)
 range_got (Some x) xs a b h order within = ap (λ z. Some z) h.2
 
 -- The numbers that are noted of a value.
-pub all_refs : (es : List EntryAt) (ts : ℕ → List (ℕ × ℕ)) (old new : ConstantRefs) (r : Result ℕ Flaw) → IfOk r (λ to. TakesAll (λ t a b. AddsRefs (those (number_in_force es) (t ∷ [])) a b) (ts to) old new) → IfOk r (λ to. AddsRefs (those (number_in_force es) (ts to)) old new)
+pub all_refs : (es : List EntryAt) (ts : ℕ → List (ℕ × ℕ)) (old new : ConstantRefs) (r : Result ℕ Flaw) → IfOk r (λ to. TakesAll (λ t a b. TakesRefs es (t ∷ []) a b) (ts to) old new) → IfOk r (λ to. AddsRefs (those (number_in_force es) (ts to)) old new)
 all_refs es ts old new (Ok to) h = takes_refs es (ts to) old new h
 all_refs es ts old new (Err flaw) h = h
 

@@ -11,7 +11,6 @@ use Rattle.jfr_header.specs.Fronts.{Whole}
 use Rattle.jfr_frame.specs.declared.framed.Framed.{Framed}
 use Rattle.jfr_frame.specs.Records.{record_end}
 use Rattle.jfr_layout.specs.Classes.{Classes}
-use Rattle.jfr_meta.specs.declared.metadata.Metadata.{Metadata}
 use Rattle.jfr_meta.specs.Body.{Body}
 use Rattle.jfr_meta.specs.Stays.{is_in}
 use Rattle.jfr_value.specs.Nodes.{node_at, node_of}
@@ -23,6 +22,7 @@ use Rattle.jfr_chunk.specs.declared.event_index.EventIndex.{EventIndex}
 use Rattle.jfr_chunk.specs.declared.event.Event.{Event}
 use Rattle.jfr_chunk.specs.Parts.{Parts, EventAt, StartsAt, AreParts, events_of, metadata_at}
 use Rattle.jfr_chunk.specs.Reach.{node_entries}
+use Rattle.jfr_chunk.specs.Missing.{AreNotedIn, node_missing}
 
 -- Where the fields of the event with this record end: at the early end for the record's number, if there is
 -- one, else where the record ends.
@@ -41,6 +41,10 @@ indexed_event rs early f = option_map (λ r. event_with (end_in early f.record r
 abbrev pub indexed_refs : List EntryAt → Classes → List ℕ → List Framed → BTreeMap ℕ ℕ → EventIndexEntry → List ℕ
 indexed_refs es k c rs early f = option_map_or (λ e. node_entries es k c e.node) (indexed_event rs early f) []
 
+-- The classes and keys without an entry in force to which the event of an index entry refers.
+abbrev pub indexed_missing : List EntryAt → Classes → List ℕ → List Framed → BTreeMap ℕ ℕ → EventIndexEntry → List (ℕ × ℕ)
+indexed_missing es k c rs early f = option_map_or (λ e. node_missing es k c e.node) (indexed_event rs early f) []
+
 -- The list holds the entry numbers of all events, event after event. Each event's `refs_end` is where its range
 -- in the list ends, and the first range starts at `from`.
 abbrev pub AreRefs : (EventIndexEntry → List ℕ) → ℕ → List EventIndexEntry → List ℕ → Type 0
@@ -52,7 +56,7 @@ abbrev pub used_in : List Framed → List EventIndexEntry → ℕ → Bool
 used_in rs fields id = list_any (λ f. option_map_or (λ r. r.type_id == id) (slice_get rs f.record) false) fields
 
 -- The parts are those of a whole chunk, and the header, the metadata record, the events, the entries to
--- which they refer and their classes are those of the parts.
+-- which they refer, what they refer to without an entry, and their classes are those of the parts.
 pub record IsIndexed (p : Parts) (header : Header) (metadata : Framed) (index : EventIndex) : Type 0 where
   pub whole : Whole p.bytes
   pub parts : AreParts p
@@ -60,6 +64,7 @@ pub record IsIndexed (p : Parts) (header : Header) (metadata : Framed) (index : 
   pub metadata_there : StartsAt p.records (metadata_at p.bytes) 0 metadata
   pub events : map (indexed_event p.records index.early) index.fields.items ≡ map Some (events_of p)
   pub refs_end : AreRefs (indexed_refs p.entries p.classes p.bytes p.records index.early) 0 index.fields.items index.numbers.items
+  pub missing : AreNotedIn (map (indexed_missing p.entries p.classes p.bytes p.records index.early) index.fields.items) index.missing
   pub used : (id : ℕ) → is_in index.used.ids id ≡ used_in p.records index.fields.items id
 
 -- The parts, with the chained checkpoints in the order of the file.

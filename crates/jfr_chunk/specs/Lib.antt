@@ -9,6 +9,7 @@ pub mod Metas
 pub mod Scrub
 pub mod Meaning
 pub mod Indexed
+pub mod Missing
 pub mod Refs
 pub mod Used
 pub mod Buffers

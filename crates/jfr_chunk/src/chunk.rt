@@ -18,10 +18,11 @@ ghost use Rattle.jfr_chunk.specs.Reach.{node_entries, roots};
 ghost use Rattle.jfr_chunk.specs.Refusal.{Refused, read_parts};
 ghost use Rattle.jfr_chunk.specs.Buffers.{IsEmpty};
 ghost use Rattle.jfr_chunk.specs.Indexed.{IsOfChunk, event_at};
+ghost use Rattle.jfr_chunk.specs.Missing.{AreNoted, missing_by_event};
 
 use crate::event_index::EventIndex;
 use crate::read::{header_in, read_events, record_named};
-use crate::{Buffers, Event, Kept};
+use crate::{Buffers, Event, Kept, MissingRef};
 use jfr_base::{Flaw, NoMemory, ReadFault, Reason, Words};
 use jfr_frame::{CHECKPOINT_TYPE, Framed, Frames, METADATA_TYPE};
 use jfr_header::Header;
@@ -333,6 +334,14 @@ impl<'a> Chunk<'a> {
         ensures { result.now ≡ roots self.now (events_of self.now) }
     {
         self.events.numbers.as_slice()
+    }
+
+    /// The classes and keys to which the events refer and that have no entry in force; `None` if there are too
+    /// many to note, or memory ran out for them.
+    pub fn missing_refs(&self) -> Option<&[MissingRef]>
+        ensures { IfSome result (λ refs. AreNoted (missing_by_event self.now) refs.now) }
+    {
+        self.events.missing.all()
     }
 
     /// The numbers of the entries in force to which event `number` refers, from left to right; `None` exactly

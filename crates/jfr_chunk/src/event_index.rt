@@ -1,9 +1,10 @@
-//! The index of a chunk's events: their records, where their fields end, and to which entries they refer.
+//! The index of a chunk's events: their records, where their fields end, and to what they refer.
 ghost use Rattle.std.specs.Prelude.{◌≡◌, ℕ, ◌+◌, ◌<◌, ◌^◌, length, slice_get, option_map, Some};
 ghost use Rattle.jfr_frame.specs.Records.{record_end};
 ghost use Rattle.jfr_chunk.specs.Buffers.{HasNoEvents};
 ghost use Rattle.jfr_chunk.specs.Indexed.{end_in};
 
+use crate::missing::MissingRefs;
 use crate::used::UsedClasses;
 use jfr_frame::Framed;
 use std::alloc::Global;
@@ -22,7 +23,7 @@ pub(crate) struct EventIndexEntry {
 }
 
 /// The records of the events, in the order of the file, where their fields end, the numbers of the entries in
-/// force to which they refer, and their classes.
+/// force to which they refer, what they refer to without an entry, and their classes.
 #[derive(Drop)]
 pub(crate) struct EventIndex {
     /// An entry for each event.
@@ -32,6 +33,8 @@ pub(crate) struct EventIndex {
     pub early: BTreeMap<u32, u32>,
     /// The numbers of the entries in force to which the events refer, one event after another.
     pub numbers: Vec<u32>,
+    /// The classes and keys to which the events refer and that have no entry in force.
+    pub missing: MissingRefs,
     /// The classes of the events.
     pub used: UsedClasses,
 }
@@ -45,6 +48,7 @@ impl EventIndex {
             fields: Vec::new(alloc),
             early: BTreeMap::new(alloc),
             numbers: Vec::new(alloc),
+            missing: MissingRefs::new(alloc),
             used: UsedClasses::new(alloc),
         }
     }
@@ -56,6 +60,7 @@ impl EventIndex {
         self.fields.clear();
         self.early.clear();
         self.numbers.clear();
+        self.missing.clear();
         self.used.clear();
     }
 

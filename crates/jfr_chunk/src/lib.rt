@@ -12,6 +12,7 @@
 //! | `Chunk::classes`, `Chunk::metadata` | the classes that the metadata describes, and the metadata itself |
 //! | `Chunk::pools`, `Chunk::entry_node` | the entries of all checkpoints, and the node of an entry's value |
 //! | `Kept` | a choice of events |
+//! | `MissingRef` | a reference of an event that has no entry, by `Chunk::missing_refs` |
 //! | `UsedClasses` | the classes of some events |
 //!
 //! From an event's node `child` of `jfr_value` leads to fields and items; `target` and `Chunk::pools` lead to
@@ -36,6 +37,7 @@ mod event;
 mod event_index;
 mod kept;
 mod laws;
+mod missing;
 mod read;
 mod refs;
 mod used;
@@ -45,4 +47,5 @@ pub use chunk::Chunk;
 pub use event::Event;
 pub use kept::Kept;
 pub use laws::{computed_answer, marked_by_paths, one_answer, one_parts, same_paths};
+pub use missing::MissingRef;
 pub use used::UsedClasses;

@@ -1,5 +1,5 @@
 //! Stages of reading a chunk.
-ghost use Rattle.std.specs.Prelude.{◌≡◌, ◌<◌, ◌≤◌, ◌^◌, ℕ, [], length, take, Some, IfOk, IfErr, OnOk};
+ghost use Rattle.std.specs.Prelude.{◌≡◌, ◌<◌, ◌≤◌, ◌^◌, ℕ, [], length, map, take, Some, IfOk, IfErr, OnOk};
 ghost use Rattle.std.specs.BTreeMap as tree;
 ghost use Rattle.std.specs.Ordering.{nat_cmp};
 ghost use Rattle.jfr_base.specs.Formats.{run, end_or_flaw};
@@ -12,10 +12,11 @@ ghost use Rattle.jfr_meta.specs.Stays.{is_in};
 ghost use Rattle.jfr_value.specs.Nodes.{node_at};
 ghost use Rattle.jfr_value.specs.Reading.{value_format};
 ghost use Rattle.jfr_pool.specs.Entries.{inline};
+ghost use Rattle.jfr_chunk.specs.Missing.{AreNotedIn, Notes, node_missing};
 ghost use Rattle.jfr_chunk.specs.Refs.{AddsRefs};
 ghost use Rattle.jfr_chunk.specs.Reach.{node_entries};
 ghost use Rattle.jfr_chunk.specs.Refusal.{found_or};
-ghost use Rattle.jfr_chunk.specs.Indexed.{AreRefs, indexed_refs, used_in};
+ghost use Rattle.jfr_chunk.specs.Indexed.{AreRefs, indexed_missing, indexed_refs, used_in};
 ghost use Rattle.jfr_chunk.specs.Stages.{AreFields, IsRefusedEvents};
 
 use crate::event_index::{EventIndex, EventIndexEntry};
@@ -69,6 +70,7 @@ pub(crate) fn read_events(
     requires entries { length pools.now ≤ length chunk.now }
     ensures ok { IfOk result (λ index. AreFields chunk.now classes.now frames.now index.fields.items index.early) }
     ensures refs_end { IfOk result (λ index. AreRefs (indexed_refs pools.now classes.now chunk.now frames.now index.early) 0 index.fields.items index.numbers.items) }
+    ensures missing { IfOk result (λ index. AreNotedIn (map (indexed_missing pools.now classes.now chunk.now frames.now index.early) index.fields.items) index.missing) }
     ensures used { IfOk result (λ index. (id : ℕ) → is_in index.used.ids id ≡ used_in frames.now index.fields.items id) }
     ensures refused { IfErr result (IfFlawed (IsRefusedEvents chunk.now classes.now frames.now)) }
 {
@@ -77,7 +79,7 @@ pub(crate) fn read_events(
     early.clear();
     let mut used = buffers.used;
     used.clear();
-    let mut refs = ConstantRefs::new(buffers.numbers);
+    let mut refs = ConstantRefs::new(buffers.numbers, buffers.missing);
     let reader = EventReader {
         chunk,
         classes,
@@ -88,6 +90,7 @@ pub(crate) fn read_events(
         let Some(layout) = classes.event_layout(frame.type_id) else {
             continue;
         };
+        refs.event = fields.len();
         let end = fields_end(reader, &layout, frame, &mut refs)?;
         let record = number as u32;
         if end < frame.end() {
@@ -106,6 +109,7 @@ pub(crate) fn read_events(
         fields,
         early,
         numbers: refs.numbers,
+        missing: refs.missing,
         used,
     })
 }
@@ -139,7 +143,8 @@ struct EventReader<'a> {
     pools: &'a Pools,
 }
 
-/// Where the fields of an event end. Adds the numbers of the entries to which they refer.
+/// Where the fields of an event end. Adds the numbers of the entries to which they refer, and what they refer to
+/// without an entry.
 #[inline]
 fn fields_end(
     reader: EventReader<'_>,
@@ -153,6 +158,7 @@ fn fields_end(
     requires entries { length reader.pools.now < 2 ^ 32 }
     ensures exact { result ≡ end_or_flaw (run (value_format reader.entry.classes.now (inline frame.type_id)) reader.entry.chunk.now (record_end frame) frame.body) }
     ensures refs_end { IfOk result (λ end. AddsRefs (node_entries reader.entry.pools.now reader.entry.classes.now reader.entry.chunk.now (node_at (inline frame.type_id) frame.body end)) refs.old refs.new) }
+    ensures missing { IfOk result (λ end. Notes (node_missing reader.entry.pools.now reader.entry.classes.now reader.entry.chunk.now (node_at (inline frame.type_id) frame.body end)) refs.old.event refs.old.missing refs.new.missing) }
 {
     let walk = Walk {
         classes: reader.classes,

@@ -4,8 +4,10 @@ use Rattle.jfr_base.specs.Formats.{run, end_or_flaw}
 use Rattle.jfr_frame.specs.Records.{record_end}
 use Rattle.jfr_value.specs.Nodes.{node_at, targets}
 use Rattle.jfr_value.specs.Reading.{value_format}
+use Rattle.jfr_chunk.specs.Missing.{Notes, node_missing}
 use Rattle.jfr_chunk.specs.Refs.{AddsRefs}
 use Rattle.jfr_chunk.specs.Reach.{node_entries}
+use Rattle.jfr_chunk.proofs.NotedLaws.{all_missing}
 use Rattle.jfr_chunk.proofs.RefLaws.{all_refs}
 use Rattle.jfr_chunk.proofs.read.fields_end.Goals as goal
 
@@ -16,3 +18,8 @@ pub returns-clause-refs_end : goal.returns-clause-refs_end
 returns-clause-refs_end c =
     subst (λ s. IfOk c.end_visiting.result (λ end. AddsRefs (node_entries c.args.reader.pools.now c.args.reader.classes.now c.args.reader.chunk.now (node_at s c.args.frame.body end)) c.args.refs.now c.end_visiting.new.visitor)) c.requires.event.shape
     (all_refs c.args.reader.pools.now (λ to. targets c.args.reader.classes.now c.args.reader.chunk.now (node_at c.args.layout.now.shape c.args.frame.body to)) c.args.refs.now c.end_visiting.new.visitor c.end_visiting.result c.end_visiting.ensures.visited)
+
+pub returns-clause-missing : goal.returns-clause-missing
+returns-clause-missing c =
+    subst (λ s. IfOk c.end_visiting.result (λ end. Notes (node_missing c.args.reader.pools.now c.args.reader.classes.now c.args.reader.chunk.now (node_at s c.args.frame.body end)) c.args.refs.now.event c.args.refs.now.missing c.end_visiting.new.visitor.missing)) c.requires.event.shape
+    (all_missing c.args.reader.pools.now (λ to. targets c.args.reader.classes.now c.args.reader.chunk.now (node_at c.args.layout.now.shape c.args.frame.body to)) c.args.refs.now c.end_visiting.new.visitor c.end_visiting.result c.end_visiting.ensures.visited)

@@ -1,9 +1,11 @@
-use Rattle.std.proofs.Common.{length, ◌+◌, ap, sym, ◌∙◌, subst, arith}
+use Rattle.std.proofs.Common.{length, map, ◌+◌, ap, sym, ◌∙◌, subst, arith}
 use Rattle.std.proofs.lemmas.Result.{err_from_is_err_and}
-use Rattle.jfr_chunk.specs.Indexed.{AreRefs, indexed_refs, used_in}
+use Rattle.jfr_chunk.specs.Indexed.{AreRefs, indexed_missing, indexed_refs, used_in}
+use Rattle.jfr_chunk.specs.Missing.{AreNotedIn}
 use Rattle.jfr_chunk.proofs.CountLaws.{counted_none, counted_next, counted_event, number_fits, whole_small}
 use Rattle.jfr_chunk.proofs.EndLaws.{EndIs, end_early, end_full}
 use Rattle.jfr_chunk.proofs.EventReading.{ReadTo, record_of, read_none, read_other, read_event, read_stops, read_all}
+use Rattle.jfr_chunk.proofs.NotedLaws.{event_noted, noted_none}
 use Rattle.jfr_chunk.proofs.RefLaws.{event_refs}
 use Rattle.jfr_chunk.proofs.UsedLaws.{used_next}
 use Rattle.jfr_chunk.proofs.read.read_events.Goals as goal
@@ -17,6 +19,7 @@ loop-number-init c = record {
   read = read_none c.args.chunk.now c.args.classes.now c.args.frames.now c.clear.new.self c.in_ok-fields.fields.items c.clear.ensures.empty c.in_ok-fields.ensures;
   counted = counted_none c.args.chunk.now c.args.frames.now _ c.requires.records (ap length c.new-refs.ensures.numbers);
   refs_end = λ h. subst (λ z. AreRefs (indexed_refs c.args.pools.now c.args.classes.now c.args.chunk.now c.args.frames.now c.clear.new.self) 0 z c.new-refs.result.numbers.items) (sym c.in_ok-fields.ensures) c.new-refs.ensures.numbers;
+  missing = noted_none _ c.new-refs.result.missing (ap (map (indexed_missing c.args.pools.now c.args.classes.now c.args.chunk.now c.args.frames.now c.clear.new.self)) c.in_ok-fields.ensures) c.new-refs.ensures.missing;
   used = λ id. c.clear-2.ensures id ∙ ap (λ z. used_in c.args.frames.now z id) (sym c.in_ok-fields.ensures);
 }
 
@@ -25,6 +28,7 @@ loop-number-preserved-in_default c = record {
   read = read_other c.args.chunk.now c.args.classes.now c.args.frames.now c.loop-number.number c.loop-number.early c.loop-number.fields.items c.at-frame.result c.at-frame.ensures c.in_default.ensures c.loop-number.invariant.read;
   counted = counted_next c.args.chunk.now c.args.frames.now c.loop-number.number _ _ c.at-frame.result c.at-frame.ensures (omega arith) c.loop-number.invariant.counted;
   refs_end = c.loop-number.invariant.refs_end;
+  missing = c.loop-number.invariant.missing;
   used = c.loop-number.invariant.used;
 }
 
@@ -68,14 +72,18 @@ loop-number-preserved c =
     record {
       read =
           subst (ReadTo c.args.chunk.now c.args.classes.now c.args.frames.now (c.loop-number.number + 1) c.if-end.early) (sym c.in_ok-push.ensures.items)
-          (read_event c.args.chunk.now c.args.classes.now c.args.frames.now c.loop-number.number c.loop-number.early c.if-end.early c.loop-number.fields.items c.at-frame.result c.in_ok-end.end c.len-in-loop-number.result c.at-frame.ensures c.in-Some.ensures.event (sym c.in_ok-end.was ∙ c.fields_end.ensures.exact) i c.loop-number.invariant.read);
+          (read_event c.args.chunk.now c.args.classes.now c.args.frames.now c.loop-number.number c.loop-number.early c.if-end.early c.loop-number.fields.items c.at-frame.result c.in_ok-end.end c.len-in-loop-number-2.result c.at-frame.ensures c.in-Some.ensures.event (sym c.in_ok-end.was ∙ c.fields_end.ensures.exact) i c.loop-number.invariant.read);
       counted = e.counted;
       refs_end = λ h.
           subst (λ z. AreRefs (indexed_refs c.args.pools.now c.args.classes.now c.args.chunk.now c.args.frames.now c.if-end.early) 0 z c.fields_end.new.refs.numbers.items) (sym c.in_ok-push.ensures.items)
-          (event_refs c.args.pools.now c.args.classes.now c.args.chunk.now c.args.frames.now c.loop-number.early c.if-end.early c.loop-number.number c.in_ok-end.end c.len-in-loop-number.result c.at-frame.result c.loop-number.fields.items c.loop-number.refs.numbers.items c.fields_end.new.refs.numbers.items
-          c.at-frame.ensures i b.each (c.in_ok-end.ensures.refs_end.appended h) (omega (arith, c.len-in-loop-number.ensures)) (c.loop-number.invariant.refs_end (c.in_ok-end.ensures.refs_end.lacked_none h)));
+          (event_refs c.args.pools.now c.args.classes.now c.args.chunk.now c.args.frames.now c.loop-number.early c.if-end.early c.loop-number.number c.in_ok-end.end c.len-in-loop-number-2.result c.at-frame.result c.loop-number.fields.items c.loop-number.refs.numbers.items c.fields_end.new.refs.numbers.items
+          c.at-frame.ensures i b.each (c.in_ok-end.ensures.refs_end.appended h) (omega (arith, c.len-in-loop-number-2.ensures)) (c.loop-number.invariant.refs_end (c.in_ok-end.ensures.refs_end.lacked_none h)));
+      missing =
+          subst (λ z. AreNotedIn (map (indexed_missing c.args.pools.now c.args.classes.now c.args.chunk.now c.args.frames.now c.if-end.early) z) c.fields_end.new.refs.missing) (sym c.in_ok-push.ensures.items)
+          (event_noted c.args.pools.now c.args.classes.now c.args.chunk.now c.args.frames.now c.loop-number.early c.if-end.early c.loop-number.number c.in_ok-end.end c.len-in-loop-number-2.result c.len-in-loop-number.result c.at-frame.result c.loop-number.fields.items c.loop-number.refs.missing c.fields_end.new.refs.missing
+          c.at-frame.ensures i b.each (omega (arith, c.len-in-loop-number.ensures)) c.in_ok-end.ensures.missing c.loop-number.invariant.missing);
       used = λ id.
-          used_next c.args.frames.now c.loop-number.fields.items _ c.loop-number.number c.len-in-loop-number.result id c.at-frame.result c.at-frame.ensures c.in_ok-push.ensures.items _ _ (c.loop-number.invariant.used id) (c.in_ok-add.ensures id);
+          used_next c.args.frames.now c.loop-number.fields.items _ c.loop-number.number c.len-in-loop-number-2.result id c.at-frame.result c.at-frame.ensures c.in_ok-push.ensures.items _ _ (c.loop-number.invariant.used id) (c.in_ok-add.ensures id);
     }
 
 pub returns-in_err-end-clause-refused : goal.returns-in_err-end-clause-refused
