@@ -1,7 +1,7 @@
 //! The output chunk with new keys.
 ghost use Rattle.std.specs.Prelude.{◌≡◌, ℕ, option_map, IfOk};
 ghost use Rattle.jfr_chunk.specs.Reach.{kept_by};
-ghost use Rattle.jfr_output.specs.OutputRecords.{IsNewMetadata};
+ghost use Rattle.jfr_output.specs.RemainingRecords.{IsNewMetadata};
 ghost use Rattle.jfr_renumber.specs.Numbers.{number_of};
 ghost use Rattle.jfr_renumber.specs.Renumber.{firsts, new_key_of, renumber_with};
 

@@ -28,9 +28,9 @@ use Rattle.jfr_laws.proofs.Passing.{clash}
 use Rattle.jfr_laws.proofs.Premises.{GoodAnew, all_links, metadata_stands, ready, recorded}
 use Rattle.jfr_laws.proofs.Quiet.{no_metadata_event}
 use Rattle.jfr_laws.proofs.Same.{chosen_events, event_of_chunk}
-use Rattle.jfr_output.specs.declared.output_records.OutputRecord as contents
-use Rattle.jfr_output.specs.declared.output_records.OutputRecord.TheVariants as declared_records
-use Rattle.jfr_output.specs.OutputRecords.{IsKeptEvent, ShowsEvent, ShowsMetadata, output_record_as, whole_or}
+use Rattle.jfr_output.specs.declared.remaining_records.RemainingRecord.{RemainingRecord}
+use Rattle.jfr_output.specs.declared.remaining_records.RemainingRecord.TheVariants as remaining_records
+use Rattle.jfr_output.specs.RemainingRecords.{IsKeptEvent, ShowsEvent, ShowsMetadata, output_record_for, whole_or}
 use Rattle.jfr_output.specs.Positions.{IsBefore, offset_so_far}
 use Rattle.jfr_output.specs.Remaining.{NotFalling}
 use Rattle.jfr_output.proofs.CheckpointEntries.{marked_order}
@@ -119,11 +119,11 @@ module _ (w : Rewrite) (p : Parts) (flags : List Bool) (entries : List EntryAt) 
   place = metadata_at p.bytes
 
   -- With this record the output is `after`.
-  abbrev pub IsNext : contents.OutputRecord → Progress → Progress → Type 0
-  IsNext s b after = (after ≡ with_record bytes place b (output_record_as new s)) × IsBefore after.newest (length after.bytes)
+  abbrev pub IsNext : RemainingRecord → Progress → Progress → Type 0
+  IsNext s b after = (after ≡ with_record bytes place b (output_record_for new s)) × IsBefore after.newest (length after.bytes)
 
-  abbrev pub CarriesIt : contents.OutputRecord → Progress → Type 0
-  CarriesIt s b = CarriesRecord w p (kept_by p flags) entries (output_record_as new s) (length b.bytes) b.newest
+  abbrev pub CarriesIt : RemainingRecord → Progress → Type 0
+  CarriesIt s b = CarriesRecord w p (kept_by p flags) entries (output_record_for new s) (length b.bytes) b.newest
 
   appended_before : (o : Option ℕ) (old x after : List ℕ) → after ≡ old ++ x → IsBefore o (length old) → IsBefore o (length after)
   appended_before o old x after e h = later_before o (length old) (length after) h (omega (arith, ap length e, length-append old x))
@@ -133,7 +133,7 @@ module _ (w : Rewrite) (p : Parts) (flags : List Bool) (entries : List EntryAt) 
   event_next number r b after k t h =
       λ i. record { bytes = (h ∙ ap (λ o. b.bytes ++ whole_bytes w p r o) (sym k.there)) i; newest = b.newest; metadata = sym (seen_not b.metadata (r.at == place) (length b.bytes) t) i }
 
-  pub event_written : {A : Type 0} (result : Result A WriteFault) (s : contents.OutputRecord) (number : ℕ) (r : Framed) (b : Progress) (after : List ℕ) → s ≡ declared_records.Event number r → ShowsEvent p flags s → ShowsMetadata place s
+  pub event_written : {A : Type 0} (result : Result A WriteFault) (s : RemainingRecord) (number : ℕ) (r : Framed) (b : Progress) (after : List ℕ) → s ≡ remaining_records.Event number r → ShowsEvent p flags s → ShowsMetadata place s
       → IsBefore b.newest (length b.bytes) → IfSome (slice_get (events_of p) number) (λ e. Wrote result (λ x. after ≡ b.bytes ++ event_bytes w p e) (CarriesTail w e.record_of (event_tail w p e)))
       → Wrote result (λ x. IsNext s b (record { bytes = after; newest = b.newest; metadata = b.metadata })) (CarriesIt s b)
   event_written {A = A} result s number r b after q k t before h =
@@ -147,7 +147,7 @@ module _ (w : Rewrite) (p : Parts) (flags : List Bool) (entries : List EntryAt) 
   metadata_next a r None b s t = λ i. record { bytes = b.bytes ++ whole_bytes w p r (sym (metadata_no_event p a flags r s t) i); newest = b.newest; metadata = offset_so_far b.metadata (sym t i) (length b.bytes) }
   metadata_next a r (Some x) b s t = λ i. record { bytes = b.bytes ++ x; newest = b.newest; metadata = offset_so_far b.metadata (sym t i) (length b.bytes) }
 
-  pub metadata_written : (a : AreParts p) (s : contents.OutputRecord) (r : Framed) (b after : Progress) → s ≡ declared_records.Metadata r → ShowsMetadata place s → IsBefore b.newest (length b.bytes) → IsRecord p.bytes r
+  pub metadata_written : (a : AreParts p) (s : RemainingRecord) (r : Framed) (b after : Progress) → s ≡ remaining_records.Metadata r → ShowsMetadata place s → IsBefore b.newest (length b.bytes) → IsRecord p.bytes r
       → after ≡ record { bytes = b.bytes ++ unwrap_or new (record_bytes p.bytes r); newest = b.newest; metadata = offset_so_far b.metadata true (length b.bytes) } → IsNext s b after
   metadata_written a s r b after q t before i e =
       subst (λ z. ShowsMetadata place z → IsNext z b after) (sym q)
@@ -166,7 +166,7 @@ module _ (w : Rewrite) (p : Parts) (flags : List Bool) (entries : List EntryAt) 
         metadata = sym (seen_not b.metadata (l.frame.at == place) (length b.bytes) t) i;
       }
 
-  pub link_written : {A : Type 0} (result : Result A WriteFault) (s : contents.OutputRecord) (number : ℕ) (l : Link) (b after : Progress) → s ≡ declared_records.Chained number l → ShowsMetadata place s
+  pub link_written : {A : Type 0} (result : Result A WriteFault) (s : RemainingRecord) (number : ℕ) (l : Link) (b after : Progress) → s ≡ remaining_records.Chained number l → ShowsMetadata place s
       → Wrote result (λ x. (after ≡ record { bytes = b.bytes ++ resized w l.frame (chained_tail w p entries number l (length b.bytes) b.newest); newest = Some (length b.bytes); metadata = b.metadata }) × (length b.bytes < length after.bytes))
       (CarriesTail w l.frame (chained_tail w p entries number l (length b.bytes) b.newest))
       → Wrote result (λ x. IsNext s b after) (CarriesIt s b)
@@ -175,14 +175,14 @@ module _ (w : Rewrite) (p : Parts) (flags : List Bool) (entries : List EntryAt) 
       (λ t. wrote_weaker result (λ x e. (e.0 ∙ link_next number l b t, subst (λ o. IsBefore o (length after.bytes)) (sym (ap (λ (z : Progress). z.newest) e.0)) e.1)) (λ carried. carried) h) t
 
 -- What a checkpoint and the metadata record need.
-pub link_stands : (p : Parts) (entries : List EntryAt) (new : Option (List ℕ)) (s : contents.OutputRecord) (number : ℕ) (l : Link) → s ≡ declared_records.Chained number l → CanWrite p entries (output_record_as new s)
+pub link_stands : (p : Parts) (entries : List EntryAt) (new : Option (List ℕ)) (s : RemainingRecord) (number : ℕ) (l : Link) → s ≡ remaining_records.Chained number l → CanWrite p entries (output_record_for new s)
     → CheckpointStands p l (filter (λ e. e.checkpoint == number) entries)
 unfolding CanWrite
-link_stands p entries new s number l q c = subst (λ z. CanWrite p entries (output_record_as new z)) q c
+link_stands p entries new s number l q c = subst (λ z. CanWrite p entries (output_record_for new z)) q c
 
-pub record_stands : (p : Parts) (entries : List EntryAt) (new : Option (List ℕ)) (s : contents.OutputRecord) (r : Framed) → s ≡ declared_records.Metadata r → CanWrite p entries (output_record_as new s) → IsRecord p.bytes r
+pub record_stands : (p : Parts) (entries : List EntryAt) (new : Option (List ℕ)) (s : RemainingRecord) (r : Framed) → s ≡ remaining_records.Metadata r → CanWrite p entries (output_record_for new s) → IsRecord p.bytes r
 unfolding CanWrite
-record_stands p entries new s r q c = by_new new (subst (λ z. CanWrite p entries (output_record_as new z)) q c)
+record_stands p entries new s r q c = by_new new (subst (λ z. CanWrite p entries (output_record_for new z)) q c)
   where
     by_new : (o : Option (List ℕ)) → CanWrite p entries (whole_or o r) → IsRecord p.bytes r
     by_new None c = c

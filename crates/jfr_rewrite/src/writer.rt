@@ -5,7 +5,7 @@ ghost use Rattle.jfr_frame.specs.Records.{IsRecord, record_bytes};
 ghost use Rattle.jfr_chunk.specs.Parts.{metadata_at};
 ghost use Rattle.jfr_chunk.specs.Reach.{kept_by};
 ghost use Rattle.jfr_chunk.specs.Scrub.{output_records};
-ghost use Rattle.jfr_output.specs.OutputRecords.{ShowsEvent, ShowsMetadata, output_record_as};
+ghost use Rattle.jfr_output.specs.RemainingRecords.{ShowsEvent, ShowsMetadata, output_record_for};
 ghost use Rattle.jfr_output.specs.Positions.{IsBefore, offset_so_far};
 ghost use Rattle.jfr_output.specs.Remaining.{NotFalling};
 ghost use Rattle.jfr_rewrite.specs.Rewrite.{chained_tail, new_bytes, resized, rewritten};
@@ -18,7 +18,9 @@ use crate::records::put_chunk_event;
 use crate::rewriter::Rewriter;
 use jfr_chunk::{Chunk, Kept};
 use jfr_frame::Framed;
-use jfr_output::{Cursor, OutputRecord, delta_to, entries_of, next_output_record, output_header};
+use jfr_output::{
+    RecordCursor, RemainingRecord, delta_to, entries_of, next_remaining_record, output_header,
+};
 use jfr_pool::{EntryAt, Link};
 use std::alloc::{AllocError, Global};
 
@@ -96,7 +98,7 @@ fn with_header(output: Output, chunk: &Chunk<'_>) -> Vec<u8>
     bytes
 }
 
-/// Writes all output records.
+/// Writes the output records for all remaining records.
 fn put_records<R: Rewriter>(output: &mut Output, source: Source<'_, R>) -> Result<(), WriteFault>
     requires empty { progress_of output.old ≡ record { bytes = replicate 68 0; newest = None; metadata = None } }
     requires suits { R.suits source.rewriting.now source.chunk.now }
@@ -104,49 +106,49 @@ fn put_records<R: Rewriter>(output: &mut Output, source: Source<'_, R>) -> Resul
     ensures { Wrote result (λ done. IsBody source.entry.chunk.now (new_bytes (with_metadata (R.rewrite source.entry.rewriting.now) (option_map (λ s. s.now) source.entry.metadata)) source.entry.chunk.now (kept_by source.entry.chunk.now source.entry.kept.now) source.entry.entries.now) (output_records (option_map (λ s. s.now) source.entry.metadata) source.entry.chunk.now (kept_by source.entry.chunk.now source.entry.kept.now)) (progress_of output.new)) (CarriesAll (with_metadata (R.rewrite source.entry.rewriting.now) (option_map (λ s. s.now) source.entry.metadata)) source.entry.chunk.now (kept_by source.entry.chunk.now source.entry.kept.now) source.entry.entries.now) }
 {
     source.chunk.parts_are_valid();
-    let mut cursor = Cursor {
+    let mut cursor = RecordCursor {
         frame: 0,
         event: 0,
         link: 0,
     };
-    'output_records: while let Some(output_record) = next_output_record(
+    'output_records: while let Some(remaining_record) = next_remaining_record(
         source.chunk,
         source.kept,
         &mut cursor,
     ) {
-        put_record(output, source, output_record)?;
+        put_record(output, source, remaining_record)?;
     }
     Ok(())
 }
 
-/// Writes an output record.
+/// Writes the output record for a remaining record.
 fn put_record<R: Rewriter>(
     output: &mut Output,
     source: Source<'_, R>,
-    output_record: OutputRecord,
+    remaining_record: RemainingRecord,
 ) -> Result<(), WriteFault>
     requires suits { R.suits source.rewriting.now source.chunk.now }
     requires order { NotFalling 0 source.entries.now }
     requires before { IsBefore output.old.newest (length output.old.bytes.items) }
-    requires event { ShowsEvent source.chunk.now source.kept.now output_record }
-    requires metadata { ShowsMetadata (metadata_at source.chunk.now.bytes) output_record }
-    requires can { CanWrite source.chunk.now source.entries.now (output_record_as (option_map (λ s. s.now) source.metadata) output_record) }
-    ensures { Wrote result (λ done. (progress_of output.new ≡ with_record (new_bytes (with_metadata (R.rewrite source.entry.rewriting.now) (option_map (λ s. s.now) source.entry.metadata)) source.entry.chunk.now (kept_by source.entry.chunk.now source.entry.kept.now) source.entry.entries.now) (metadata_at source.entry.chunk.now.bytes) (progress_of output.old) (output_record_as (option_map (λ s. s.now) source.entry.metadata) output_record)) × IsBefore output.new.newest (length output.new.bytes.items)) (CarriesRecord (with_metadata (R.rewrite source.entry.rewriting.now) (option_map (λ s. s.now) source.entry.metadata)) source.entry.chunk.now (kept_by source.entry.chunk.now source.entry.kept.now) source.entry.entries.now (output_record_as (option_map (λ s. s.now) source.entry.metadata) output_record) (length output.old.bytes.items) output.old.newest) }
+    requires event { ShowsEvent source.chunk.now source.kept.now remaining_record }
+    requires metadata { ShowsMetadata (metadata_at source.chunk.now.bytes) remaining_record }
+    requires can { CanWrite source.chunk.now source.entries.now (output_record_for (option_map (λ s. s.now) source.metadata) remaining_record) }
+    ensures { Wrote result (λ done. (progress_of output.new ≡ with_record (new_bytes (with_metadata (R.rewrite source.entry.rewriting.now) (option_map (λ s. s.now) source.entry.metadata)) source.entry.chunk.now (kept_by source.entry.chunk.now source.entry.kept.now) source.entry.entries.now) (metadata_at source.entry.chunk.now.bytes) (progress_of output.old) (output_record_for (option_map (λ s. s.now) source.entry.metadata) remaining_record)) × IsBefore output.new.newest (length output.new.bytes.items)) (CarriesRecord (with_metadata (R.rewrite source.entry.rewriting.now) (option_map (λ s. s.now) source.entry.metadata)) source.entry.chunk.now (kept_by source.entry.chunk.now source.entry.kept.now) source.entry.entries.now (output_record_for (option_map (λ s. s.now) source.entry.metadata) remaining_record) (length output.old.bytes.items) output.old.newest) }
 {
     source.chunk.parts_are_valid();
-    match output_record {
-        OutputRecord::Event(number, _) => put_chunk_event(
+    match remaining_record {
+        RemainingRecord::Event(number, _) => put_chunk_event(
             &mut output.bytes,
             &mut output.scratch,
             source.chunk,
             number,
             source.rewriting,
         ),
-        OutputRecord::Metadata(frame) => {
+        RemainingRecord::Metadata(frame) => {
             put_metadata(output, source.chunk.bytes(), frame, source.metadata)?;
             Ok(())
         }
-        OutputRecord::Chained(number, link) => put_chained(output, source, number, link),
+        RemainingRecord::Chained(number, link) => put_chained(output, source, number, link),
     }
 }
 

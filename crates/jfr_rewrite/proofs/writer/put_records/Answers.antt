@@ -1,7 +1,7 @@
 use Rattle.std.proofs.Common.{option_map, subst}
 use Rattle.jfr_chunk.specs.Reach.{kept_by}
 use Rattle.jfr_chunk.specs.Scrub.{Written, output_records}
-use Rattle.jfr_output.specs.OutputRecords.{output_record_as}
+use Rattle.jfr_output.specs.RemainingRecords.{output_record_for}
 use Rattle.jfr_output.proofs.CursorLaws.{cursor_first}
 use Rattle.jfr_rewrite.specs.Rewrite.{new_bytes}
 use Rattle.jfr_rewrite.specs.Rewritten.{CarriesRecord}
@@ -38,6 +38,6 @@ output_records-preserved g c =
     let going = subst (λ ss. Going p (new_bytes w p kept entries) (CanWrite p entries) (λ (o : Written). CarriesRecord w p kept entries o.output_record o.at o.older) (output_records new p kept) ss b) (c.in-Some.ensures.exact new) c.output_records.invariant.output in
     record {
       cursor = c.in-Some.ensures.cursor;
-      output = going_next p (new_bytes w p kept entries) (CanWrite p entries) (λ (o : Written). CarriesRecord w p kept entries o.output_record o.at o.older) (output_records new p kept) _ (output_record_as new c.in-Some.output_record) b (progress_of c.put_record.new.output) going
+      output = going_next p (new_bytes w p kept entries) (CanWrite p entries) (λ (o : Written). CarriesRecord w p kept entries o.output_record o.at o.older) (output_records new p kept) _ (output_record_for new c.in-Some.remaining_record) b (progress_of c.put_record.new.output) going
           c.in_ok-put_record.ensures.0 c.in_ok-put_record.ensures.1;
     }
