@@ -10,7 +10,7 @@ abbrev pub or_place : Option ℕ → ℕ → ℕ
 or_place (Some place) later = place
 or_place None later = later
 
-pub last_next : (older : Option ℕ) (w : Written) (ws : List Written) → last_at older (w ∷ ws) ≡ last_at (older_after w.output_record w.at older) ws
+pub last_next : (newest : Option ℕ) (w : Written) (ws : List Written) → last_at newest (w ∷ ws) ≡ last_at (older_after w.output_record w.at newest) ws
 last_next None w ws = refl
 last_next (Some at) w ws = refl
 
@@ -22,15 +22,15 @@ moved_next None w ws at = by_test ((record_of w.output_record).at == at)
     by_test true = refl
     by_test false = refl
 
--- The older checkpoint is before what comes next.
-pub still_before : (s : OutputRecord) (at to : ℕ) (older : Option ℕ) → IsBefore older at → at < to → IsBefore (older_after s at older) to
+-- The newest checkpoint is before what comes next.
+pub still_before : (s : OutputRecord) (at to : ℕ) (newest : Option ℕ) → IsBefore newest at → at < to → IsBefore (older_after s at newest) to
 still_before (Whole r) at to None h i = tt
 still_before (Whole r) at to (Some o) h i = omega (arith, h)
 still_before (Rebuilt r x) at to None h i = tt
 still_before (Rebuilt r x) at to (Some o) h i = omega (arith, h)
-still_before (Chained number l) at to older h i = i
+still_before (Chained number l) at to newest h i = i
 
-pub last_none : (older : Option ℕ) → last_at older [] ≡ unwrap_or older 0
+pub last_none : (newest : Option ℕ) → last_at newest [] ≡ unwrap_or newest 0
 last_none None = refl
 last_none (Some at) = refl
 

@@ -38,7 +38,7 @@ use Rattle.jfr_output.proofs.PositionLaws.{last_next, last_none, moved_next, or_
 use Rattle.jfr_rewrite.specs.declared.fault.WriteFault.{WriteFault}
 use Rattle.jfr_rewrite.specs.Rewrite.{Rewrite, assembled_by, bytes_by, chained_tail, event_bytes, event_tail, new_bytes, resized, rewritten, whole_bytes, written_by}
 use Rattle.jfr_rewrite.specs.Rewritten.{CarriesRecord, CarriesTail}
-use Rattle.jfr_rewrite.specs.Writing.{AreSomeOf, CanWrite, CheckpointStands, IsBody, Progress, Wrote, with_record}
+use Rattle.jfr_rewrite.specs.Writing.{AreSomeOf, CanWrite, CheckpointStands, HasAllRecords, Progress, Wrote, with_record}
 use Rattle.jfr_rewrite.proofs.Accepted.{computed}
 use Rattle.jfr_rewrite.proofs.CheckpointWriting.{entries_stand}
 use Rattle.jfr_rewrite.proofs.Output.{OnChained, OnChosen, find_in, none_anew, on_chained, on_chosen}
@@ -222,14 +222,14 @@ module _ (p : Parts) (bytes : OutputRecord → ℕ → Option ℕ → List ℕ) 
             before = subst (λ (z : Progress). IsBefore z.newest (length z.bytes)) e h;
           }
 
-  pub going_all : (all ss : List OutputRecord) (b : Progress) → Going all ss b → ss ≡ [] → IsBody p bytes all b
+  pub going_all : (all ss : List OutputRecord) (b : Progress) → Going all ss b → ss ≡ [] → HasAllRecords p bytes all b
   going_all all ss b g e = done (subst (λ z. Going all z b) e g)
     where
-      done : Going all [] b → IsBody p bytes all b
+      done : Going all [] b → HasAllRecords p bytes all b
       done g = record { body = sym (append-nil b.bytes) ∙ g.body; newest = sym (last_none b.newest) ∙ g.newest; metadata = sym (or_none b.metadata) ∙ g.metadata }
 
 -- The header in its place before the body is the output.
-pub all_assembled : (p : Parts) (bytes : OutputRecord → ℕ → Option ℕ → List ℕ) (ss : List OutputRecord) (b : Progress) (h : Header) (out : List ℕ) → IsBody p bytes ss b → h ≡ header_of (take 68 p.bytes)
+pub all_assembled : (p : Parts) (bytes : OutputRecord → ℕ → Option ℕ → List ℕ) (ss : List OutputRecord) (b : Progress) (h : Header) (out : List ℕ) → HasAllRecords p bytes ss b → h ≡ header_of (take 68 p.bytes)
     → out ≡ header_bytes (record h { size = length b.bytes; pools = unwrap_or b.newest 0; metadata = unwrap_or b.metadata 0 }) ++ drop 68 b.bytes → out ≡ assembled_by p bytes ss
 all_assembled p bytes ss b h out i e o =
     let body : List ℕ = flat_map (bytes_by bytes) (written_by bytes 68 None ss) in
@@ -240,5 +240,5 @@ pub is_rewritten : (w : Rewrite) (p : Parts) (these : List EventAt) (entries : L
 unfolding rewritten
 is_rewritten w p these entries out e = e
 
-pub header_room : (p : Parts) (bytes : OutputRecord → ℕ → Option ℕ → List ℕ) (ss : List OutputRecord) (b : Progress) → IsBody p bytes ss b → 68 ≤ length b.bytes
+pub header_room : (p : Parts) (bytes : OutputRecord → ℕ → Option ℕ → List ℕ) (ss : List OutputRecord) (b : Progress) → HasAllRecords p bytes ss b → 68 ≤ length b.bytes
 header_room p bytes ss b i = omega (arith, ap length i.body, length-append (replicate 68 0) (flat_map (bytes_by bytes) (written_by bytes 68 None ss)))

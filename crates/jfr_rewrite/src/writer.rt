@@ -10,7 +10,7 @@ ghost use Rattle.jfr_output.specs.Positions.{IsBefore, offset_so_far};
 ghost use Rattle.jfr_output.specs.Remaining.{NotFalling};
 ghost use Rattle.jfr_rewrite.specs.Rewrite.{chained_tail, new_bytes, resized, rewritten};
 ghost use Rattle.jfr_rewrite.specs.Rewritten.{CarriesAll, CarriesRecord, CarriesTail};
-ghost use Rattle.jfr_rewrite.specs.Writing.{AreSomeOf, CanWrite, CheckpointStands, IsBody, Wrote, progress_of, with_metadata, with_record};
+ghost use Rattle.jfr_rewrite.specs.Writing.{AreSomeOf, CanWrite, CheckpointStands, HasAllRecords, Wrote, progress_of, with_metadata, with_record};
 
 use crate::checkpoints::{OutputCheckpoint, put_checkpoint};
 use crate::fault::WriteFault;
@@ -46,10 +46,10 @@ impl<'s, R> Clone for Source<'s, R> {
 
 impl<'s, R> Copy for Source<'s, R> {}
 
-/// The output so far: its bytes, of which the first 68 are for the header, and the offsets of the newest
+/// The output chunk so far: its bytes, of which the first 68 are for the header, and the offsets of the newest
 /// checkpoint and of the metadata record, if they have been written.
 #[derive(Drop)]
-pub(crate) struct Output {
+pub(crate) struct ChunkSoFar {
     bytes: Vec<u8>,
     /// Memory for the bytes of a record that have to move.
     scratch: Vec<u8>,
@@ -72,7 +72,7 @@ pub fn write_chunk<R: Rewriter>(
     let mut bytes = memory;
     bytes.clear();
     bytes.extend_from_slice(&[0; 68])?;
-    let mut output = Output {
+    let mut output = ChunkSoFar {
         bytes,
         scratch: Vec::new(alloc),
         newest: None,
@@ -83,11 +83,11 @@ pub fn write_chunk<R: Rewriter>(
 }
 
 /// Puts the header in its place.
-fn with_header(output: Output, chunk: &Chunk<'_>) -> Vec<u8>
+fn with_header(output: ChunkSoFar, chunk: &Chunk<'_>) -> Vec<u8>
     requires { 68 ≤ length output.bytes.items }
     ensures { result.items ≡ header_bytes (record (header_of (take 68 chunk.now.bytes)) { size = length output.bytes.items; pools = unwrap_or output.newest 0; metadata = unwrap_or output.metadata 0 }) ++ drop 68 output.bytes.items }
 {
-    let Output {
+    let ChunkSoFar {
         mut bytes,
         newest,
         metadata,
@@ -99,11 +99,14 @@ fn with_header(output: Output, chunk: &Chunk<'_>) -> Vec<u8>
 }
 
 /// Writes the output records for all remaining records.
-fn put_records<R: Rewriter>(output: &mut Output, source: Source<'_, R>) -> Result<(), WriteFault>
+fn put_records<R: Rewriter>(
+    output: &mut ChunkSoFar,
+    source: Source<'_, R>,
+) -> Result<(), WriteFault>
     requires empty { progress_of output.old ≡ record { bytes = replicate 68 0; newest = None; metadata = None } }
     requires suits { R.suits source.rewriting.now source.chunk.now }
     requires entries { AreSomeOf source.chunk.now source.entries.now }
-    ensures { Wrote result (λ done. IsBody source.entry.chunk.now (new_bytes (with_metadata (R.rewrite source.entry.rewriting.now) (option_map (λ s. s.now) source.entry.metadata)) source.entry.chunk.now (kept_by source.entry.chunk.now source.entry.kept.now) source.entry.entries.now) (output_records (option_map (λ s. s.now) source.entry.metadata) source.entry.chunk.now (kept_by source.entry.chunk.now source.entry.kept.now)) (progress_of output.new)) (CarriesAll (with_metadata (R.rewrite source.entry.rewriting.now) (option_map (λ s. s.now) source.entry.metadata)) source.entry.chunk.now (kept_by source.entry.chunk.now source.entry.kept.now) source.entry.entries.now) }
+    ensures { Wrote result (λ done. HasAllRecords source.entry.chunk.now (new_bytes (with_metadata (R.rewrite source.entry.rewriting.now) (option_map (λ s. s.now) source.entry.metadata)) source.entry.chunk.now (kept_by source.entry.chunk.now source.entry.kept.now) source.entry.entries.now) (output_records (option_map (λ s. s.now) source.entry.metadata) source.entry.chunk.now (kept_by source.entry.chunk.now source.entry.kept.now)) (progress_of output.new)) (CarriesAll (with_metadata (R.rewrite source.entry.rewriting.now) (option_map (λ s. s.now) source.entry.metadata)) source.entry.chunk.now (kept_by source.entry.chunk.now source.entry.kept.now) source.entry.entries.now) }
 {
     source.chunk.parts_are_valid();
     let mut cursor = RecordCursor {
@@ -123,7 +126,7 @@ fn put_records<R: Rewriter>(output: &mut Output, source: Source<'_, R>) -> Resul
 
 /// Writes the output record for a remaining record.
 fn put_record<R: Rewriter>(
-    output: &mut Output,
+    output: &mut ChunkSoFar,
     source: Source<'_, R>,
     remaining_record: RemainingRecord,
 ) -> Result<(), WriteFault>
@@ -154,7 +157,7 @@ fn put_record<R: Rewriter>(
 
 /// Writes the metadata record: the new one, if there is one, or else this record of the chunk.
 fn put_metadata(
-    output: &mut Output,
+    output: &mut ChunkSoFar,
     bytes: &[u8],
     frame: Framed,
     new: Option<&[u8]>,
@@ -171,7 +174,7 @@ fn put_metadata(
 
 /// Writes a chained checkpoint.
 fn put_chained<R: Rewriter>(
-    output: &mut Output,
+    output: &mut ChunkSoFar,
     source: Source<'_, R>,
     number: usize,
     link: Link,

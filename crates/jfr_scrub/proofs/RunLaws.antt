@@ -206,7 +206,7 @@ no_range b from to e =
     let f : slice_range b.output.chunk from to ≡ [] = range_none b.output.chunk from to (omega arith) in
     let g : b.output.bytes ++ slice_range b.output.chunk from to ≡ b.output.bytes = ap (λ z. b.output.bytes ++ z) f ∙ append-nil b.output.bytes in
     let h : b.at + (to - from) ≡ b.at = omega arith in
-    λ i. record { output = record { chunk = b.output.chunk; bytes = g i }; at = h i; older = b.older; metadata = b.metadata }
+    λ i. record { output = record { chunk = b.output.chunk; bytes = g i }; at = h i; newest = b.newest; metadata = b.metadata }
 
 first_of_range : (b : Progress) (r : Framed) (remaining : List EntryAt) (m to : ℕ) → (r.at == m) ≡ false → IsRecord b.output.chunk r → record_end r ≤ to → with_range (body_with remaining m b (Whole r)) (record_end r) to ≡ with_range b r.at to
 first_of_range b r remaining m to f s h =
@@ -217,14 +217,14 @@ first_of_range b r remaining m to f s h =
     let o : more (more b.output (record_bytes c r)) (slice_range c (record_end r) to) ≡ more b.output (slice_range c r.at to) = more_more b.output (record_bytes c r) (slice_range c (record_end r) to) ∙ ap (more b.output) (sym k) in
     let a : (b.at + length (record_bytes c r)) + (to - record_end r) ≡ b.at + (to - r.at) = omega arith in
     let d : offset_so_far b.metadata (r.at == m) b.at ≡ b.metadata = ap (λ t. offset_so_far b.metadata t b.at) f ∙ seen_before b.metadata b.at in
-    λ j. record { output = o j; at = a j; older = b.older; metadata = d j }
+    λ j. record { output = o j; at = a j; newest = b.newest; metadata = d j }
 
 laid_run : (p : Parts) (remaining : List EntryAt) (all ss : List OutputRecord) (rs : List Framed) (from to : ℕ) (b : Progress) → Going p remaining all (map (λ r. Whole r) rs ++ ss) b → Tiles p.bytes from rs to →
     AllByRecursion (λ r. (r.at == metadata_at p.bytes) ≡ false) rs → Going p remaining all ss (with_range b from to)
 laid_run p remaining all ss [] from to b g t o = subst (Going p remaining all ss) (sym (no_range b from to t)) g
 laid_run p remaining all ss (r ∷ rs) from to b g t o =
     let m = metadata_at p.bytes in
-    let next = going_next p remaining all (map (λ s. Whole s) rs ++ ss) (Whole r) b (body_with remaining m b (Whole r)) m g refl refl (some_written p.bytes remaining (Whole r) b.at b.older t.1) in
+    let next = going_next p remaining all (map (λ s. Whole s) rs ++ ss) (Whole r) b (body_with remaining m b (Whole r)) m g refl refl (some_written p.bytes remaining (Whole r) b.at b.newest t.1) in
     let rest = laid_run p remaining all ss rs (record_end r) to (body_with remaining m b (Whole r)) next t.2 o.1 in
     let e = first_of_range b r remaining m to o.0 (subst (λ c. IsRecord c r) (sym g.chunk) t.1) (tiles_order p.bytes (record_end r) to rs t.2) in
     subst (Going p remaining all ss) (e ∙ ap (λ n. with_range b n to) t.0) rest
@@ -238,7 +238,7 @@ going_run new p flags remaining all rest c d run b next u g n e =
 -- What is laid out is no longer than the chunk.
 pub going_within : (p : Parts) (remaining : List EntryAt) (all ss : List OutputRecord) (b : Progress) → Going p remaining all ss b → b.at ≤ length p.bytes
 going_within p remaining all ss b g =
-    let y = flat_map (written_bytes p.bytes remaining) (written p.bytes remaining b.at b.older ss) in
+    let y = flat_map (written_bytes p.bytes remaining) (written p.bytes remaining b.at b.newest ss) in
     let k : length (b.output.bytes ++ y) ≡ length (flat_map (written_bytes p.bytes remaining) (written p.bytes remaining 68 None all)) = ap (λ (z : OutputSoFar). length z.bytes) g.output in
     let l : length (b.output.bytes ++ y) ≡ length b.output.bytes + length y = length-append b.output.bytes y in
     let w : 68 + length (flat_map (written_bytes p.bytes remaining) (written p.bytes remaining 68 None all)) ≤ length p.bytes = g.within in

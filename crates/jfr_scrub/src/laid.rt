@@ -119,7 +119,7 @@ fn lay_out<'a>(
     let remaining = remaining.as_slice();
     let body = lay_body(alloc, chunk, kept, remaining, slim)?;
     let size = body.at;
-    let header = output_header(chunk.header(), size, body.older, body.metadata);
+    let header = output_header(chunk.header(), size, body.newest, body.metadata);
     let pieces = body.output.finish(&header)?;
     Ok(LaidOut {
         pieces,
