@@ -25,7 +25,7 @@ use jfr_pool::{EntryAt, Link};
 use std::alloc::{AllocError, Global};
 
 /// What a rewritten chunk is made from.
-pub struct Source<'s, R> {
+pub struct RewriteSource<'s, R> {
     /// The chunk as it was.
     pub chunk: &'s Chunk<'s>,
     /// Which of its events are kept.
@@ -38,13 +38,13 @@ pub struct Source<'s, R> {
     pub rewriting: &'s R,
 }
 
-impl<'s, R> Clone for Source<'s, R> {
-    fn clone(&self) -> Result<Source<'s, R>, AllocError> {
+impl<'s, R> Clone for RewriteSource<'s, R> {
+    fn clone(&self) -> Result<RewriteSource<'s, R>, AllocError> {
         Ok(*self)
     }
 }
 
-impl<'s, R> Copy for Source<'s, R> {}
+impl<'s, R> Copy for RewriteSource<'s, R> {}
 
 /// The output chunk so far: its bytes, of which the first 68 are for the header, and the offsets of the newest
 /// checkpoint and of the metadata record, if they have been written.
@@ -63,7 +63,7 @@ pub(crate) struct ChunkSoFar {
 pub fn write_chunk<R: Rewriter>(
     alloc: Global,
     memory: Vec<u8>,
-    source: Source<'_, R>,
+    source: RewriteSource<'_, R>,
 ) -> Result<Vec<u8>, WriteFault>
     requires suits { R.suits source.rewriting.now source.chunk.now }
     requires entries { AreSomeOf source.chunk.now source.entries.now }
@@ -101,7 +101,7 @@ fn with_header(output: ChunkSoFar, chunk: &Chunk<'_>) -> Vec<u8>
 /// Writes the output records for all remaining records.
 fn put_records<R: Rewriter>(
     output: &mut ChunkSoFar,
-    source: Source<'_, R>,
+    source: RewriteSource<'_, R>,
 ) -> Result<(), WriteFault>
     requires empty { progress_of output.old ≡ record { bytes = replicate 68 0; newest = None; metadata = None } }
     requires suits { R.suits source.rewriting.now source.chunk.now }
@@ -127,7 +127,7 @@ fn put_records<R: Rewriter>(
 /// Writes the output record for a remaining record.
 fn put_record<R: Rewriter>(
     output: &mut ChunkSoFar,
-    source: Source<'_, R>,
+    source: RewriteSource<'_, R>,
     remaining_record: RemainingRecord,
 ) -> Result<(), WriteFault>
     requires suits { R.suits source.rewriting.now source.chunk.now }
@@ -175,7 +175,7 @@ fn put_metadata(
 /// Writes a chained checkpoint.
 fn put_chained<R: Rewriter>(
     output: &mut ChunkSoFar,
-    source: Source<'_, R>,
+    source: RewriteSource<'_, R>,
     number: usize,
     link: Link,
 ) -> Result<(), WriteFault>
