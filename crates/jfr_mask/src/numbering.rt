@@ -18,7 +18,7 @@ ghost use Rattle.jfr_mask.specs.Noted.{AreNoted, IsMaskedAt, NotesTexts, entry_b
 ghost use Rattle.jfr_mask.specs.Pseudonyms.{Extends, has_text, with_texts};
 
 use crate::noted::NotedTexts;
-use crate::shown::stays;
+use crate::shown::is_unmasked;
 use crate::texts::{MaskedStrings, leaf_text};
 use crate::{Dictionary, Known};
 use jfr_base::NoMemory;
@@ -284,7 +284,7 @@ fn add_unless_shown(known: &Known, dictionary: &mut Dictionary, text: &str) -> R
     ensures number { IfOk result (λ number. (index : ℕ) → number ≡ suc index → IsMaskedAt (has_text known.now) dictionary.new (chars text.now) index) }
     ensures grown { Extends dictionary.old dictionary.new }
 {
-    if stays(known, text) {
+    if is_unmasked(known, text) {
         return Ok(0);
     }
     dictionary.add(text)

@@ -1,9 +1,8 @@
 //! The parts of an output chunk that scrubs with old and with new keys share: which records remain, its metadata
 //! record, and the positions in its header. For a scrub with old keys, also which entries it has.
 //!
-//! `next_remaining_record` goes through the records that remain, `slim_metadata` makes the metadata record without
-//! the event classes that the output doesn't need, and `remaining_entries` lists the entries that remain. Read
-//! `specs/RemainingRecords.antt` first, then `specs/Remaining.antt` and `specs/Recordings.antt`.
+//! `next_remaining_record` goes through the records that remain, `slim_metadata` makes the metadata record of the classes
+//! that remain, and `remaining_entries` lists the entries that remain. Read `specs/RemainingRecords.antt` first, then `specs/Remaining.antt` and `specs/Recordings.antt`.
 #![tactic(auto)]
 
 mod laws;
