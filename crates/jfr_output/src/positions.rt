@@ -6,7 +6,7 @@ ghost use Rattle.jfr_output.specs.Positions.{IsBefore};
 
 use jfr_header::{Header, write_header};
 
-/// The delta from this offset to the newest checkpoint, or 0 if there is none.
+/// The delta from this offset to the newest checkpoint before it, or 0 if there is none.
 pub fn delta_to(newest: Option<usize>, at: usize) -> u64
     requires { IsBefore newest at }
     ensures { result ≡ distance at newest }

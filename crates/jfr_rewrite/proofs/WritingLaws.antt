@@ -18,7 +18,7 @@ use Rattle.jfr_worklist.specs.Members.{In}
 use Rattle.jfr_worklist.proofs.Members.{contains_in, in_contains}
 use Rattle.jfr_chunk.specs.Parts.{Parts, EventAt, AreParts, events_of, metadata_at}
 use Rattle.jfr_chunk.specs.Reach.{kept_by}
-use Rattle.jfr_chunk.specs.Scrub.{OutputRecord, Whole, Chained, Rebuilt, Written, groups_of, is_kept_or_metadata, last_at, moved, older_after, output_records, record_of, written_anew}
+use Rattle.jfr_chunk.specs.Scrub.{OutputRecord, Whole, Chained, Rebuilt, Written, groups_of, is_kept_or_metadata, newest_at, moved, newest_after, output_records, record_of, written_anew}
 use Rattle.jfr_chunk.proofs.AllLaws.{all_in}
 use Rattle.jfr_laws.specs.InChunk.{IsEntryIn}
 use Rattle.jfr_laws.proofs.Groups.{groups_hold}
@@ -34,7 +34,7 @@ use Rattle.jfr_output.specs.RemainingRecords.{IsKeptEvent, ShowsEvent, ShowsMeta
 use Rattle.jfr_output.specs.Positions.{IsBefore, offset_so_far}
 use Rattle.jfr_output.specs.Remaining.{NotFalling}
 use Rattle.jfr_output.proofs.CheckpointEntries.{marked_order}
-use Rattle.jfr_output.proofs.PositionLaws.{last_next, last_none, moved_next, or_none, or_place}
+use Rattle.jfr_output.proofs.PositionLaws.{newest_next, newest_none, moved_next, or_none, or_place}
 use Rattle.jfr_rewrite.specs.declared.fault.WriteFault.{WriteFault}
 use Rattle.jfr_rewrite.specs.Rewrite.{Rewrite, assembled_by, bytes_by, chained_tail, event_bytes, event_tail, new_bytes, resized, rewritten, whole_bytes, written_by}
 use Rattle.jfr_rewrite.specs.Rewritten.{CarriesRecord, CarriesTail}
@@ -192,7 +192,7 @@ record_stands p entries new s r q c = by_new new (subst (λ z. CanWrite p entrie
 module _ (p : Parts) (bytes : OutputRecord → ℕ → Option ℕ → List ℕ) (Can : OutputRecord → Type 0) (Carried : Written → Type 0) where
   pub record Going (all ss : List OutputRecord) (b : Progress) : Type 0 where
     pub body : b.bytes ++ flat_map (bytes_by bytes) (written_by bytes (length b.bytes) b.newest ss) ≡ replicate 68 0 ++ flat_map (bytes_by bytes) (written_by bytes 68 None all)
-    pub newest : last_at b.newest (written_by bytes (length b.bytes) b.newest ss) ≡ last_at None (written_by bytes 68 None all)
+    pub newest : newest_at b.newest (written_by bytes (length b.bytes) b.newest ss) ≡ newest_at None (written_by bytes 68 None all)
     pub metadata : or_place b.metadata (moved (written_by bytes (length b.bytes) b.newest ss) (metadata_at p.bytes)) ≡ moved (written_by bytes 68 None all) (metadata_at p.bytes)
     pub can : AllByRecursion Can ss
     pub carried : AllByRecursion Carried (written_by bytes 68 None all) → AllByRecursion Carried (written_by bytes (length b.bytes) b.newest ss)
@@ -209,13 +209,13 @@ module _ (p : Parts) (bytes : OutputRecord → ℕ → Option ℕ → List ℕ) 
       going =
           let at : ℕ = length b.bytes in
           let x : List ℕ = bytes s at b.newest in
-          let o : Option ℕ = older_after s at b.newest in
+          let o : Option ℕ = newest_after s at b.newest in
           let l : length (b.bytes ++ x) ≡ at + length x = length-append b.bytes x in
-          let w : Written = record { output_record = s; at = at; older = b.newest } in
+          let w : Written = record { output_record = s; at = at; newest = b.newest } in
           let ws : List Written = written_by bytes (at + length x) o ss in
           record {
             body = ap (λ n. (b.bytes ++ x) ++ flat_map (bytes_by bytes) (written_by bytes n o ss)) l ∙ (append_assoc b.bytes x (flat_map (bytes_by bytes) ws) ∙ g.body);
-            newest = ap (λ n. last_at o (written_by bytes n o ss)) l ∙ (sym (last_next b.newest w ws) ∙ g.newest);
+            newest = ap (λ n. newest_at o (written_by bytes n o ss)) l ∙ (sym (newest_next b.newest w ws) ∙ g.newest);
             metadata = ap (λ n. or_place (offset_so_far b.metadata ((record_of s).at == metadata_at p.bytes) at) (moved (written_by bytes n o ss) (metadata_at p.bytes))) l ∙ (sym (moved_next b.metadata w ws (metadata_at p.bytes)) ∙ g.metadata);
             can = g.can.1;
             carried = λ c. subst (λ n. AllByRecursion Carried (written_by bytes n o ss)) (sym l) (g.carried c).1;
@@ -226,7 +226,7 @@ module _ (p : Parts) (bytes : OutputRecord → ℕ → Option ℕ → List ℕ) 
   going_all all ss b g e = done (subst (λ z. Going all z b) e g)
     where
       done : Going all [] b → HasAllRecords p bytes all b
-      done g = record { body = sym (append-nil b.bytes) ∙ g.body; newest = sym (last_none b.newest) ∙ g.newest; metadata = sym (or_none b.metadata) ∙ g.metadata }
+      done g = record { body = sym (append-nil b.bytes) ∙ g.body; newest = sym (newest_none b.newest) ∙ g.newest; metadata = sym (or_none b.metadata) ∙ g.metadata }
 
 -- The header in its place before the body is the output.
 pub all_assembled : (p : Parts) (bytes : OutputRecord → ℕ → Option ℕ → List ℕ) (ss : List OutputRecord) (b : Progress) (h : Header) (out : List ℕ) → HasAllRecords p bytes ss b → h ≡ header_of (take 68 p.bytes)

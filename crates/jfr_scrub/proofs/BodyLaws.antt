@@ -8,9 +8,9 @@ use Rattle.jfr_header.specs.Headers.{header_of, header_bytes}
 use Rattle.jfr_header.specs.declared.header.Header.{Header}
 use Rattle.jfr_chunk.specs.Reach.{remain}
 use Rattle.jfr_chunk.specs.Parts.{Parts, EventAt, metadata_at}
-use Rattle.jfr_chunk.specs.Scrub.{OutputRecord, Written, bytes_of, written_bytes, older_after, written, last_at, record_of, moved, output_records, scrub_with}
+use Rattle.jfr_chunk.specs.Scrub.{OutputRecord, Written, bytes_of, written_bytes, newest_after, written, newest_at, record_of, moved, output_records, scrub_with}
 use Rattle.jfr_output.specs.Positions.{IsBefore, offset_so_far}
-use Rattle.jfr_output.proofs.PositionLaws.{last_next, last_none, moved_next, or_none, or_place, still_before}
+use Rattle.jfr_output.proofs.PositionLaws.{newest_next, newest_none, moved_next, or_none, or_place, still_before}
 use Rattle.jfr_scrub.specs.Bodies.{Progress, OutputRecordFits, body_with, HasAllRecords}
 use Rattle.jfr_scrub.specs.Sizes.{HasRange}
 use Rattle.jfr_scrub.specs.Pieces.{OutputSoFar, more}
@@ -26,14 +26,14 @@ range_filter n t (e ∷ es) a = by_test (t e) (range_filter n t es a.1)
 
 -- Each that is written fits.
 abbrev pub WrittenFits : List ℕ → List EntryAt → Written → Type 0
-WrittenFits c remaining w = OutputRecordFits c remaining w.output_record w.at w.older
+WrittenFits c remaining w = OutputRecordFits c remaining w.output_record w.at w.newest
 
 -- What is laid out, and what is left.
 pub record Going (p : Parts) (remaining : List EntryAt) (all ss : List OutputRecord) (b : Progress) : Type 0 where
   pub chunk : b.output.chunk ≡ p.bytes
   pub output : more b.output (flat_map (written_bytes p.bytes remaining) (written p.bytes remaining b.at b.newest ss)) ≡ record { chunk = p.bytes; bytes = flat_map (written_bytes p.bytes remaining) (written p.bytes remaining 68 None all) }
   pub at : b.at ≡ 68 + length b.output.bytes
-  pub newest : last_at b.newest (written p.bytes remaining b.at b.newest ss) ≡ last_at None (written p.bytes remaining 68 None all)
+  pub newest : newest_at b.newest (written p.bytes remaining b.at b.newest ss) ≡ newest_at None (written p.bytes remaining 68 None all)
   pub metadata : or_place b.metadata (moved (written p.bytes remaining b.at b.newest ss) (metadata_at p.bytes)) ≡ moved (written p.bytes remaining 68 None all) (metadata_at p.bytes)
   pub fits : AllByRecursion (WrittenFits p.bytes remaining) (written p.bytes remaining b.at b.newest ss)
   pub before : IsBefore b.newest b.at
@@ -47,7 +47,7 @@ going_none p remaining all b e f w = subst (Going p remaining all all) (sym e) (
 pub going_room : (p : Parts) (remaining : List EntryAt) (all ss : List OutputRecord) (s : OutputRecord) (b : Progress) → Going p remaining all (s ∷ ss) b → b.at + length (bytes_of p.bytes remaining s b.at b.newest) ≤ length p.bytes
 going_room p remaining all ss s b g =
     let x = bytes_of p.bytes remaining s b.at b.newest in
-    let y = flat_map (written_bytes p.bytes remaining) (written p.bytes remaining (b.at + length x) (older_after s b.at b.newest) ss) in
+    let y = flat_map (written_bytes p.bytes remaining) (written p.bytes remaining (b.at + length x) (newest_after s b.at b.newest) ss) in
     let k : length (b.output.bytes ++ (x ++ y)) ≡ length (flat_map (written_bytes p.bytes remaining) (written p.bytes remaining 68 None all)) = ap (λ (z : OutputSoFar). length z.bytes) g.output in
     let l : length (b.output.bytes ++ (x ++ y)) ≡ length b.output.bytes + length (x ++ y) = length-append b.output.bytes (x ++ y) in
     let m : length (x ++ y) ≡ length x + length y = length-append x y in
@@ -58,24 +58,24 @@ going_room p remaining all ss s b g =
 pub going_next : (p : Parts) (remaining : List EntryAt) (all ss : List OutputRecord) (s : OutputRecord) (b next : Progress) (m : ℕ) → Going p remaining all (s ∷ ss) b → m ≡ metadata_at p.bytes → next ≡ body_with remaining m b s → 1 ≤ length (bytes_of p.bytes remaining s b.at b.newest) → Going p remaining all ss next
 going_next p remaining all ss s b next m g e n k =
     let c = g.chunk in
-    let same : next ≡ record { output = more b.output (bytes_of p.bytes remaining s b.at b.newest); at = b.at + length (bytes_of p.bytes remaining s b.at b.newest); newest = older_after s b.at b.newest; metadata = offset_so_far b.metadata ((record_of s).at == metadata_at p.bytes) b.at } =
-    n ∙ (λ i. record { output = more b.output (bytes_of (c i) remaining s b.at b.newest); at = b.at + length (bytes_of (c i) remaining s b.at b.newest); newest = older_after s b.at b.newest; metadata = offset_so_far b.metadata ((record_of s).at == e i) b.at }) in
+    let same : next ≡ record { output = more b.output (bytes_of p.bytes remaining s b.at b.newest); at = b.at + length (bytes_of p.bytes remaining s b.at b.newest); newest = newest_after s b.at b.newest; metadata = offset_so_far b.metadata ((record_of s).at == metadata_at p.bytes) b.at } =
+    n ∙ (λ i. record { output = more b.output (bytes_of (c i) remaining s b.at b.newest); at = b.at + length (bytes_of (c i) remaining s b.at b.newest); newest = newest_after s b.at b.newest; metadata = offset_so_far b.metadata ((record_of s).at == e i) b.at }) in
     subst (Going p remaining all ss) (sym same) (going k)
   where
     going : 1 ≤ length (bytes_of p.bytes remaining s b.at b.newest) →
-        Going p remaining all ss (record { output = more b.output (bytes_of p.bytes remaining s b.at b.newest); at = b.at + length (bytes_of p.bytes remaining s b.at b.newest); newest = older_after s b.at b.newest; metadata = offset_so_far b.metadata ((record_of s).at == metadata_at p.bytes) b.at })
+        Going p remaining all ss (record { output = more b.output (bytes_of p.bytes remaining s b.at b.newest); at = b.at + length (bytes_of p.bytes remaining s b.at b.newest); newest = newest_after s b.at b.newest; metadata = offset_so_far b.metadata ((record_of s).at == metadata_at p.bytes) b.at })
     going k =
         let x = bytes_of p.bytes remaining s b.at b.newest in
-        let y = flat_map (written_bytes p.bytes remaining) (written p.bytes remaining (b.at + length x) (older_after s b.at b.newest) ss) in
-        let w : Written = record { output_record = s; at = b.at; older = b.newest } in
-        let ws = written p.bytes remaining (b.at + length x) (older_after s b.at b.newest) ss in
+        let y = flat_map (written_bytes p.bytes remaining) (written p.bytes remaining (b.at + length x) (newest_after s b.at b.newest) ss) in
+        let w : Written = record { output_record = s; at = b.at; newest = b.newest } in
+        let ws = written p.bytes remaining (b.at + length x) (newest_after s b.at b.newest) ss in
         let l : length (b.output.bytes ++ x) ≡ length b.output.bytes + length x = length-append b.output.bytes x in
         let a : b.at ≡ 68 + length b.output.bytes = g.at in
         record {
           chunk = g.chunk;
           output = more_more b.output x y ∙ g.output;
           at = omega arith;
-          newest = sym (last_next b.newest w ws) ∙ g.newest;
+          newest = sym (newest_next b.newest w ws) ∙ g.newest;
           metadata = sym (moved_next b.metadata w ws (metadata_at p.bytes)) ∙ g.metadata;
           fits = g.fits.1;
           before = still_before s b.at (b.at + length x) b.newest g.before (omega arith);
@@ -94,7 +94,7 @@ going_all p remaining all ss b g e = done (subst (λ z. Going p remaining all z 
         record {
           output = o;
           at = omega arith;
-          newest = sym (last_none b.newest) ∙ g.newest;
+          newest = sym (newest_none b.newest) ∙ g.newest;
           metadata = sym (or_none b.metadata) ∙ g.metadata;
           within = omega arith;
         }

@@ -6,7 +6,7 @@ use Rattle.jfr_pool.specs.declared.entry.EntryAt.{EntryAt}
 use Rattle.jfr_chunk.specs.Parts.{Parts, EventAt, metadata_at}
 use Rattle.jfr_chunk.specs.Reach.{remain}
 use Rattle.jfr_chunk.specs.Written.{Group, distance}
-use Rattle.jfr_chunk.specs.Scrub.{OutputRecord, Whole, Chained, Rebuilt, output_records, groups_of, bytes_of, written_bytes, older_after, written, last_at, record_of, moved}
+use Rattle.jfr_chunk.specs.Scrub.{OutputRecord, Whole, Chained, Rebuilt, output_records, groups_of, bytes_of, written_bytes, newest_after, written, newest_at, record_of, moved}
 use Rattle.jfr_output.specs.Positions.{offset_so_far}
 use Rattle.jfr_scrub.specs.declared.body.BodySoFar.{BodySoFar}
 use Rattle.jfr_scrub.specs.declared.piece.MadePart.{MadePart}
@@ -37,13 +37,13 @@ OutputRecordFits c remaining (Chained number l) at newest = LinkFits c l (distan
 abbrev pub body_with : List EntryAt → ℕ → Progress → OutputRecord → Progress
 body_with remaining metadata b s =
     let bytes = bytes_of b.output.chunk remaining s b.at b.newest in
-    record { output = more b.output bytes; at = b.at + length bytes; newest = older_after s b.at b.newest; metadata = offset_so_far b.metadata ((record_of s).at == metadata) b.at }
+    record { output = more b.output bytes; at = b.at + length bytes; newest = newest_after s b.at b.newest; metadata = offset_so_far b.metadata ((record_of s).at == metadata) b.at }
 
 -- The body with all output records.
 pub record HasAllRecords (p : Parts) (remaining : List EntryAt) (ss : List OutputRecord) (b : Progress) : Type 0 where
   pub output : b.output ≡ record { chunk = p.bytes; bytes = flat_map (written_bytes p.bytes remaining) (written p.bytes remaining 68 None ss) }
   pub at : b.at ≡ 68 + length (flat_map (written_bytes p.bytes remaining) (written p.bytes remaining 68 None ss))
-  pub newest : unwrap_or b.newest 0 ≡ last_at None (written p.bytes remaining 68 None ss)
+  pub newest : unwrap_or b.newest 0 ≡ newest_at None (written p.bytes remaining 68 None ss)
   pub metadata : unwrap_or b.metadata 0 ≡ moved (written p.bytes remaining 68 None ss) (metadata_at p.bytes)
   pub within : b.at ≤ length p.bytes
 

@@ -33,7 +33,7 @@ mod scrub;
 mod scrubber;
 
 pub use laws::{
-    only_what_stays_matters, output_is_a_recording, parts_are_scrubbed_one_by_one,
+    only_what_remains_matters, output_is_a_recording, parts_are_scrubbed_one_by_one,
     scrubbed_again_stays_the_same, scrubbing_ends_well,
 };
 pub use piece::{MadePart, Piece};

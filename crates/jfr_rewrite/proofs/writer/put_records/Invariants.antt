@@ -18,7 +18,7 @@ invariant-output_records g l =
     let entries = l.source.entries.now in
     record {
       cursor : IsCursor p l.source.kept.now l.cursor;
-      output : Going p (new_bytes w p kept entries) (CanWrite p entries) (λ (o : Written). CarriesRecord w p kept entries o.output_record o.at o.older) (output_records new p kept) (output_records_from new p l.source.kept.now l.cursor) (progress_of l.output);
+      output : Going p (new_bytes w p kept entries) (CanWrite p entries) (λ (o : Written). CarriesRecord w p kept entries o.output_record o.at o.newest) (output_records new p kept) (output_records_from new p l.source.kept.now l.cursor) (progress_of l.output);
     }
 
 abbrev pub decreases-output_records : goal.decreases-output_records
