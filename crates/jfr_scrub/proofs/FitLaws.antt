@@ -21,7 +21,7 @@ use Rattle.jfr_chunk.specs.Reach.{reached_marks, remain}
 use Rattle.jfr_chunk.specs.Written.{distance}
 use Rattle.jfr_chunk.specs.Metas.{Names, new_metadata}
 use Rattle.jfr_chunk.specs.Scrub.{OutputRecord, Whole, Chained, Rebuilt, groups_of, bytes_of, written_bytes, written, written_anew, output_records, is_kept_or_metadata}
-use Rattle.jfr_laws.specs.InChunk.{IsLinkIn, Constants, Pools}
+use Rattle.jfr_laws.specs.InChunk.{IsLinkIn, AreConstants, ArePools}
 use Rattle.jfr_laws.proofs.InChunk.{body_stands}
 use Rattle.jfr_laws.proofs.Marks.{all_marked}
 use Rattle.jfr_laws.proofs.Order.{Numbered}
@@ -92,14 +92,14 @@ module _ (names : Names) (p : Parts) (a : AreParts p) (kept : List EventAt) wher
       omega arith
 
 module _ (c : List ℕ) (k : Classes) where
-  constants_range : (checkpoint number class at : ℕ) (xs : List Constant) (to : ℕ) (ys : List EntryAt) → Constants c k class at xs to → AllByRecursion (HasRange (length c)) ys → AllByRecursion (HasRange (length c)) (map (entry_of checkpoint number class) xs ++ ys)
+  constants_range : (checkpoint number class at : ℕ) (xs : List Constant) (to : ℕ) (ys : List EntryAt) → AreConstants c k class at xs to → AllByRecursion (HasRange (length c)) ys → AllByRecursion (HasRange (length c)) (map (entry_of checkpoint number class) xs ++ ys)
   constants_range checkpoint number class at [] to ys s b = b
   constants_range checkpoint number class at (x ∷ xs) to ys s b =
       let i : x.key_at < x.value_at = int_some c x.key_at x.value_at x.key s.0.key in
       let j : x.value_at ≤ x.end = s.0.order in
       (record { order = omega arith; within = s.0.within }, constants_range checkpoint number class x.end xs to ys s.1 b)
 
-  pools_range : (checkpoint number at : ℕ) (ps : List PoolAt) (to : ℕ) (ys : List EntryAt) → Pools c k at ps to → AllByRecursion (HasRange (length c)) ys → AllByRecursion (HasRange (length c)) (entries_from checkpoint number ps ++ ys)
+  pools_range : (checkpoint number at : ℕ) (ps : List PoolAt) (to : ℕ) (ys : List EntryAt) → ArePools c k at ps to → AllByRecursion (HasRange (length c)) ys → AllByRecursion (HasRange (length c)) (entries_from checkpoint number ps ++ ys)
   pools_range checkpoint number at [] to ys s b = b
   pools_range checkpoint number at (p ∷ ps) to ys s b =
       subst (AllByRecursion (HasRange (length c))) (sym (append_assoc (map (entry_of checkpoint number p.class) p.constants) (entries_from checkpoint (number + 1) ps) ys))
