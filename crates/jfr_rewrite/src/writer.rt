@@ -67,7 +67,8 @@ pub fn write_chunk<R: Rewriter>(
 ) -> Result<Vec<u8>, WriteFault>
     requires suits { R.suits source.rewriting.now source.chunk.now }
     requires entries { AreSomeOf source.chunk.now source.entries.now }
-    ensures { Wrote result (λ out. out.items ≡ rewritten (with_metadata (R.rewrite source.entry.rewriting.now) (option_map (λ s. s.now) source.entry.metadata)) source.entry.chunk.now (kept_by source.entry.chunk.now source.entry.kept.now) source.entry.entries.now) (CarriesAll (with_metadata (R.rewrite source.entry.rewriting.now) (option_map (λ s. s.now) source.entry.metadata)) source.entry.chunk.now (kept_by source.entry.chunk.now source.entry.kept.now) source.entry.entries.now) }
+    ensures { Wrote result (λ out. out.items ≡ rewritten (with_metadata (R.rewrite source.entry.rewriting.now) (option_map (λ s. s.now) source.entry.metadata)) source.entry.chunk.now (kept_by source.entry.chunk.now source.entry.kept.now) source.entry.entries.now)
+        (CarriesAll (with_metadata (R.rewrite source.entry.rewriting.now) (option_map (λ s. s.now) source.entry.metadata)) source.entry.chunk.now (kept_by source.entry.chunk.now source.entry.kept.now) source.entry.entries.now) }
 {
     let mut bytes = memory;
     bytes.clear();
@@ -106,7 +107,11 @@ fn put_records<R: Rewriter>(
     requires empty { progress_of output.old ≡ record { bytes = replicate 68 0; newest = None; metadata = None } }
     requires suits { R.suits source.rewriting.now source.chunk.now }
     requires entries { AreSomeOf source.chunk.now source.entries.now }
-    ensures { Wrote result (λ done. HasAllRecords source.entry.chunk.now (new_bytes (with_metadata (R.rewrite source.entry.rewriting.now) (option_map (λ s. s.now) source.entry.metadata)) source.entry.chunk.now (kept_by source.entry.chunk.now source.entry.kept.now) source.entry.entries.now) (output_records (option_map (λ s. s.now) source.entry.metadata) source.entry.chunk.now (kept_by source.entry.chunk.now source.entry.kept.now)) (progress_of output.new)) (CarriesAll (with_metadata (R.rewrite source.entry.rewriting.now) (option_map (λ s. s.now) source.entry.metadata)) source.entry.chunk.now (kept_by source.entry.chunk.now source.entry.kept.now) source.entry.entries.now) }
+    ensures { Wrote result (λ done. HasAllRecords source.entry.chunk.now
+        (new_bytes (with_metadata (R.rewrite source.entry.rewriting.now) (option_map (λ s. s.now) source.entry.metadata)) source.entry.chunk.now (kept_by source.entry.chunk.now source.entry.kept.now) source.entry.entries.now)
+        (output_records (option_map (λ s. s.now) source.entry.metadata) source.entry.chunk.now (kept_by source.entry.chunk.now source.entry.kept.now))
+        (progress_of output.new))
+        (CarriesAll (with_metadata (R.rewrite source.entry.rewriting.now) (option_map (λ s. s.now) source.entry.metadata)) source.entry.chunk.now (kept_by source.entry.chunk.now source.entry.kept.now) source.entry.entries.now) }
 {
     source.chunk.parts_are_valid();
     let mut cursor = RecordCursor {
@@ -136,7 +141,11 @@ fn put_record<R: Rewriter>(
     requires event { ShowsEvent source.chunk.now source.kept.now remaining_record }
     requires metadata { ShowsMetadata (metadata_at source.chunk.now.bytes) remaining_record }
     requires can { CanWrite source.chunk.now source.entries.now (output_record_for (option_map (λ s. s.now) source.metadata) remaining_record) }
-    ensures { Wrote result (λ done. (progress_of output.new ≡ with_record (new_bytes (with_metadata (R.rewrite source.entry.rewriting.now) (option_map (λ s. s.now) source.entry.metadata)) source.entry.chunk.now (kept_by source.entry.chunk.now source.entry.kept.now) source.entry.entries.now) (metadata_at source.entry.chunk.now.bytes) (progress_of output.old) (output_record_for (option_map (λ s. s.now) source.entry.metadata) remaining_record)) × IsBefore output.new.newest (length output.new.bytes.items)) (CarriesRecord (with_metadata (R.rewrite source.entry.rewriting.now) (option_map (λ s. s.now) source.entry.metadata)) source.entry.chunk.now (kept_by source.entry.chunk.now source.entry.kept.now) source.entry.entries.now (output_record_for (option_map (λ s. s.now) source.entry.metadata) remaining_record) (length output.old.bytes.items) output.old.newest) }
+    ensures { Wrote result (λ done. (progress_of output.new ≡ with_record
+        (new_bytes (with_metadata (R.rewrite source.entry.rewriting.now) (option_map (λ s. s.now) source.entry.metadata)) source.entry.chunk.now (kept_by source.entry.chunk.now source.entry.kept.now) source.entry.entries.now)
+        (metadata_at source.entry.chunk.now.bytes) (progress_of output.old) (output_record_for (option_map (λ s. s.now) source.entry.metadata) remaining_record))
+        × IsBefore output.new.newest (length output.new.bytes.items))
+        (CarriesRecord (with_metadata (R.rewrite source.entry.rewriting.now) (option_map (λ s. s.now) source.entry.metadata)) source.entry.chunk.now (kept_by source.entry.chunk.now source.entry.kept.now) source.entry.entries.now (output_record_for (option_map (λ s. s.now) source.entry.metadata) remaining_record) (length output.old.bytes.items) output.old.newest) }
 {
     source.chunk.parts_are_valid();
     match remaining_record {
@@ -183,7 +192,13 @@ fn put_chained<R: Rewriter>(
     requires order { NotFalling 0 source.entries.now }
     requires before { IsBefore output.old.newest (length output.old.bytes.items) }
     requires can { CheckpointStands source.chunk.now link (filter (λ e. e.checkpoint == number) source.entries.now) }
-    ensures { Wrote result (λ done. (progress_of output.new ≡ record { bytes = output.old.bytes.items ++ resized (R.rewrite source.entry.rewriting.now) link.frame (chained_tail (R.rewrite source.entry.rewriting.now) source.entry.chunk.now source.entry.entries.now number link (length output.old.bytes.items) output.old.newest); newest = Some (length output.old.bytes.items); metadata = output.old.metadata }) × (length output.old.bytes.items < length output.new.bytes.items)) (CarriesTail (R.rewrite source.entry.rewriting.now) link.frame (chained_tail (R.rewrite source.entry.rewriting.now) source.entry.chunk.now source.entry.entries.now number link (length output.old.bytes.items) output.old.newest)) }
+    ensures { Wrote result (λ done. (progress_of output.new ≡ record {
+      bytes = output.old.bytes.items ++ resized (R.rewrite source.entry.rewriting.now) link.frame (chained_tail (R.rewrite source.entry.rewriting.now) source.entry.chunk.now source.entry.entries.now number link (length output.old.bytes.items) output.old.newest);
+      newest = Some (length output.old.bytes.items);
+      metadata = output.old.metadata;
+    })
+        × (length output.old.bytes.items < length output.new.bytes.items))
+        (CarriesTail (R.rewrite source.entry.rewriting.now) link.frame (chained_tail (R.rewrite source.entry.rewriting.now) source.entry.chunk.now source.entry.entries.now number link (length output.old.bytes.items) output.old.newest)) }
 {
     let at = output.bytes.len();
     let checkpoint = OutputCheckpoint {
