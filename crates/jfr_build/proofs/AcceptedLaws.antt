@@ -20,8 +20,8 @@ use Rattle.jfr_pool.specs.declared.entry.EntryAt.{EntryAt}
 use Rattle.jfr_pool.specs.Entries.{entry_node}
 use Rattle.jfr_value.specs.Nodes.{NodeAt}
 use Rattle.jfr_value.specs.Leaves.{leaves}
-use Rattle.jfr_build.specs.declared.line.Line.{Line}
-use Rattle.jfr_build.specs.declared.line.Line.TheVariants.{Class, Field, Constant, Record, Region}
+use Rattle.jfr_build.specs.declared.line.BuildLine.{BuildLine}
+use Rattle.jfr_build.specs.declared.line.BuildLine.TheVariants.{Class, Field, Constant, Record, Region}
 use Rattle.jfr_build.specs.declared.lines.NumberedLine.{NumberedLine}
 use Rattle.jfr_build.specs.ClassLines.{classes_in}
 use Rattle.jfr_build.specs.LeafWords.{AreWordsOf}
@@ -61,14 +61,14 @@ module _ (p q : Parts) (bytes : p.bytes ≡ q.bytes) (classes : p.classes ≡ q.
   same_words : (class : ℕ) (words : List (List ℕ)) (n : NodeAt) → HasWords p class words n → HasWords q class words n
   same_words class words n h = record { shape = h.shape; leaves = subst (λ k. AreWordsOf words (leaves k q.bytes n)) classes (subst (λ c. AreWordsOf words (leaves p.classes c n)) bytes h.leaves) }
 
-  same_event : (line : Line) (e : EventAt) → IsEventOf p line e → IsEventOf q line e
+  same_event : (line : BuildLine) (e : EventAt) → IsEventOf p line e → IsEventOf q line e
   same_event (Class id name event) e h = h
   same_event (Field name shape) e h = h
   same_event (Constant class key words) e h = h
   same_event (Record class words) e h = (h.0, same_words class words e.node h.1)
   same_event (Region region) e h = h
 
-  same_entry : (line : Line) (e : EntryAt) → IsEntryOf p line e → IsEntryOf q line e
+  same_entry : (line : BuildLine) (e : EntryAt) → IsEntryOf p line e → IsEntryOf q line e
   same_entry (Class id name event) e h = h
   same_entry (Field name shape) e h = h
   same_entry (Constant class key words) e h = (h.0, h.1, same_words class words (entry_node e) h.2)

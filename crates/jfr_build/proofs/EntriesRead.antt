@@ -15,8 +15,8 @@ use Rattle.jfr_value.specs.Values.{Value, bytes_of}
 use Rattle.jfr_value.specs.Reading.{value_format}
 use Rattle.jfr_pool.specs.Entries.{Constant as ConstantAt, constant_format, entry_of, inline}
 use Rattle.jfr_chunk.specs.Parts.{Parts}
-use Rattle.jfr_build.specs.declared.line.Line.{Line}
-use Rattle.jfr_build.specs.declared.line.Line.TheVariants.{Class, Field, Constant, Record, Region}
+use Rattle.jfr_build.specs.declared.line.BuildLine.{BuildLine}
+use Rattle.jfr_build.specs.declared.line.BuildLine.TheVariants.{Class, Field, Constant, Record, Region}
 use Rattle.jfr_build.specs.declared.lines.NumberedLine.{NumberedLine}
 use Rattle.jfr_build.specs.LineValues.{line_value, spelled_value}
 use Rattle.jfr_build.specs.Built.{entries_of, entry_count, is_constant_of, line_entry}
@@ -25,11 +25,11 @@ use Rattle.jfr_build.proofs.ValuesRead.{spelled, value_there}
 use Rattle.jfr_build.proofs.EventsRead.{IsGood}
 
 -- What is written of a line in the pool of a class.
-abbrev pub bytes_in : Classes → ℕ → Line → List ℕ
+abbrev pub bytes_in : Classes → ℕ → BuildLine → List ℕ
 bytes_in k id line = if is_constant_of id line then line_entry k line else []
 
 -- The lines of a class, without their numbers.
-abbrev pub lines_of : ℕ → List Line → List Line
+abbrev pub lines_of : ℕ → List BuildLine → List BuildLine
 lines_of id ls = filter (is_constant_of id) ls
 
 -- The entries of a class, without the lines' numbers.
@@ -53,7 +53,7 @@ pub plain_count : (id : ℕ) (ls : List NumberedLine) → entry_count ls id ≡ 
 plain_count id ls = sym (length-filter (λ (l : NumberedLine). is_constant_of id l.line) ls) ∙ plain_length id ls
 
 -- Constants one after another, which are those of these lines.
-pub record ConstantsStand (p : Parts) (end at to number class : ℕ) (lines : List Line) : Type 0 where
+pub record ConstantsStand (p : Parts) (end at to number class : ℕ) (lines : List BuildLine) : Type 0 where
   pub constants : List ConstantAt
   pub reads : Reads (times (length lines) (constant_format p.classes class)) p.bytes end at constants to
   pub entries : AllZip (IsEntryOf p) lines (map (entry_of 0 number class) constants)
@@ -66,7 +66,7 @@ module _ (p : Parts) (sound : Sound p.classes) (end : ℕ) where
   c = p.bytes
 
   -- The entry of a constant, before those of the lines after it.
-  constant_before : (at to number class key : ℕ) (words : List (List ℕ)) (v : Value) (lines : List Line) → spelled_value k class words ≡ Some v → Holds c end at (spell key ++ bytes_of v)
+  constant_before : (at to number class key : ℕ) (words : List (List ℕ)) (v : Value) (lines : List BuildLine) → spelled_value k class words ≡ Some v → Holds c end at (spell key ++ bytes_of v)
       → ConstantsStand p end (at + length (spell key ++ bytes_of v)) to number class lines → ConstantsStand p end at to number class (Constant class key words ∷ lines)
   constant_before at to number class key words v lines value h rest =
       let q = holds_parts c end at (spell key) (bytes_of v) h in
@@ -87,13 +87,13 @@ module _ (p : Parts) (sound : Sound p.classes) (end : ℕ) where
       }
 
   -- What is written of a constant, before what is written of the lines after it.
-  by_constant : (at to number class key : ℕ) (words : List (List ℕ)) (lines : List Line) (value : Option Value) → spelled_value k class words ≡ value → not (is_some value) ≡ false
+  by_constant : (at to number class key : ℕ) (words : List (List ℕ)) (lines : List BuildLine) (value : Option Value) → spelled_value k class words ≡ value → not (is_some value) ≡ false
       → Holds c end at (option_map_or (λ v. spell key ++ bytes_of v) value []) → ConstantsStand p end (at + length (option_map_or (λ v. spell key ++ bytes_of v) value [])) to number class lines
       → ConstantsStand p end at to number class (Constant class key words ∷ lines)
   by_constant at to number class key words lines None e g h rest = cc
   by_constant at to number class key words lines (Some v) e g h rest = constant_before at to number class key words v lines e h rest
 
-  by_class : (at to number id class key : ℕ) (words : List (List ℕ)) (lines : List Line) (t : Bool) → (class == id) ≡ t → IsGood k (Constant class key words)
+  by_class : (at to number id class key : ℕ) (words : List (List ℕ)) (lines : List BuildLine) (t : Bool) → (class == id) ≡ t → IsGood k (Constant class key words)
       → Holds c end at (if t then line_entry k (Constant class key words) else []) → ConstantsStand p end (at + length (if t then line_entry k (Constant class key words) else [])) to number id lines
       → ConstantsStand p end at to number id (cond t (Constant class key words ∷ lines) lines)
   by_class at to number id class key words lines true e g h rest =
@@ -105,7 +105,7 @@ module _ (p : Parts) (sound : Sound p.classes) (end : ℕ) where
       subst (λ m. ConstantsStand p end m to number id lines) z rest
 
   -- What is written of all lines for the pool of one class, one after another.
-  pub constants_stand : (number id : ℕ) (ls : List Line) (at : ℕ) → AllByRecursion (IsGood k) ls → Holds c end at (flat_map (bytes_in k id) ls) → ConstantsStand p end at (at + length (flat_map (bytes_in k id) ls)) number id (lines_of id ls)
+  pub constants_stand : (number id : ℕ) (ls : List BuildLine) (at : ℕ) → AllByRecursion (IsGood k) ls → Holds c end at (flat_map (bytes_in k id) ls) → ConstantsStand p end at (at + length (flat_map (bytes_in k id) ls)) number id (lines_of id ls)
   constants_stand number id [] at good h = record { constants = []; reads = (refl, omega arith); entries = tt }
   constants_stand number id (Class i name event ∷ ls) at good h = constants_stand number id ls at good.1 h
   constants_stand number id (Field name shape ∷ ls) at good h = constants_stand number id ls at good.1 h

@@ -11,8 +11,8 @@ use Rattle.jfr_frame.proofs.WrittenRecords.{framed, length-record_in, written_re
 use Rattle.jfr_layout.specs.Classes.{Classes, Sound, is_event_class}
 use Rattle.jfr_value.specs.Values.{Value, bytes_of}
 use Rattle.jfr_chunk.specs.Parts.{Parts, EventAt, HasFields, event_by, event_of}
-use Rattle.jfr_build.specs.declared.line.Line.{Line}
-use Rattle.jfr_build.specs.declared.line.Line.TheVariants.{Class, Field, Constant, Record, Region}
+use Rattle.jfr_build.specs.declared.line.BuildLine.{BuildLine}
+use Rattle.jfr_build.specs.declared.line.BuildLine.TheVariants.{Class, Field, Constant, Record, Region}
 use Rattle.jfr_build.specs.declared.lines.NumberedLine.{NumberedLine}
 use Rattle.jfr_build.specs.LineValues.{first_bad_value, is_bad_value, line_value, spelled_value}
 use Rattle.jfr_build.specs.Built.{event_record, line_event}
@@ -20,7 +20,7 @@ use Rattle.jfr_build.specs.Accepted.{IsEventOf, is_event_line, plain_lines}
 use Rattle.jfr_build.proofs.ValuesRead.{spelled, value_there}
 
 -- The line has a value, if it should.
-abbrev pub IsGood : Classes → Line → Type 0
+abbrev pub IsGood : Classes → BuildLine → Type 0
 IsGood k line = is_bad_value k line ≡ false
 
 -- With no bad line, each is good.
@@ -43,7 +43,7 @@ pub record IsEvent (p : Parts) (r : Framed) : Type 0 where
   pub fields : HasFields p.bytes p.classes r
 
 -- Records one after another, which are the events of these lines.
-pub record EventsStand (p : Parts) (at end : ℕ) (lines : List Line) : Type 0 where
+pub record EventsStand (p : Parts) (at end : ℕ) (lines : List BuildLine) : Type 0 where
   pub frames : List Framed
   pub tiles : Tiles p.bytes at frames end
   pub are : AllByRecursion (IsEvent p) frames
@@ -51,7 +51,7 @@ pub record EventsStand (p : Parts) (at end : ℕ) (lines : List Line) : Type 0 w
 
 module _ (p : Parts) (sound : Sound p.classes) (small : length p.bytes < 2 ^ 30) where
   -- The record of an event, before those that follow it.
-  event_before : (at end class : ℕ) (words : List (List ℕ)) (v : Value) (lines : List Line) → is_event_class p.classes class ≡ true → spelled_value p.classes class words ≡ Some v
+  event_before : (at end class : ℕ) (words : List (List ℕ)) (v : Value) (lines : List BuildLine) → is_event_class p.classes class ≡ true → spelled_value p.classes class words ≡ Some v
       → Holds p.bytes (length p.bytes) at (event_record class (bytes_of v)) → EventsStand p (at + length (event_record class (bytes_of v))) end lines → EventsStand p at end (Record class words ∷ lines)
   event_before at end class words v lines event value h rest =
       let s = written_record p.bytes 5 at class (bytes_of v) (omega arith) (omega arith) (omega (arith, small)) h in
@@ -68,7 +68,7 @@ module _ (p : Parts) (sound : Sound p.classes) (small : length p.bytes < 2 ^ 30)
       }
 
   -- What is written for an event, before what is written for the lines after it.
-  by_record : (at end class : ℕ) (words : List (List ℕ)) (lines : List Line) (value : Option Value) → line_value p.classes (Record class words) ≡ value → not (is_some value) ≡ false
+  by_record : (at end class : ℕ) (words : List (List ℕ)) (lines : List BuildLine) (value : Option Value) → line_value p.classes (Record class words) ≡ value → not (is_some value) ≡ false
       → Holds p.bytes (length p.bytes) at (option_map_or (λ v. event_record class (bytes_of v)) value []) → EventsStand p (at + length (option_map_or (λ v. event_record class (bytes_of v)) value [])) end lines → EventsStand p at end (Record class words ∷ lines)
   by_record at end class words lines None e g h rest = cc
   by_record at end class words lines (Some v) e g h rest =
@@ -76,7 +76,7 @@ module _ (p : Parts) (sound : Sound p.classes) (small : length p.bytes < 2 ^ 30)
       event_before at end class words v lines q.0 q.1 h rest
 
   -- The records of all lines that are events, one after another.
-  pub events_stand : (ls : List Line) (at : ℕ) → AllByRecursion (IsGood p.classes) ls → Holds p.bytes (length p.bytes) at (flat_map (line_event p.classes) ls) → EventsStand p at (at + length (flat_map (line_event p.classes) ls)) (filter is_event_line ls)
+  pub events_stand : (ls : List BuildLine) (at : ℕ) → AllByRecursion (IsGood p.classes) ls → Holds p.bytes (length p.bytes) at (flat_map (line_event p.classes) ls) → EventsStand p at (at + length (flat_map (line_event p.classes) ls)) (filter is_event_line ls)
   events_stand [] at good h = record { frames = []; tiles = omega arith; are = tt; events = tt }
   events_stand (Class id name event ∷ ls) at good h = events_stand ls at good.1 h
   events_stand (Field name shape ∷ ls) at good h = events_stand ls at good.1 h

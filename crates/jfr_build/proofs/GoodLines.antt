@@ -5,8 +5,8 @@ use Rattle.std.specs.Str.{IsUtf8, bytes_eq, is_utf8}
 use Rattle.std.proofs.Common.{refl, subst}
 use Rattle.std.proofs.lemmas.Str.{IsUtf8-from_is_utf8}
 use Rattle.jfr_meta.specs.Attributes.{id_of}
-use Rattle.jfr_build.specs.declared.line.Line.{Line}
-use Rattle.jfr_build.specs.declared.line.Line.TheVariants as lines
+use Rattle.jfr_build.specs.declared.line.BuildLine.{BuildLine}
+use Rattle.jfr_build.specs.declared.line.BuildLine.TheVariants as lines
 use Rattle.jfr_build.specs.declared.lines.NumberedLine.{NumberedLine}
 use Rattle.jfr_build.specs.ClassLines.{class_before, classes_in, field_before, fields_in, super_of}
 use Rattle.jfr_build.specs.Lines.{at_end, class_line, constant_line, field_line, is_allowed, line_after, line_by, line_in, line_of, marks_of, name_of, read_from, read_lines, record_line, region_line, with_line, with_word}
@@ -17,15 +17,15 @@ use Rattle.jfr_build.proofs.GoodClasses.{GoodClass, GoodField, GoodRegion, IsGoo
 use Rattle.jfr_build.proofs.GoodWords.{as_spelled, ended, named, said, small, words_utf8}
 
 -- Names and ids of a line.
-abbrev pub GoodLine : Line → Type 0
+abbrev pub GoodLine : BuildLine → Type 0
 GoodLine (lines.Class id name event) = (id < 2 ^ 63) × IsName name
 GoodLine (lines.Field name shape) = IsName name × (shape.class < 2 ^ 63)
 GoodLine (lines.Constant class key words) = ⊤
 GoodLine (lines.Record class words) = ⊤
 GoodLine (lines.Region r) = GoodRegion r
 
-module _ (ws : List (List ℕ)) (l : Line) (u : AllByRecursion IsUtf8 ws) where
-  same_line : (m : Line) → m ≡ l → GoodLine m → GoodLine l
+module _ (ws : List (List ℕ)) (l : BuildLine) (u : AllByRecursion IsUtf8 ws) where
+  same_line : (m : BuildLine) → m ≡ l → GoodLine m → GoodLine l
   same_line m e g = subst GoodLine e g
 
   class_good : (event : Bool) → class_line event ws ≡ Some l → GoodLine l
@@ -81,11 +81,11 @@ module _ (ws : List (List ℕ)) (l : Line) (u : AllByRecursion IsUtf8 ws) where
       by_tests false false false false false true e = region_good e
       by_tests false false false false false false e = cc
 
-words_good : (ws : List (List ℕ)) (l : Line) → AllByRecursion IsUtf8 ws → line_in ws ≡ Some l → GoodLine l
+words_good : (ws : List (List ℕ)) (l : BuildLine) → AllByRecursion IsUtf8 ws → line_in ws ≡ Some l → GoodLine l
 words_good [] l u e = cc
 words_good (w ∷ ws) l u e = line_by_good ws l u.1 w e
 
-line_good : (bytes : List ℕ) (l : Line) → line_of bytes ≡ Some l → GoodLine l
+line_good : (bytes : List ℕ) (l : BuildLine) → line_of bytes ≡ Some l → GoodLine l
 unfolding line_of
 line_good bytes l e = by_test (is_utf8 bytes) refl e
   where
@@ -101,7 +101,7 @@ one_more : (ls : List NumberedLine) (l : NumberedLine) → GoodLines ls → Good
 one_more [] l g h = (h, tt)
 one_more (m ∷ ls) l g h = (g.0, one_more ls l g.1 h)
 
-allowed : (before : List NumberedLine) (o : Option Line) (l : Line) → line_after before o ≡ Some l → o ≡ Some l
+allowed : (before : List NumberedLine) (o : Option BuildLine) (l : BuildLine) → line_after before o ≡ Some l → o ≡ Some l
 allowed before None l e = cc
 allowed before (Some m) l e = by_test (is_allowed before m) e
   where
@@ -113,7 +113,7 @@ read_good : (n : ℕ) (before : List NumberedLine) (rest : List (List ℕ)) (ls 
 read_good n before [] ls g e = let q : before ≡ ls = cc in subst GoodLines q g
 read_good n before (bytes ∷ rest) ls g e = by_test (length bytes == 0) e (λ more h. read_good (n + 1) more rest ls h)
   where
-    by_line : (o : Option Line) → line_after before (line_of bytes) ≡ o → with_line n before o (λ more. read_from (n + 1) more rest) ≡ Ok ls → ((more : List NumberedLine) → GoodLines more → read_from (n + 1) more rest ≡ Ok ls → GoodLines ls) → GoodLines ls
+    by_line : (o : Option BuildLine) → line_after before (line_of bytes) ≡ o → with_line n before o (λ more. read_from (n + 1) more rest) ≡ Ok ls → ((more : List NumberedLine) → GoodLines more → read_from (n + 1) more rest ≡ Ok ls → GoodLines ls) → GoodLines ls
     by_line None q e f = cc
     by_line (Some l) q e f = f (before ++ record { number = n; line = l } ∷ []) (one_more before (record { number = n; line = l }) g (line_good bytes l (allowed before (line_of bytes) l q))) e
 
@@ -127,7 +127,7 @@ fields_good : (ls : List NumberedLine) → GoodLines ls → AllByRecursion GoodF
 fields_good [] g = tt
 fields_good (l ∷ ls) g = by_line l.line g.0 (fields_good ls g.1)
   where
-    by_line : (l : Line) → GoodLine l → AllByRecursion GoodField (fields_in ls) → AllByRecursion GoodField (field_before l (fields_in ls))
+    by_line : (l : BuildLine) → GoodLine l → AllByRecursion GoodField (fields_in ls) → AllByRecursion GoodField (field_before l (fields_in ls))
     by_line (lines.Class id name event) h i = tt
     by_line (lines.Field name shape) h i = (record { name = h.0; class = h.1 }, i)
     by_line (lines.Constant class key words) h i = tt
@@ -142,7 +142,7 @@ classes_good : (ls : List NumberedLine) → GoodLines ls → AllByRecursion Good
 classes_good [] g = tt
 classes_good (l ∷ ls) g = by_line l.line g.0 (fields_good ls g.1) (classes_good ls g.1)
   where
-    by_line : (l : Line) → GoodLine l → AllByRecursion GoodField (fields_in ls) → AllByRecursion GoodClass (classes_in ls) → AllByRecursion GoodClass (class_before l (fields_in ls) (classes_in ls))
+    by_line : (l : BuildLine) → GoodLine l → AllByRecursion GoodField (fields_in ls) → AllByRecursion GoodClass (classes_in ls) → AllByRecursion GoodClass (class_before l (fields_in ls) (classes_in ls))
     by_line (lines.Class id name event) h i j = (record { id = h.0; name = h.1; super = super_good event; fields = i; categories = refl }, j)
     by_line (lines.Field name shape) h i j = j
     by_line (lines.Constant class key words) h i j = j
@@ -154,7 +154,7 @@ region_found : (ls : List NumberedLine) → GoodLines ls → IsGoodRegion (regio
 region_found [] g = tt
 region_found (l ∷ ls) g = by_line l.line g.0 (region_found ls g.1)
   where
-    by_line : (l : Line) → GoodLine l → IsGoodRegion (region_in ls) → IsGoodRegion (region_before l (region_in ls))
+    by_line : (l : BuildLine) → GoodLine l → IsGoodRegion (region_in ls) → IsGoodRegion (region_before l (region_in ls))
     by_line (lines.Class id name event) h i = i
     by_line (lines.Field name shape) h i = i
     by_line (lines.Constant class key words) h i = i

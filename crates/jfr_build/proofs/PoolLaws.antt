@@ -8,13 +8,13 @@ use Rattle.jfr_base.specs.Integer.{spell}
 use Rattle.jfr_layout.specs.Classes.{Classes}
 use Rattle.jfr_build.specs.declared.lines.NumberedLine.{NumberedLine}
 use Rattle.jfr_build.specs.declared.pools.Pool.{Pool}
-use Rattle.jfr_build.specs.declared.pools.Pools.{Pools}
+use Rattle.jfr_build.specs.declared.pools.ConstantPools.{ConstantPools}
 use Rattle.jfr_build.specs.Built.{entries_of, entry_count, pool_of, pools_of, with_classes}
 use Rattle.jfr_build.specs.LineValues.{first_bad_value}
 use Rattle.jfr_build.specs.Pooled.{AreListed, count_in, entries_in, pool_bytes, pool_in, pools_bytes}
 
 -- The pools of the lines before those that are left.
-pub record Pooled (k : Classes) (lines left : List NumberedLine) (pools : Pools) : Type 0 where
+pub record Pooled (k : Classes) (lines left : List NumberedLine) (pools : ConstantPools) : Type 0 where
   pub classes : with_classes [] lines ≡ with_classes pools.classes.items left
   pub counts : (id : ℕ) → entry_count lines id ≡ count_in (pool_in pools id) + entry_count left id
   pub entries : (id : ℕ) → entries_of k lines id ≡ entries_in (pool_in pools id) ++ entries_of k left id
@@ -31,7 +31,7 @@ element_listed [] i l = absurd (omega arith)
 element_listed (x ∷ xs) zero l = let e : (x == x) ≡ true = grind (arith, nat_tests) in rw e refl
 element_listed (x ∷ xs) (suc i) l = or_true (x == get_or xs i 0) (list_any (λ c. c == get_or xs i 0) xs) (element_listed xs i (omega arith))
 
-pub pool_listed : (pools : Pools) (classes : List ℕ) (i : ℕ) → classes ≡ pools.classes.items → AreListed pools → i < length classes → IsSome (pool_in pools (get_or classes i 0))
+pub pool_listed : (pools : ConstantPools) (classes : List ℕ) (i : ℕ) → classes ≡ pools.classes.items → AreListed pools → i < length classes → IsSome (pool_in pools (get_or classes i 0))
 pool_listed pools classes i e listed l =
     let here : list_any (λ c. c == get_or classes i 0) pools.classes.items ≡ true = subst (λ z. list_any (λ c. c == get_or classes i 0) z ≡ true) e (element_listed classes i l) in
     by_option (pool_in pools (get_or classes i 0)) (sym (listed (get_or classes i 0)) ∙ here)
@@ -51,7 +51,7 @@ flat_same f g h [] = refl
 flat_same f g h (x ∷ xs) = ap (λ z. z ++ flat_map f xs) (h x) ∙ ap (λ z. g x ++ z) (flat_same f g h xs)
 
 -- With no line left, these are the pools of all lines.
-contents : (k : Classes) (lines : List NumberedLine) (pools : Pools) → Pooled k lines [] pools → pools_bytes pools ≡ pools_of k lines
+contents : (k : Classes) (lines : List NumberedLine) (pools : ConstantPools) → Pooled k lines [] pools → pools_bytes pools ≡ pools_of k lines
 contents k lines pools p =
     let c : pools.classes.items ≡ with_classes [] lines = sym p.classes in
     ap (λ n. spell n ++ flat_map (pool_bytes pools) pools.classes.items) (ap length c)
@@ -65,5 +65,5 @@ contents k lines pools p =
         let e : entries_in (pool_in pools id) ≡ entries_of k lines id = sym (p.entries id ∙ append-nil (entries_in (pool_in pools id))) in
         ap (λ n. spell id ++ (spell n ++ entries_in (pool_in pools id))) m ∙ ap (λ z. spell id ++ (spell (entry_count lines id) ++ z)) e
 
-pub pooled_end : (k : Classes) (lines : List NumberedLine) (i : ℕ) (pools : Pools) → length lines ≤ i → Pooled k lines (drop i lines) pools → pools_bytes pools ≡ pools_of k lines
+pub pooled_end : (k : Classes) (lines : List NumberedLine) (i : ℕ) (pools : ConstantPools) → length lines ≤ i → Pooled k lines (drop i lines) pools → pools_bytes pools ≡ pools_of k lines
 pooled_end k lines i pools l p = contents k lines pools (subst (λ z. Pooled k lines z pools) (drop_past lines i l) p)

@@ -14,8 +14,8 @@ use Rattle.jfr_layout.specs.declared.class.ClassInfo.{ClassInfo}
 use Rattle.jfr_value.specs.Values.{Value}
 use Rattle.jfr_pool.specs.Entries.{PoolAt, constant_format, entries_from, entry_of, pool_check, pool_format}
 use Rattle.jfr_chunk.specs.Parts.{Parts}
-use Rattle.jfr_build.specs.declared.line.Line.{Line}
-use Rattle.jfr_build.specs.declared.line.Line.TheVariants.{Class, Field, Constant, Record, Region}
+use Rattle.jfr_build.specs.declared.line.BuildLine.{BuildLine}
+use Rattle.jfr_build.specs.declared.line.BuildLine.TheVariants.{Class, Field, Constant, Record, Region}
 use Rattle.jfr_build.specs.declared.lines.NumberedLine.{NumberedLine}
 use Rattle.jfr_build.specs.LineValues.{spelled_value}
 use Rattle.jfr_build.specs.Built.{constant_class, entries_of, entry_count, pool_of, with_class, with_classes}
@@ -47,7 +47,7 @@ one_more : (P : ℕ → Type 0) (xs : List ℕ) (x : ℕ) → AllByRecursion P x
 one_more P [] x h g = (g, tt)
 one_more P (y ∷ ys) x h g = (h.0, one_more P ys x h.1 g)
 
-more_known : (k : Classes) (ids : List ℕ) (line : Line) → IsGood k line → AllByRecursion (IsKnown k) ids → AllByRecursion (IsKnown k) (option_map_or (with_class ids) (constant_class line) ids)
+more_known : (k : Classes) (ids : List ℕ) (line : BuildLine) → IsGood k line → AllByRecursion (IsKnown k) ids → AllByRecursion (IsKnown k) (option_map_or (with_class ids) (constant_class line) ids)
 more_known k ids (Class id name event) good h = h
 more_known k ids (Field name shape) good h = h
 more_known k ids (Record class words) good h = h
@@ -70,13 +70,13 @@ zip_append R (x ∷ xs) us [] vs h g = absurd h
 zip_append R (x ∷ xs) us (y ∷ ys) vs h g = (h.0, zip_append R xs us ys vs h.1 g)
 
 -- Pools one after another, of these classes, whose entries are the constants of these lines.
-pub record PoolsStand (p : Parts) (end at to number : ℕ) (ids : List ℕ) (ls : List Line) : Type 0 where
+pub record PoolsStand (p : Parts) (end at to number : ℕ) (ids : List ℕ) (ls : List BuildLine) : Type 0 where
   pub pools : List PoolAt
   pub reads : Reads (times (length ids) (pool_format p.classes)) p.bytes end at pools to
   pub entries : AllZip (IsEntryOf p) (flat_map (λ id. lines_of id ls) ids) (entries_from 0 number pools)
 
 -- A pool: its class, the number of its entries, and the entries.
-pub record PoolStands (p : Parts) (end at to number id : ℕ) (ls : List Line) : Type 0 where
+pub record PoolStands (p : Parts) (end at to number id : ℕ) (ls : List BuildLine) : Type 0 where
   pub pool : PoolAt
   pub reads : Reads (pool_format p.classes) p.bytes end at pool to
   pub entries : AllZip (IsEntryOf p) (lines_of id ls) (map (entry_of 0 number pool.class) pool.constants)

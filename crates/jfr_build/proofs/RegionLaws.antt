@@ -1,7 +1,7 @@
 -- Lines, one after another: the number of a line, and the region.
 use Rattle.std.specs.Prelude.{◌≡◌, ℕ, zero, suc, ◌+◌, ◌<◌, false, List, [], ◌∷◌, drop, length, Some}
 use Rattle.std.proofs.Common.{ap, arith, get_or, refl, sym, ◌∙◌}
-use Rattle.jfr_build.specs.declared.line.Line.TheVariants as lines
+use Rattle.jfr_build.specs.declared.line.BuildLine.TheVariants as lines
 use Rattle.jfr_build.specs.declared.lines.NumberedLine.{NumberedLine}
 use Rattle.jfr_build.specs.declared.region.Region.{Region}
 use Rattle.jfr_build.specs.ClassLines.{number_at, number_from}

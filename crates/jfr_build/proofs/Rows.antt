@@ -8,7 +8,7 @@ use Rattle.jfr_layout.specs.Classes.{Class, Classes, kind_of}
 use Rattle.jfr_layout.specs.declared.kind.Kind.TheVariants as kinds
 use Rattle.jfr_value.specs.Values.{bytes_of}
 use Rattle.jfr_meta.specs.Attributes.{id_of}
-use Rattle.jfr_build.specs.declared.line.Line.TheVariants as lines
+use Rattle.jfr_build.specs.declared.line.BuildLine.TheVariants as lines
 use Rattle.jfr_build.specs.declared.lines.NumberedLine.{NumberedLine}
 use Rattle.jfr_build.specs.Lines.{line_of, read_lines}
 use Rattle.jfr_build.specs.LeafWords.{base_of, unquoted}

@@ -17,8 +17,8 @@ use Rattle.jfr_value.proofs.LayoutLaws.{layout_class}
 use Rattle.jfr_value.proofs.StackLaws.{inner_depth}
 use Rattle.jfr_build.specs.LeafWords.{base_of, id_after}
 use Rattle.jfr_build.specs.Taking.{Taken, Taker, array_taken, base_taken, class_taken, each_taken, inline_taken, item_taken, kind_taken, reference_taken, shape_taken, then_take, times_taken, took, word_taken}
-use Rattle.jfr_build.specs.declared.output.ValueFault.{ValueFault}
-use Rattle.jfr_build.specs.declared.output.ValueFault.TheVariants.{Bad, Memory}
+use Rattle.jfr_build.specs.declared.value_bytes.ValueFault.{ValueFault}
+use Rattle.jfr_build.specs.declared.value_bytes.ValueFault.TheVariants.{Bad, Memory}
 use Rattle.jfr_build.specs.Writing.{Appends, Writes, wrote, wrote_all}
 
 -- What is written first, and then the rest.

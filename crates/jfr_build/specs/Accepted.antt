@@ -7,8 +7,8 @@ use Rattle.jfr_value.specs.Leaves.{leaves}
 use Rattle.jfr_pool.specs.declared.entry.EntryAt.{EntryAt}
 use Rattle.jfr_pool.specs.Entries.{entry_node, inline}
 use Rattle.jfr_chunk.specs.Parts.{Parts, AreParts, EventAt, events_of}
-use Rattle.jfr_build.specs.declared.line.Line.{Line}
-use Rattle.jfr_build.specs.declared.line.Line.TheVariants.{Class, Field, Constant, Record, Region}
+use Rattle.jfr_build.specs.declared.line.BuildLine.{BuildLine}
+use Rattle.jfr_build.specs.declared.line.BuildLine.TheVariants.{Class, Field, Constant, Record, Region}
 use Rattle.jfr_build.specs.declared.lines.NumberedLine.{NumberedLine}
 use Rattle.jfr_build.specs.Lines.{read_lines}
 use Rattle.jfr_build.specs.ClassLines.{classes_in}
@@ -21,7 +21,7 @@ pub record HasWords (p : Parts) (class : ℕ) (words : List (List ℕ)) (n : Nod
   pub leaves : AreWordsOf words (leaves p.classes p.bytes n)
 
 -- The line is an event.
-abbrev pub is_event_line : Line → Bool
+abbrev pub is_event_line : BuildLine → Bool
 is_event_line (Class id name event) = false
 is_event_line (Field name shape) = false
 is_event_line (Constant class key words) = false
@@ -29,7 +29,7 @@ is_event_line (Record class words) = true
 is_event_line (Region region) = false
 
 -- The event of a line: its class, and its fields.
-abbrev pub IsEventOf : Parts → Line → EventAt → Type 0
+abbrev pub IsEventOf : Parts → BuildLine → EventAt → Type 0
 IsEventOf p (Class id name event) e = ⊥
 IsEventOf p (Field name shape) e = ⊥
 IsEventOf p (Constant class key words) e = ⊥
@@ -37,7 +37,7 @@ IsEventOf p (Record class words) e = (e.record_of.type_id ≡ class) × HasWords
 IsEventOf p (Region region) e = ⊥
 
 -- The entry of a line that is a constant: its class, its key, and its value.
-abbrev pub IsEntryOf : Parts → Line → EntryAt → Type 0
+abbrev pub IsEntryOf : Parts → BuildLine → EntryAt → Type 0
 IsEntryOf p (Class id name event) e = ⊥
 IsEntryOf p (Field name shape) e = ⊥
 IsEntryOf p (Constant class key words) e = (e.class ≡ class) × (e.key ≡ key) × HasWords p class words (entry_node e)
@@ -45,15 +45,15 @@ IsEntryOf p (Record class words) e = ⊥
 IsEntryOf p (Region region) e = ⊥
 
 -- The lines without their numbers.
-abbrev pub plain_lines : List NumberedLine → List Line
+abbrev pub plain_lines : List NumberedLine → List BuildLine
 plain_lines ls = map (λ l. l.line) ls
 
 -- The lines of events, in order.
-abbrev pub event_lines : List NumberedLine → List Line
+abbrev pub event_lines : List NumberedLine → List BuildLine
 event_lines ls = filter is_event_line (plain_lines ls)
 
 -- The lines of constants, class by class in the order of their first lines.
-abbrev pub constant_lines : List NumberedLine → List Line
+abbrev pub constant_lines : List NumberedLine → List BuildLine
 constant_lines ls = flat_map (λ id. filter (is_constant_of id) (plain_lines ls)) (with_classes [] ls)
 
 -- The chunk of these lines: a whole chunk that is accepted. Its classes are those of the lines, its events are

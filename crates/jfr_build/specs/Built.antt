@@ -8,8 +8,8 @@ use Rattle.jfr_header.specs.Made.{made_header}
 use Rattle.jfr_frame.specs.Written.{record_in}
 use Rattle.jfr_layout.specs.Classes.{Classes}
 use Rattle.jfr_value.specs.Values.{bytes_of}
-use Rattle.jfr_build.specs.declared.line.Line.{Line}
-use Rattle.jfr_build.specs.declared.line.Line.TheVariants.{Class, Field, Constant, Record, Region}
+use Rattle.jfr_build.specs.declared.line.BuildLine.{BuildLine}
+use Rattle.jfr_build.specs.declared.line.BuildLine.TheVariants.{Class, Field, Constant, Record, Region}
 use Rattle.jfr_build.specs.declared.lines.NumberedLine.{NumberedLine}
 use Rattle.jfr_build.specs.LineValues.{line_value}
 
@@ -23,7 +23,7 @@ AppendsIf true bytes before after = after ≡ before ++ bytes
 AppendsIf false bytes before after = 2 ^ 30 ≤ length bytes
 
 -- The record of a line that is an event.
-abbrev pub line_event : Classes → Line → List ℕ
+abbrev pub line_event : Classes → BuildLine → List ℕ
 line_event k (Class id name event) = []
 line_event k (Field name shape) = []
 line_event k (Constant class key words) = []
@@ -35,7 +35,7 @@ abbrev pub events_of : Classes → List NumberedLine → List ℕ
 events_of k lines = flat_map (λ l. line_event k l.line) lines
 
 -- The class of a line that is a constant.
-abbrev pub constant_class : Line → Option ℕ
+abbrev pub constant_class : BuildLine → Option ℕ
 constant_class (Class id name event) = None
 constant_class (Field name shape) = None
 constant_class (Constant class key words) = Some class
@@ -43,11 +43,11 @@ constant_class (Record class words) = None
 constant_class (Region region) = None
 
 -- The line is a constant of this class.
-abbrev pub is_constant_of : ℕ → Line → Bool
+abbrev pub is_constant_of : ℕ → BuildLine → Bool
 is_constant_of id line = option_map_or (λ class. class == id) (constant_class line) false
 
 -- The entry of a line that is a constant: its key, then its value.
-abbrev pub line_entry : Classes → Line → List ℕ
+abbrev pub line_entry : Classes → BuildLine → List ℕ
 line_entry k (Class id name event) = []
 line_entry k (Field name shape) = []
 line_entry k (Constant class key words) = option_map_or (λ v. spell key ++ bytes_of v) (line_value k (Constant class key words)) []

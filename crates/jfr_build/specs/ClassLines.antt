@@ -2,8 +2,8 @@
 use Rattle.std.specs.Prelude.{◌≡◌, ⊤, ℕ, zero, suc, Bool, not, List, [], ◌∷◌, filter, Option, Some, None, slice_get, if◌then◌else◌, codes}
 use Rattle.std.specs.Option.{option_map_or}
 use Rattle.jfr_layout.specs.Classes.{Classes, Field, ClassFlaw, class_faults}
-use Rattle.jfr_build.specs.declared.line.Line.{Line}
-use Rattle.jfr_build.specs.declared.line.Line.TheVariants as lines
+use Rattle.jfr_build.specs.declared.line.BuildLine.{BuildLine}
+use Rattle.jfr_build.specs.declared.line.BuildLine.TheVariants as lines
 use Rattle.jfr_build.specs.declared.lines.NumberedLine.{NumberedLine}
 use Rattle.jfr_build.specs.declared.reason.BuildFault.{BuildFault}
 use Rattle.jfr_build.specs.declared.reason.BuildFault.TheVariants.{Refused, Memory}
@@ -12,7 +12,7 @@ use Rattle.jfr_build.specs.Lines.{is_class, is_region}
 
 -- The field of this line, followed by the others; only these if the line is a region, and no fields if it is
 -- neither.
-abbrev pub field_before : Line → List Field → List Field
+abbrev pub field_before : BuildLine → List Field → List Field
 field_before (lines.Class id name event) fs = []
 field_before (lines.Field name shape) fs = record { name = name; shape = shape } ∷ fs
 field_before (lines.Constant class key words) fs = []
@@ -30,7 +30,7 @@ super_of event = if event then Some (codes "jdk.jfr.Event") else None
 
 -- The class of this line, with these fields, followed by the other classes; only these if the line isn't a
 -- class.
-abbrev pub class_before : Line → List Field → Classes → Classes
+abbrev pub class_before : BuildLine → List Field → Classes → Classes
 class_before (lines.Class id name event) fs k = record { id = id; name = name; super_name = super_of event; fields = fs; categories = [] } ∷ k
 class_before (lines.Field name shape) fs k = k
 class_before (lines.Constant class key words) fs k = k

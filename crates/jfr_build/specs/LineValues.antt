@@ -3,8 +3,8 @@ use Rattle.std.specs.Prelude.{◌≡◌, ⊤, ℕ, Bool, not, ◌&&◌, ◌||◌
 use Rattle.jfr_layout.specs.Classes.{Classes, is_event_class}
 use Rattle.jfr_value.specs.Values.{Value}
 use Rattle.jfr_pool.specs.Entries.{inline}
-use Rattle.jfr_build.specs.declared.line.Line.{Line}
-use Rattle.jfr_build.specs.declared.line.Line.TheVariants.{Class, Field, Constant, Record, Region}
+use Rattle.jfr_build.specs.declared.line.BuildLine.{BuildLine}
+use Rattle.jfr_build.specs.declared.line.BuildLine.TheVariants.{Class, Field, Constant, Record, Region}
 use Rattle.jfr_build.specs.declared.lines.NumberedLine.{NumberedLine}
 use Rattle.jfr_build.specs.declared.reason.BuildFault.{BuildFault}
 use Rattle.jfr_build.specs.declared.reason.BuildFault.TheVariants.{Refused, Memory}
@@ -23,7 +23,7 @@ abbrev pub spelled_value : Classes → ℕ → List (List ℕ) → Option Value
 spelled_value k class words = all_taken (value_taken k (inline class) words)
 
 -- The value of a line that is a constant or an event. The class of an event must be an event class.
-abbrev pub line_value : Classes → Line → Option Value
+abbrev pub line_value : Classes → BuildLine → Option Value
 line_value k (Class id name event) = None
 line_value k (Field name shape) = None
 line_value k (Constant class key words) = spelled_value k class words
@@ -31,7 +31,7 @@ line_value k (Record class words) = if is_event_class k class then spelled_value
 line_value k (Region region) = None
 
 -- The line should have a value, and has none; or it is a region whose offset doesn't fit in 32 bits.
-abbrev pub is_bad_value : Classes → Line → Bool
+abbrev pub is_bad_value : Classes → BuildLine → Bool
 is_bad_value k line = is_wide_region line || (has_value line && not (is_some (line_value k line)))
 
 -- The first line with a bad value.

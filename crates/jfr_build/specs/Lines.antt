@@ -3,8 +3,8 @@ use Rattle.std.specs.Prelude.{◌≡◌, ⊤, ℕ, ◌+◌, ◌==◌, ◌&&◌, 
 use Rattle.std.specs.List.{list_any}
 use Rattle.std.specs.Str.{bytes_eq, chars, is_utf8}
 use Rattle.jfr_meta.specs.Attributes.{id_of, not_empty}
-use Rattle.jfr_build.specs.declared.line.Line.{Line}
-use Rattle.jfr_build.specs.declared.line.Line.TheVariants.{Class, Field, Constant, Record, Region}
+use Rattle.jfr_build.specs.declared.line.BuildLine.{BuildLine}
+use Rattle.jfr_build.specs.declared.line.BuildLine.TheVariants.{Class, Field, Constant, Record, Region}
 use Rattle.jfr_build.specs.declared.lines.NumberedLine.{NumberedLine}
 use Rattle.jfr_build.specs.declared.reason.BuildFault.{BuildFault}
 use Rattle.jfr_build.specs.declared.reason.BuildFault.TheVariants.{Refused, Memory}
@@ -36,27 +36,27 @@ marks_of word =
     else None
 
 -- A class: its id and its name.
-abbrev pub class_line : Bool → List (List ℕ) → Option Line
+abbrev pub class_line : Bool → List (List ℕ) → Option BuildLine
 class_line event ws = with_word id_of (λ id us. with_word name_of (λ name vs. at_end (Class id name event) vs) us) ws
 
 -- A field: its name, the id of its class and its marks.
-abbrev pub field_line : List (List ℕ) → Option Line
+abbrev pub field_line : List (List ℕ) → Option BuildLine
 field_line ws = with_word name_of (λ name us. with_word id_of (λ id vs. with_word marks_of (λ marks rest. at_end (Field name (record { class = id; constant = marks.0; array = marks.1 })) rest) vs) us) ws
 
 -- A constant: the id of its class, its key, and the words of its leaves.
-abbrev pub constant_line : List (List ℕ) → Option Line
+abbrev pub constant_line : List (List ℕ) → Option BuildLine
 constant_line ws = with_word id_of (λ id us. with_word id_of (λ key leaves. Some (Constant id key leaves)) us) ws
 
 -- An event: the id of its class, and the words of its leaves.
-abbrev pub record_line : List (List ℕ) → Option Line
+abbrev pub record_line : List (List ℕ) → Option BuildLine
 record_line ws = with_word id_of (λ id leaves. Some (Record id leaves)) ws
 
 -- The region: its locale, and its offset from UTC, a number of milliseconds.
-abbrev pub region_line : List (List ℕ) → Option Line
+abbrev pub region_line : List (List ℕ) → Option BuildLine
 region_line ws = with_word name_of (λ locale us. with_word number_of (λ offset vs. at_end (Region (record { locale = locale; offset = offset })) vs) us) ws
 
 -- The first word determines what the line is.
-abbrev pub line_by : List ℕ → List (List ℕ) → Option Line
+abbrev pub line_by : List ℕ → List (List ℕ) → Option BuildLine
 line_by word ws =
     if bytes_eq word (codes "class") then class_line false ws
     else if bytes_eq word (codes "event") then class_line true ws
@@ -67,16 +67,16 @@ line_by word ws =
     else None
 
 -- The line of these words.
-abbrev pub line_in : List (List ℕ) → Option Line
+abbrev pub line_in : List (List ℕ) → Option BuildLine
 line_in [] = None
 line_in (w ∷ ws) = line_by w ws
 
 -- What a line means, with the words of its leaves still unread; none if it isn't UTF-8 or has no known form.
-unfoldable pub line_of : List ℕ → Option Line
+unfoldable pub line_of : List ℕ → Option BuildLine
 line_of bytes = if is_utf8 bytes then line_in (words_of bytes) else None
 
 -- The line is a class.
-abbrev pub is_class : Line → Bool
+abbrev pub is_class : BuildLine → Bool
 is_class (Class id name event) = true
 is_class (Field name shape) = false
 is_class (Constant class key words) = false
@@ -84,7 +84,7 @@ is_class (Record class words) = false
 is_class (Region region) = false
 
 -- The line has a value: it is a constant or an event.
-abbrev pub has_value : Line → Bool
+abbrev pub has_value : BuildLine → Bool
 has_value (Class id name event) = false
 has_value (Field name shape) = false
 has_value (Constant class key words) = true
@@ -92,7 +92,7 @@ has_value (Record class words) = true
 has_value (Region region) = false
 
 -- The line is a region.
-abbrev pub is_region : Line → Bool
+abbrev pub is_region : BuildLine → Bool
 is_region (Class id name event) = false
 is_region (Field name shape) = false
 is_region (Constant class key words) = false
@@ -112,7 +112,7 @@ abbrev pub any_region : List NumberedLine → Bool
 any_region ls = list_any (λ l. is_region l.line) ls
 
 -- Classes and fields come before the first value, a field comes after a class, and there is one region at most.
-abbrev pub is_allowed : List NumberedLine → Line → Bool
+abbrev pub is_allowed : List NumberedLine → BuildLine → Bool
 is_allowed before (Class id name event) = not (any_value before)
 is_allowed before (Field name shape) = any_class before && not (any_value before)
 is_allowed before (Constant class key words) = true
@@ -120,12 +120,12 @@ is_allowed before (Record class words) = true
 is_allowed before (Region region) = not (any_region before)
 
 -- What a line means, if it has a known form and is allowed after those before it.
-abbrev pub line_after : List NumberedLine → Option Line → Option Line
+abbrev pub line_after : List NumberedLine → Option BuildLine → Option BuildLine
 line_after before None = None
 line_after before (Some line) = if is_allowed before line then Some line else None
 
 -- Goes on with one more line; refused with its number if it is bad.
-abbrev pub with_line : ℕ → List NumberedLine → Option Line → (List NumberedLine → Result (List NumberedLine) ℕ) → Result (List NumberedLine) ℕ
+abbrev pub with_line : ℕ → List NumberedLine → Option BuildLine → (List NumberedLine → Result (List NumberedLine) ℕ) → Result (List NumberedLine) ℕ
 with_line n before None next = Err n
 with_line n before (Some line) next = next (before ++ record { number = n; line = line } ∷ [])
 

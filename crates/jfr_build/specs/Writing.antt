@@ -1,8 +1,8 @@
 -- What is written of values that are taken from words.
 use Rattle.std.specs.Prelude.{◌≡◌, ⊤, ℕ, List, ◌++◌, Option, Some, None, Result, Ok, Err, option_map}
 use Rattle.jfr_value.specs.Values.{Value, bytes_of, bytes_of_all, values_of}
-use Rattle.jfr_build.specs.declared.output.ValueFault.{ValueFault}
-use Rattle.jfr_build.specs.declared.output.ValueFault.TheVariants.{Bad, Memory}
+use Rattle.jfr_build.specs.declared.value_bytes.ValueFault.{ValueFault}
+use Rattle.jfr_build.specs.declared.value_bytes.ValueFault.TheVariants.{Bad, Memory}
 use Rattle.jfr_build.specs.Taking.{Taken}
 
 -- The bytes before a value and those of the value, and the words that are left.

@@ -3,7 +3,7 @@ ghost use Rattle.std.specs.Prelude.{◌≡◌, ◌<◌, drop, length, IfErr, IfO
 ghost use Rattle.jfr_layout.specs.Classes.{Sound};
 ghost use Rattle.jfr_build.specs.ClassLines.{IsClassFault, classes_in, fields_in, line_at, number_at, number_from, super_of};
 
-use crate::line::Line;
+use crate::line::BuildLine;
 use crate::lines::{NumberedLine, is_class, is_region};
 use crate::{BuildFault, BuildReason};
 use jfr_base::{NoMemory, Text, Words};
@@ -41,7 +41,7 @@ fn class_list(alloc: Global, lines: &[NumberedLine<'_>]) -> Result<ClassList, No
 {
     let mut list = ClassList::new(alloc);
     for (at, line) in lines.iter().enumerate() {
-        if let Line::Class { id, name, event } = &line.line {
+        if let BuildLine::Class { id, name, event } = &line.line {
             list.push(ClassInfo {
                 id: *id,
                 name: name.to_text(alloc)?,
@@ -71,11 +71,11 @@ fn fields_from(alloc: Global, lines: &[NumberedLine<'_>], from: usize) -> Result
     let mut fields = Fields::new(alloc);
     for at in from..lines.len() {
         match &lines[at].line {
-            Line::Field { name, shape } => fields.push(FieldInfo {
+            BuildLine::Field { name, shape } => fields.push(FieldInfo {
                 name: name.to_text(alloc)?,
                 shape: *shape,
             })?,
-            Line::Region(_) => {}
+            BuildLine::Region(_) => {}
             _ => return Ok(fields),
         }
     }

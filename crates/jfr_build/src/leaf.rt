@@ -5,8 +5,8 @@ ghost use Rattle.jfr_base.specs.Integer.{spell};
 ghost use Rattle.jfr_build.specs.LeafWords.{base_of, content_of, hex_byte, hex_of, id_after, negated, signed_of, spelled_content, string_of, truth_of};
 ghost use Rattle.jfr_build.specs.Writing.{Appends};
 
-use crate::output::ValueFault;
 use crate::quoted::{hex_digit, unquote};
+use crate::value_bytes::ValueFault;
 use jfr_base::{decimal_number, push_var};
 use jfr_layout::Kind;
 use jfr_meta::id_of;

@@ -18,7 +18,6 @@ mod leaf;
 mod line;
 mod line_values;
 mod lines;
-mod output;
 mod pieces;
 mod pools;
 mod quoted;
@@ -27,6 +26,7 @@ mod records;
 mod region;
 mod stream;
 mod value;
+mod value_bytes;
 
 pub use building::build;
 pub use ending::BuildEnding;

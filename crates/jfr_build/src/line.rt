@@ -45,9 +45,9 @@ impl<'a> Name<'a> {
     }
 }
 
-/// A line that isn't empty.
+/// What a line that isn't empty means.
 #[derive(Drop)]
-pub enum Line<'a> {
+pub enum BuildLine<'a> {
     /// A class; the super type of an event class is `jdk.jfr.Event`.
     Class {
         id: u64,
@@ -76,7 +76,7 @@ pub enum Line<'a> {
 
 /// What a line means, with the words of its leaves still unread; `None` exactly if it isn't UTF-8 or has no
 /// known form.
-pub fn read_line(bytes: &[u8]) -> Option<Line<'_>>
+pub fn read_line(bytes: &[u8]) -> Option<BuildLine<'_>>
     ensures { result ≡ line_of bytes.now }
 {
     match str::from_utf8(bytes) {
@@ -90,7 +90,7 @@ pub fn read_line(bytes: &[u8]) -> Option<Line<'_>>
 }
 
 /// The line with this first word.
-fn line_by<'a>(first: &str, words: RestOfLine<'a>) -> Option<Line<'a>>
+fn line_by<'a>(first: &str, words: RestOfLine<'a>) -> Option<BuildLine<'a>>
     ensures { result ≡ line_by first.now words.entry }
 {
     if first == "class" {
@@ -115,17 +115,17 @@ fn line_by<'a>(first: &str, words: RestOfLine<'a>) -> Option<Line<'a>>
 }
 
 /// A class.
-fn class_line(mut words: RestOfLine<'_>, event: bool) -> Option<Line<'_>>
+fn class_line(mut words: RestOfLine<'_>, event: bool) -> Option<BuildLine<'_>>
     ensures { result ≡ class_line event words.entry }
 {
     let id = id_of(words.next()?)?;
     let name = Name::of(words.next()?)?;
     words.end()?;
-    Some(Line::Class { id, name, event })
+    Some(BuildLine::Class { id, name, event })
 }
 
 /// A field.
-fn field_line(mut words: RestOfLine<'_>) -> Option<Line<'_>>
+fn field_line(mut words: RestOfLine<'_>) -> Option<BuildLine<'_>>
     ensures { result ≡ field_line words.entry }
 {
     let name = Name::of(words.next()?)?;
@@ -137,7 +137,7 @@ fn field_line(mut words: RestOfLine<'_>) -> Option<Line<'_>>
         constant,
         array,
     };
-    Some(Line::Field { name, shape })
+    Some(BuildLine::Field { name, shape })
 }
 
 /// The constant mark and the array mark of a field.
@@ -160,28 +160,28 @@ fn marks_of(word: &str) -> Option<(bool, bool)>
 }
 
 /// A constant.
-fn constant_line(mut words: RestOfLine<'_>) -> Option<Line<'_>>
+fn constant_line(mut words: RestOfLine<'_>) -> Option<BuildLine<'_>>
     ensures { result ≡ constant_line words.entry }
 {
     let class = id_of(words.next()?)?;
     let key = id_of(words.next()?)?;
-    Some(Line::Constant { class, key, words })
+    Some(BuildLine::Constant { class, key, words })
 }
 
 /// An event.
-fn record_line(mut words: RestOfLine<'_>) -> Option<Line<'_>>
+fn record_line(mut words: RestOfLine<'_>) -> Option<BuildLine<'_>>
     ensures { result ≡ record_line words.entry }
 {
     let class = id_of(words.next()?)?;
-    Some(Line::Record { class, words })
+    Some(BuildLine::Record { class, words })
 }
 
 /// The region.
-fn region_line(mut words: RestOfLine<'_>) -> Option<Line<'_>>
+fn region_line(mut words: RestOfLine<'_>) -> Option<BuildLine<'_>>
     ensures { result ≡ region_line words.entry }
 {
     let locale = Name::of(words.next()?)?;
     let offset = Number::of(words.next()?)?;
     words.end()?;
-    Some(Line::Region(Region { locale, offset }))
+    Some(BuildLine::Region(Region { locale, offset }))
 }

@@ -5,12 +5,12 @@ ghost use Rattle.jfr_value.specs.Values.{bytes_of};
 ghost use Rattle.jfr_build.specs.LineValues.{IsBadValue, all_taken, first_bad_value, is_bad_value, line_value};
 ghost use Rattle.jfr_build.specs.Taking.{value_taken};
 
-use crate::line::Line;
+use crate::line::BuildLine;
 use crate::lines::{NumberedLine, has_value};
-use crate::output::{Output, ValueFault};
 use crate::pieces::RestOfLine;
 use crate::region::is_wide_region;
 use crate::value::push_value;
+use crate::value_bytes::{ValueBytes, ValueFault};
 use crate::{BuildFault, BuildReason};
 use jfr_base::NoMemory;
 use jfr_layout::{Classes, FieldLayout, Shape};
@@ -29,7 +29,7 @@ pub fn check_values(
     ensures ok { OnOk result (first_bad_value classes.now lines.now ≡ None) }
     ensures refused { IfErr result (IsBadValue (first_bad_value classes.now lines.now)) }
 {
-    let mut out = Output::new(alloc);
+    let mut out = ValueBytes::new(alloc);
     for line in lines {
         if is_bad_value(classes, &line.line, &mut out)? {
             return Err(BuildFault::Refused {
@@ -43,7 +43,11 @@ pub fn check_values(
 
 /// Whether the line is a constant or an event, but its words aren't those of one value of its class, or a region
 /// whose offset doesn't fit in 32 bits.
-fn is_bad_value(classes: &Classes, line: &Line<'_>, out: &mut Output) -> Result<bool, NoMemory>
+fn is_bad_value(
+    classes: &Classes,
+    line: &BuildLine<'_>,
+    out: &mut ValueBytes,
+) -> Result<bool, NoMemory>
     ensures ok { IfOk result (λ bad. bad ≡ is_bad_value classes.now line.now) }
 {
     if !has_value(line) {
@@ -54,18 +58,22 @@ fn is_bad_value(classes: &Classes, line: &Line<'_>, out: &mut Output) -> Result<
 }
 
 /// Whether the line has a value. If it has one, the value's bytes replace those of `out`.
-pub fn line_value(classes: &Classes, line: &Line<'_>, out: &mut Output) -> Result<bool, NoMemory>
+pub fn line_value(
+    classes: &Classes,
+    line: &BuildLine<'_>,
+    out: &mut ValueBytes,
+) -> Result<bool, NoMemory>
     ensures ok { IfOk result (λ good. option_map bytes_of (line_value classes.now line.now) ≡ (if good then Some out.new else None)) }
 {
     match line {
-        Line::Constant { class, words, .. } => {
+        BuildLine::Constant { class, words, .. } => {
             let Some(_) = classes.find(*class) else {
                 return Ok(false);
             };
             let layout = layout_of(classes, Shape::inline(*class));
             spelled_value(classes, &layout, words.again(), out)
         }
-        Line::Record { class, words } => match classes.event_layout(*class) {
+        BuildLine::Record { class, words } => match classes.event_layout(*class) {
             Some(layout) => spelled_value(classes, &layout, words.again(), out),
             None => Ok(false),
         },
@@ -78,7 +86,7 @@ fn spelled_value(
     classes: &Classes,
     layout: &FieldLayout,
     mut words: RestOfLine<'_>,
-    out: &mut Output,
+    out: &mut ValueBytes,
 ) -> Result<bool, NoMemory>
     requires layout { IsFieldLayout classes.now layout.now }
     ensures ok { IfOk result (λ good. option_map bytes_of (all_taken (value_taken classes.now layout.now.shape words.entry)) ≡ (if good then Some out.new else None)) }

@@ -3,7 +3,7 @@ ghost use Rattle.std.specs.Prelude.{◌≡◌, ◌<◌, ◌^◌, List, length, M
 ghost use Rattle.jfr_build.specs.declared.lines.NumberedLine.{NumberedLine};
 ghost use Rattle.jfr_build.specs.Lines.{IsBadLine, any_class, any_region, any_value, has_value, is_allowed, is_class, is_region, line_after, line_of, read_lines};
 
-use crate::line::{Line, read_line};
+use crate::line::{BuildLine, read_line};
 use crate::pieces::RestOfText;
 use crate::{BuildFault, BuildReason};
 use std::alloc::Global;
@@ -12,31 +12,31 @@ use std::alloc::Global;
 #[derive(Drop)]
 pub struct NumberedLine<'a> {
     pub number: u64,
-    pub line: Line<'a>,
+    pub line: BuildLine<'a>,
 }
 
 /// The fewest bytes of a line that isn't empty and has a known form, with its newline: `record 1`.
 const MIN_LEN: usize = 9;
 
 /// Whether the line is a `class` or an `event`, both of which describe a class.
-pub fn is_class(line: &Line<'_>) -> bool
+pub fn is_class(line: &BuildLine<'_>) -> bool
     ensures { result ≡ is_class line.now }
 {
-    matches!(line, Line::Class { .. })
+    matches!(line, BuildLine::Class { .. })
 }
 
 /// Whether the line is a `constant` or a `record`.
-pub fn has_value(line: &Line<'_>) -> bool
+pub fn has_value(line: &BuildLine<'_>) -> bool
     ensures { result ≡ has_value line.now }
 {
-    matches!(line, Line::Constant { .. } | Line::Record { .. })
+    matches!(line, BuildLine::Constant { .. } | BuildLine::Record { .. })
 }
 
 /// Whether the line is the `region`.
-pub fn is_region(line: &Line<'_>) -> bool
+pub fn is_region(line: &BuildLine<'_>) -> bool
     ensures { result ≡ is_region line.now }
 {
-    matches!(line, Line::Region(_))
+    matches!(line, BuildLine::Region(_))
 }
 
 /// Whether a class was described before, whether a `constant` or a `record` came before, and whether the
@@ -49,19 +49,19 @@ struct Before {
 }
 
 /// Whether the line may come after those before it.
-fn is_allowed(line: &Line<'_>, before: Before) -> bool
+fn is_allowed(line: &BuildLine<'_>, before: Before) -> bool
     ensures { (ls : List NumberedLine) → any_class ls ≡ before.class → any_value ls ≡ before.value → any_region ls ≡ before.region → is_allowed ls line.now ≡ result }
 {
     match line {
-        Line::Class { .. } => !before.value,
-        Line::Field { .. } => before.class && !before.value,
-        Line::Region(_) => !before.region,
+        BuildLine::Class { .. } => !before.value,
+        BuildLine::Field { .. } => before.class && !before.value,
+        BuildLine::Region(_) => !before.region,
         _ => true,
     }
 }
 
 /// What a line means, if it may come after those before it.
-fn allowed_line(bytes: &[u8], before: Before) -> Option<Line<'_>>
+fn allowed_line(bytes: &[u8], before: Before) -> Option<BuildLine<'_>>
     ensures { (ls : List NumberedLine) → any_class ls ≡ before.class → any_value ls ≡ before.value → any_region ls ≡ before.region → line_after ls (line_of bytes.now) ≡ result }
 {
     let line = read_line(bytes)?;

@@ -5,10 +5,10 @@ ghost use Rattle.jfr_build.specs.Built.{is_constant_of, pools_of, with_class};
 ghost use Rattle.jfr_build.specs.LineValues.{first_bad_value, is_bad_value};
 ghost use Rattle.jfr_build.specs.Pooled.{Added, AreListed, Grown, count_in, entries_in, pool_bytes, pool_in, pools_bytes};
 
-use crate::line::Line;
+use crate::line::BuildLine;
 use crate::line_values::line_value;
 use crate::lines::NumberedLine;
-use crate::output::Output;
+use crate::value_bytes::ValueBytes;
 use jfr_base::{NoMemory, push_var};
 use jfr_layout::Classes;
 use std::alloc::Global;
@@ -23,19 +23,19 @@ pub struct Pool {
 
 /// The pools of all classes that have constants, and these classes in the order of their first lines.
 #[derive(Drop)]
-pub struct Pools {
+pub struct ConstantPools {
     alloc: Global,
     by_class: BTreeMap<u64, Pool>,
     classes: Vec<u64>,
 }
 
-impl Pools {
+impl ConstantPools {
     /// No pools. It allocates nothing.
-    fn new(alloc: Global) -> Pools
+    fn new(alloc: Global) -> ConstantPools
         ensures none { (id : ℕ) → pool_in result id ≡ None }
         ensures classes { result.classes.items ≡ [] }
     {
-        Pools {
+        ConstantPools {
             alloc,
             by_class: BTreeMap::new(alloc),
             classes: Vec::new(alloc),
@@ -111,8 +111,8 @@ pub fn pools_of(
 {
     // Shows the prover that there are at most `usize::MAX` lines, so no pool has more entries.
     let _count = lines.len();
-    let mut pools = Pools::new(alloc);
-    let mut value = Output::new(alloc);
+    let mut pools = ConstantPools::new(alloc);
+    let mut value = ValueBytes::new(alloc);
     for line in lines {
         push_line(&mut pools, classes, &line.line, &mut value)?;
     }
@@ -121,17 +121,17 @@ pub fn pools_of(
 
 /// Adds the entry of the line, if it is a constant.
 fn push_line(
-    pools: &mut Pools,
+    pools: &mut ConstantPools,
     classes: &Classes,
-    line: &Line<'_>,
-    value: &mut Output,
+    line: &BuildLine<'_>,
+    value: &mut ValueBytes,
 ) -> Result<(), NoMemory>
     requires listed { AreListed pools.old }
     requires few { (id : ℕ) → is_constant_of id line.now ≡ true → count_in (pool_in pools.old id) + 1 < 2 ^ 64 }
     requires good { is_bad_value classes.now line.now ≡ false }
     ensures ok { OnOk result (Added classes.now pools.old pools.new line.now) }
 {
-    let Line::Constant { class, key, .. } = line else {
+    let BuildLine::Constant { class, key, .. } = line else {
         return Ok(());
     };
     if !line_value(classes, line, value)? {

@@ -4,10 +4,10 @@ ghost use Rattle.jfr_base.specs.Integer.{FitsIn, spell_in};
 ghost use Rattle.jfr_build.specs.Built.{AppendsIf, event_record, events_of, line_event};
 ghost use Rattle.jfr_build.specs.LineValues.{first_bad_value, is_bad_value};
 
-use crate::line::Line;
+use crate::line::BuildLine;
 use crate::line_values::line_value;
 use crate::lines::NumberedLine;
-use crate::output::Output;
+use crate::value_bytes::ValueBytes;
 use jfr_base::{NoMemory, push_var, var_len, write_in};
 use jfr_layout::Classes;
 use std::alloc::{AllocError, Global};
@@ -38,7 +38,7 @@ pub fn events_of(
     ensures exact { IfOk result (λ found. MatchOption found (2 ^ 30 ≤ length (events_of classes.now lines.now)) (λ events. events.items ≡ events_of classes.now lines.now)) }
 {
     let mut events = Vec::new(alloc);
-    let mut value = Output::new(alloc);
+    let mut value = ValueBytes::new(alloc);
     for line in lines {
         if !push_event(&mut events, classes, &line.line, &mut value)? {
             return Ok(None);
@@ -51,13 +51,13 @@ pub fn events_of(
 fn push_event(
     events: &mut Vec<u8>,
     classes: &Classes,
-    line: &Line<'_>,
-    value: &mut Output,
+    line: &BuildLine<'_>,
+    value: &mut ValueBytes,
 ) -> Result<bool, NoMemory>
     requires good { is_bad_value classes.now line.now ≡ false }
     ensures exact { IfOk result (λ fits. AppendsIf fits (line_event classes.now line.now) events.old.items events.new.items) }
 {
-    let Line::Record { class, .. } = line else {
+    let BuildLine::Record { class, .. } = line else {
         return Ok(true);
     };
     if !line_value(classes, line, value)? {

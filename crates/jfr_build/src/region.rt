@@ -5,7 +5,7 @@ ghost use Rattle.jfr_build.specs.LeafWords.{digits_of, number_of};
 ghost use Rattle.jfr_build.specs.Regions.{is_wide, is_wide_region, region_in};
 
 use crate::leaf::fits_int;
-use crate::line::{Line, Name};
+use crate::line::{BuildLine, Name};
 use crate::lines::NumberedLine;
 use jfr_base::{NoMemory, Text, decimal_number};
 use std::alloc::Global;
@@ -67,11 +67,11 @@ pub struct Region<'a> {
 }
 
 /// Whether the line is a region whose offset doesn't fit in 32 bits.
-pub fn is_wide_region(line: &Line<'_>) -> bool
+pub fn is_wide_region(line: &BuildLine<'_>) -> bool
     ensures { result ≡ is_wide_region line.now }
 {
     match line {
-        Line::Region(region) => region.offset.is_wide(),
+        BuildLine::Region(region) => region.offset.is_wide(),
         _ => false,
     }
 }
@@ -81,7 +81,7 @@ pub fn region_in<'a, 'b>(lines: &'b [NumberedLine<'a>]) -> Option<&'b Region<'a>
     ensures { option_map (λ r. r.now) result ≡ region_in lines.now }
 {
     for line in lines {
-        if let Line::Region(region) = &line.line {
+        if let BuildLine::Region(region) = &line.line {
             return Some(region);
         }
     }

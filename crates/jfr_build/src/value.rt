@@ -9,8 +9,8 @@ ghost use Rattle.jfr_build.specs.Taking.{base_taken, class_taken, each_taken, re
 ghost use Rattle.jfr_build.specs.Writing.{Writes, wrote, wrote_all};
 
 use crate::leaf::id_after;
-use crate::output::{Output, ValueFault};
 use crate::pieces::RestOfLine;
+use crate::value_bytes::{ValueBytes, ValueFault};
 use jfr_layout::{Classes, FieldLayout, Form, Kind};
 use jfr_value::item_layout;
 
@@ -23,7 +23,7 @@ pub fn push_value(
     classes: &Classes,
     layout: &FieldLayout,
     words: &mut RestOfLine<'_>,
-    out: &mut Output,
+    out: &mut ValueBytes,
 ) -> Result<(), ValueFault>
     requires layout { IsFieldLayout classes.now layout.now }
     ensures exact { Writes (wrote out.old (value_taken classes.now layout.now.shape words.old)) result out.new words.new }
@@ -41,7 +41,7 @@ fn next_word<'a>(words: &mut RestOfLine<'a>) -> Result<&'a str, ValueFault>
 }
 
 /// Takes the word of a reference.
-fn push_reference(words: &mut RestOfLine<'_>, out: &mut Output) -> Result<(), ValueFault>
+fn push_reference(words: &mut RestOfLine<'_>, out: &mut ValueBytes) -> Result<(), ValueFault>
     ensures exact { (s : Shape) → Writes (wrote out.old (reference_taken s words.old)) result out.new words.new }
 {
     let word = next_word(words)?;
@@ -53,7 +53,7 @@ fn push_reference(words: &mut RestOfLine<'_>, out: &mut Output) -> Result<(), Va
 }
 
 /// Takes the word of a value of a base name.
-fn push_base(kind: Kind, words: &mut RestOfLine<'_>, out: &mut Output) -> Result<(), ValueFault>
+fn push_base(kind: Kind, words: &mut RestOfLine<'_>, out: &mut ValueBytes) -> Result<(), ValueFault>
     ensures exact { (s : Shape) → Writes (wrote out.old (base_taken kind s words.old)) result out.new words.new }
 {
     let word = next_word(words)?;
@@ -66,7 +66,7 @@ fn push_layout(
     classes: &Classes,
     layout: &FieldLayout,
     words: &mut RestOfLine<'_>,
-    out: &mut Output,
+    out: &mut ValueBytes,
     levels: u32,
 ) -> Result<(), ValueFault>
     requires placed { IsLayoutOrKey classes.now layout.now }
@@ -90,7 +90,7 @@ fn push_fields(
     classes: &Classes,
     layouts: &[FieldLayout],
     words: &mut RestOfLine<'_>,
-    out: &mut Output,
+    out: &mut ValueBytes,
     levels: u32,
 ) -> Result<(), ValueFault>
     requires layouts { AllByRecursion (IsFieldLayout classes.now) layouts.now }
@@ -109,7 +109,7 @@ fn push_array(
     classes: &Classes,
     layout: &FieldLayout,
     words: &mut RestOfLine<'_>,
-    out: &mut Output,
+    out: &mut ValueBytes,
     levels: u32,
 ) -> Result<(), ValueFault>
     requires array { layout.now.shape.array ≡ true }

@@ -49,39 +49,39 @@ output_records slim p kept = filter_map (output_record_of slim p kept) p.records
 pub record Written : Type 0 where
   pub output_record : OutputRecord
   pub at : ℕ
-  pub older : Option ℕ
+  pub newest : Option ℕ
 
 -- The pools, of the checkpoint with this number, that have an entry left.
 abbrev pub groups_of : List EntryAt → ℕ → List Group
 groups_of remaining number = by_pool (filter (λ e. e.checkpoint == number) remaining)
 
--- The bytes of an output record at this offset in the output, with the older checkpoint at `older`, if there
--- is one.
+-- The bytes of an output record at this offset in the output, with the newest checkpoint before it at `newest`,
+-- if there is one.
 abbrev pub bytes_of : List ℕ → List EntryAt → OutputRecord → ℕ → Option ℕ → List ℕ
-bytes_of c remaining (Whole r) at older = record_bytes c r
-bytes_of c remaining (Rebuilt r x) at older = x
-bytes_of c remaining (Chained number l) at older = checkpoint_bytes c l (distance at older) (groups_of remaining number)
+bytes_of c remaining (Whole r) at newest = record_bytes c r
+bytes_of c remaining (Rebuilt r x) at newest = x
+bytes_of c remaining (Chained number l) at newest = checkpoint_bytes c l (distance at newest) (groups_of remaining number)
 
 -- The bytes of an output record at its own offset in the output.
 abbrev pub written_bytes : List ℕ → List EntryAt → Written → List ℕ
-written_bytes c remaining w = bytes_of c remaining w.output_record w.at w.older
+written_bytes c remaining w = bytes_of c remaining w.output_record w.at w.newest
 
--- The offset of the last checkpoint in the output once this output record is written.
-abbrev pub older_after : OutputRecord → ℕ → Option ℕ → Option ℕ
-older_after (Whole r) at older = older
-older_after (Rebuilt r x) at older = older
-older_after (Chained number l) at older = Some at
+-- The offset of the newest checkpoint in the output once this output record is written.
+abbrev pub newest_after : OutputRecord → ℕ → Option ℕ → Option ℕ
+newest_after (Whole r) at newest = newest
+newest_after (Rebuilt r x) at newest = newest
+newest_after (Chained number l) at newest = Some at
 
 -- The output records with their offsets, one after another.
 abbrev pub written : List ℕ → List EntryAt → ℕ → Option ℕ → List OutputRecord → List Written
-written c remaining at older [] = []
-written c remaining at older (s ∷ ss) = record { output_record = s; at = at; older = older } ∷ written c remaining (at + length (bytes_of c remaining s at older)) (older_after s at older) ss
+written c remaining at newest [] = []
+written c remaining at newest (s ∷ ss) = record { output_record = s; at = at; newest = newest } ∷ written c remaining (at + length (bytes_of c remaining s at newest)) (newest_after s at newest) ss
 
--- The offset of the last checkpoint in the output; 0 if there is none.
-abbrev pub last_at : Option ℕ → List Written → ℕ
-last_at None [] = 0
-last_at (Some at) [] = at
-last_at older (w ∷ ws) = last_at (older_after w.output_record w.at older) ws
+-- The offset of the newest checkpoint in the output; 0 if there is none.
+abbrev pub newest_at : Option ℕ → List Written → ℕ
+newest_at None [] = 0
+newest_at (Some at) [] = at
+newest_at newest (w ∷ ws) = newest_at (newest_after w.output_record w.at newest) ws
 
 -- The record for which an output record is written.
 abbrev pub record_of : OutputRecord → Framed
@@ -93,7 +93,7 @@ record_of (Rebuilt r x) = r
 abbrev pub moved : List Written → ℕ → ℕ
 moved ws at = option_map_or (λ w. w.at) (find (λ w. (record_of w.output_record).at == at) ws) 0
 
--- The header with another size and other positions of the last checkpoint and of the metadata record.
+-- The header with another size and other positions of the newest checkpoint and of the metadata record.
 abbrev pub header_with : List ℕ → ℕ → ℕ → ℕ → List ℕ
 header_with c size pools metadata = header_bytes (record (header_of (take 68 c)) { size = size; pools = pools; metadata = metadata })
 
@@ -102,7 +102,7 @@ abbrev pub assembled : Parts → List EntryAt → List OutputRecord → List ℕ
 assembled p remaining ss =
     let ws = written p.bytes remaining 68 None ss in
     let body = flat_map (written_bytes p.bytes remaining) ws in
-    header_with p.bytes (68 + length body) (last_at None ws) (moved ws (metadata_at p.bytes)) ++ body
+    header_with p.bytes (68 + length body) (newest_at None ws) (moved ws (metadata_at p.bytes)) ++ body
 
 -- The output chunk if these events are kept, given the new metadata record, if there is one.
 unfoldable pub scrub_with : Option (List ℕ) → Parts → List EventAt → List ℕ

@@ -87,7 +87,7 @@ pub fn run<P: Place, O: Sink, E: Sink>(
     ensures each_renumbered { (g : Given) (c : List ℕ) → Whole c → refusal_of c ≡ None → IsRenumberedOutput g c (renumbered g c) }
 
     // Nothing else of what was removed can be found out from an output: recordings that agree, chunk by chunk, on
-    // all that stays have the same output, with and without new keys.
+    // all that remains have the same output, with and without new keys.
     ensures same_kept { (g : Given) (x y : List ℕ) → RecordingsAgree g x y → recording_scrubbed g x ≡ recording_scrubbed g y }
     ensures same_kept_renumbered { (g : Given) (x y : List ℕ) → RecordingsAgree g x y → recording_output refusal_of (renumbered g) x ≡ recording_output refusal_of (renumbered g) y }
 

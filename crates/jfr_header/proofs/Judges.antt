@@ -5,7 +5,7 @@ use Rattle.jfr_base.specs.declared.flaw.Flaw.{Flaw}
 use Rattle.jfr_base.specs.declared.reason.Reason.TheVariants.{NoChunk, ShortHeader, TooLong}
 use Rattle.jfr_header.specs.Fronts.{front, headed, header_flaw, flaw_at}
 use Rattle.jfr_header.specs.Judging.{IsJudged}
-use Rattle.jfr_header.specs.declared.judge.Verdict.TheVariants.{Bad}
+use Rattle.jfr_header.specs.declared.judge.NextChunk.TheVariants.{Bad}
 use Rattle.jfr_header.proofs.Steps.{front_none, front_long, front_short, front_headed}
 
 longer : (bytes left : List ℕ) → 0 < length bytes → 0 < length (bytes ++ left)

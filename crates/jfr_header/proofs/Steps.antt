@@ -9,8 +9,8 @@ use Rattle.jfr_outside.specs.World.{World}
 use Rattle.jfr_header.specs.Fronts.{Front, Bad, End, Chunk, front, headed, sized, reach, reach_by, header_flaw, size_of, flaw_at, Whole}
 use Rattle.jfr_header.specs.Nexts.{Found, Refuses, ahead_of, flaw_of, is_header}
 use Rattle.jfr_header.specs.Judging.{IsJudged, Follows}
-use Rattle.jfr_header.specs.declared.judge.Verdict.{Verdict}
-use Rattle.jfr_header.specs.declared.judge.Verdict.TheVariants as verdicts
+use Rattle.jfr_header.specs.declared.judge.NextChunk.{NextChunk}
+use Rattle.jfr_header.specs.declared.judge.NextChunk.TheVariants as nexts
 use Rattle.jfr_header.specs.Cutters.{Cutter}
 use Rattle.jfr_outside.specs.World.{IfKnown}
 use Rattle.jfr_header.specs.Taking.{Moved, MovedWithin, Took, Takes}
@@ -195,18 +195,18 @@ refuses_all c r bytes w v k e h n = record {
   exact = λ y. cc;
 }
 
-pub judged_at : (d c : Cutter) (l bytes : List ℕ) (v : Verdict) → d ≡ c → l ≡ bytes → IsJudged l d.start d.given v → IsJudged bytes c.start c.given v
+pub judged_at : (d c : Cutter) (l bytes : List ℕ) (v : NextChunk) → d ≡ c → l ≡ bytes → IsJudged l d.start d.given v → IsJudged bytes c.start c.given v
 judged_at d c l bytes v e f j = subst (λ (x : List ℕ). IsJudged x c.start c.given v) f (subst (λ (x : Cutter). IsJudged l x.start x.given v) e j)
 
 -- If nothing was read after the last chunk, the recording has ended.
-pub judged_end : (c : Cutter) (bytes : List ℕ) (w v : World) → IsJudged bytes c.start c.given verdicts.End → Moved [] bytes w v → (length bytes < 68 → v.input ≡ Some []) → Found c End [] w v
+pub judged_end : (c : Cutter) (bytes : List ℕ) (w v : World) → IsJudged bytes c.start c.given nexts.End → Moved [] bytes w v → (length bytes < 68 → v.input ≡ Some []) → Found c End [] w v
 judged_end c bytes w v judged m ended =
     let less : length bytes < 68 = let z : length bytes ≡ 0 = ap length judged.1 in omega (arith, z) in
     let all : AllIn [] w v = subst (λ (l : List ℕ). AllIn l w v) judged.1 (record { moved = m; ended = ended less }) in
     record { rest = []; input = all_rest [] w v all; took = took_of [] w v all.moved; is = ap (λ (b : Bool). front [] c.start (not b)) judged.0 ∙ front_end c.start }
 
 -- What was judged bad by its first bytes is refused.
-pub judged_bad : (c : Cutter) (n : ℕ) (f : Flaw) (bytes : List ℕ) (w v : World) → length bytes ≤ 68 → IsJudged bytes c.start c.given (verdicts.Bad f) → Moved [] bytes w v → IsSome v.input → (length bytes < 68 → v.input ≡ Some []) → Refuses c (record { chunk = n; offset = f.offset; reason = f.reason }) w v
+pub judged_bad : (c : Cutter) (n : ℕ) (f : Flaw) (bytes : List ℕ) (w v : World) → length bytes ≤ 68 → IsJudged bytes c.start c.given (nexts.Bad f) → Moved [] bytes w v → IsSome v.input → (length bytes < 68 → v.input ≡ Some []) → Refuses c (record { chunk = n; offset = f.offset; reason = f.reason }) w v
 unfolding found split
 judged_bad c n f bytes w v most judged m o ended =
     let t = took_of bytes w v m in

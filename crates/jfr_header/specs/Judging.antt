@@ -3,15 +3,15 @@ use Rattle.std.specs.Prelude.{◌≡◌, ℕ, ◌<◌, ◌^◌, Bool, true, not,
 use Rattle.jfr_header.specs.Fronts as fronts
 use Rattle.jfr_header.specs.Fronts.{front, header_flaw, size_of}
 use Rattle.jfr_header.specs.Nexts.{is_header}
-use Rattle.jfr_header.specs.declared.judge.Verdict.{Verdict}
-use Rattle.jfr_header.specs.declared.judge.Verdict.TheVariants.{End, Bad, Sized}
+use Rattle.jfr_header.specs.declared.judge.NextChunk.{NextChunk}
+use Rattle.jfr_header.specs.declared.judge.NextChunk.TheVariants.{End, Bad, Sized}
 
 -- The bytes that are left after the first ones: none if the first ones are fewer than 68.
 abbrev pub Follows : List ℕ → List ℕ → Type 0
 Follows bytes left = length bytes < 68 → left ≡ []
 
--- What a verdict on the first bytes that are left says, if they start at this byte of the recording.
-abbrev pub IsJudged : List ℕ → ℕ → Bool → Verdict → Type 0
+-- What is known of the first bytes that are left, which start at this byte of the recording, if this comes next.
+abbrev pub IsJudged : List ℕ → ℕ → Bool → NextChunk → Type 0
 IsJudged bytes start given End = (given ≡ true) × (bytes ≡ [])
 IsJudged bytes start given (Bad f) =
     ((left : List ℕ) → Follows bytes left → front (bytes ++ left) start (not given) ≡ fronts.Bad f)

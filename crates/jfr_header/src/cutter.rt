@@ -5,7 +5,7 @@ ghost use Rattle.jfr_header.specs.Nexts.{NextOf, CutOf, Counted, IsDue, IfRefuse
 
 use crate::buffer::Buffer;
 use crate::ending::with_number;
-use crate::judge::{Verdict, judge};
+use crate::judge::{NextChunk, judge};
 use jfr_base::{HEADER_LEN, Reason, Refusal};
 use jfr_outside::{Fault, Place};
 use std::alloc::Global;
@@ -123,9 +123,9 @@ impl ChunkCutter {
             Err(Fault::Memory) => return Cut::Memory,
         }
         let size = match judge(self.bytes.as_slice(), self.start, self.given) {
-            Verdict::End => return Cut::End,
-            Verdict::Bad(flaw) => return Cut::Refused(with_number(flaw, self.number)),
-            Verdict::Sized(size) => size,
+            NextChunk::End => return Cut::End,
+            NextChunk::Bad(flaw) => return Cut::Refused(with_number(flaw, self.number)),
+            NextChunk::Sized(size) => size,
         };
         match self.bytes.fill(place, size) {
             Ok(()) => {}

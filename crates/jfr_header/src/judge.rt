@@ -11,7 +11,7 @@ const START_LIMIT: u64 = 1 << 40;
 
 /// What comes next in a recording, by the first 68 bytes that are left, or by all of them if fewer are left.
 #[derive(Clone, Copy)]
-pub enum Verdict {
+pub enum NextChunk {
     /// The recording ends here.
     End,
     /// No chunk begins here.
@@ -22,13 +22,13 @@ pub enum Verdict {
 
 /// What comes next in a recording, by the first bytes that are left. They start at the byte `start` of the
 /// recording, and `given` says whether there was a chunk before them.
-pub fn judge(front: &[u8], start: u64, given: bool) -> Verdict
+pub fn judge(front: &[u8], start: u64, given: bool) -> NextChunk
     requires { length front.now ≤ 68 }
     ensures { IsJudged front.now start given result }
 {
     if front.is_empty() {
         if given {
-            return Verdict::End;
+            return NextChunk::End;
         }
         return bad(0, Reason::NoChunk);
     }
@@ -39,14 +39,14 @@ pub fn judge(front: &[u8], start: u64, given: bool) -> Verdict
         return bad(front.len() as u64, Reason::ShortHeader);
     };
     match read_header(header) {
-        Ok(header) => Verdict::Sized(header.size as usize),
-        Err(flaw) => Verdict::Bad(flaw),
+        Ok(header) => NextChunk::Sized(header.size as usize),
+        Err(flaw) => NextChunk::Bad(flaw),
     }
 }
 
-/// The verdict with this flaw.
-fn bad(offset: u64, reason: Reason) -> Verdict
-    ensures { result ≡ Verdict.Bad (flaw_at offset reason) }
+/// What comes next if the first bytes have this flaw.
+fn bad(offset: u64, reason: Reason) -> NextChunk
+    ensures { result ≡ NextChunk.Bad (flaw_at offset reason) }
 {
-    Verdict::Bad(Flaw { offset, reason })
+    NextChunk::Bad(Flaw { offset, reason })
 }

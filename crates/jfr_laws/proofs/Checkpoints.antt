@@ -26,7 +26,7 @@ use Rattle.jfr_chunk.specs.Scrub.{groups_of}
 use Rattle.jfr_chunk.proofs.AllLaws.{all_append}
 use Rattle.jfr_chunk.proofs.TestLaws.{is_eq}
 use Rattle.jfr_laws.proofs.Marks.{all_marked, marked_append}
-use Rattle.jfr_laws.specs.InChunk.{IsEntryIn, IsGroupIn, IsLinkIn, Constants, Pools, BodyStands}
+use Rattle.jfr_laws.specs.InChunk.{IsEntryIn, IsGroupIn, IsLinkIn, AreConstants, ArePools, BodyStands}
 use Rattle.jfr_laws.proofs.InChunk.{body_stands}
 use Rattle.jfr_laws.proofs.Groups.{groups_stand}
 use Rattle.jfr_laws.proofs.Room.{int_room, have_room}
@@ -64,12 +64,12 @@ link_stands c k rs l pools r i s =
     )
 
 -- The entries of pools that are spelled by bytes.
-constants_entries : (c : List ℕ) (k : Classes) (checkpoint number class at : ℕ) (xs : List Constant) (to : ℕ) → pool_check k class ≡ None → Constants c k class at xs to → AllByRecursion (IsEntryIn c k) (map (entry_of checkpoint number class) xs)
+constants_entries : (c : List ℕ) (k : Classes) (checkpoint number class at : ℕ) (xs : List Constant) (to : ℕ) → pool_check k class ≡ None → AreConstants c k class at xs to → AllByRecursion (IsEntryIn c k) (map (entry_of checkpoint number class) xs)
 constants_entries c k checkpoint number class at [] to n s = tt
 constants_entries c k checkpoint number class at (x ∷ xs) to n s =
     (record { value = x.value; known = n; key = s.0.key; order = s.0.order; within = s.0.within; exact = s.0.exact }, constants_entries c k checkpoint number class x.end xs to n s.1)
 
-pools_entries : (c : List ℕ) (k : Classes) (checkpoint number at : ℕ) (pools : List PoolAt) (to : ℕ) → Pools c k at pools to → AllByRecursion (IsEntryIn c k) (entries_from checkpoint number pools)
+pools_entries : (c : List ℕ) (k : Classes) (checkpoint number at : ℕ) (pools : List PoolAt) (to : ℕ) → ArePools c k at pools to → AllByRecursion (IsEntryIn c k) (entries_from checkpoint number pools)
 pools_entries c k checkpoint number at [] to s = tt
 pools_entries c k checkpoint number at (p ∷ ps) to s =
     all_append (IsEntryIn c k) (map (entry_of checkpoint number p.class) p.constants) (entries_from checkpoint (number + 1) ps)

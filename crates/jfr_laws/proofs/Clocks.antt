@@ -8,7 +8,7 @@ use Rattle.jfr_header.specs.Headers.{header_of, header_bytes}
 use Rattle.jfr_chunk.specs.Parts.{Parts, EventAt, metadata_at}
 use Rattle.jfr_chunk.specs.Reach.{remain}
 use Rattle.jfr_chunk.specs.Metas.{Names, new_metadata}
-use Rattle.jfr_chunk.specs.Scrub.{scrub_of, scrub_with, header_with, written, written_bytes, last_at, moved, output_records}
+use Rattle.jfr_chunk.specs.Scrub.{scrub_of, scrub_with, header_with, written, written_bytes, newest_at, moved, output_records}
 use Rattle.jfr_chunk.specs.Windows.{Clock, clock_of}
 
 -- The lowest 64 bits of each number are read back.
@@ -34,4 +34,4 @@ unfolding scrub_with
 clock_kept names p kept =
     let ws = written p.bytes (remain p kept) 68 None (output_records (new_metadata names p kept) p kept) in
     let body = flat_map (written_bytes p.bytes (remain p kept)) ws in
-    clock_same p.bytes body (68 + length body) (last_at None ws) (moved ws (metadata_at p.bytes))
+    clock_same p.bytes body (68 + length body) (newest_at None ws) (moved ws (metadata_at p.bytes))

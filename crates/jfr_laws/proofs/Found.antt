@@ -84,7 +84,7 @@ module _ (c : List ℕ) (remaining : List EntryAt) (k : Classes) (b : List ℕ) 
         record { place = at; from = omega arith; held = p.0; leads = rw (is_eq f.at f.at refl) refl; listed = inl refl }
 
     -- It is written after another.
-    found_later : (w : Option (List ℕ)) (x : OutputRecord) (ws : List Written) (at n : ℕ) (older : Option ℕ) → ((record_of x).at == f.at) ≡ false → Found f w (at + n) ws → Found f w at (record { output_record = x; at = at; older = older } ∷ ws)
+    found_later : (w : Option (List ℕ)) (x : OutputRecord) (ws : List Written) (at n : ℕ) (older : Option ℕ) → ((record_of x).at == f.at) ≡ false → Found f w (at + n) ws → Found f w at (record { output_record = x; at = at; newest = older } ∷ ws)
     found_later w x ws at n older t i =
         let z : at + n ≤ i.place = i.from in
         record { place = i.place; from = omega arith; held = i.held; leads = rw t i.leads; listed = inr i.listed }

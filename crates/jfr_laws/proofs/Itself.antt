@@ -1,4 +1,4 @@
--- A chunk agrees with itself on all that stays.
+-- A chunk agrees with itself on all that remains.
 use Rattle.std.specs.Prelude.{◌≡◌, ℕ, List, [], ◌∷◌, Option, Some}
 use Rattle.std.proofs.Common.{refl, inl, inr}
 use Rattle.jfr_pool.specs.declared.entry.EntryAt.{EntryAt}

@@ -1,4 +1,4 @@
--- Of two chunks that agree on all that stays, each kept event and each remaining entry has a counterpart with the
+-- Of two chunks that agree on all that remains, each kept event and each remaining entry has a counterpart with the
 -- same value, and both refer to the same.
 use Rattle.std.specs.Prelude.{◌≡◌, ℕ, zero, suc, ◌<◌, Bool, true, false, List, [], ◌∷◌, length, replicate, slice_get, Option, Some, None, option_and_then}
 use Rattle.std.proofs.Common.{ap, arith, refl, sym, ◌∙◌, subst, inl, inr}

@@ -8,7 +8,7 @@ use Rattle.jfr_frame.specs.Records.{IsRecord, Tiles, record_bytes, record_end}
 use Rattle.jfr_frame.proofs.RecordLaws.{record_one}
 use Rattle.jfr_pool.specs.declared.link.Link.{Link}
 use Rattle.jfr_pool.specs.declared.entry.EntryAt.{EntryAt}
-use Rattle.jfr_chunk.specs.Scrub.{OutputRecord, Whole, Chained, Rebuilt, output_record_by, written, record_of, last_at}
+use Rattle.jfr_chunk.specs.Scrub.{OutputRecord, Whole, Chained, Rebuilt, output_record_by, written, record_of, newest_at}
 use Rattle.jfr_laws.proofs.Chains.{last_place}
 use Rattle.jfr_laws.proofs.Order.{Numbered, numbered_at, output_records_in, chained_of, found_numbered}
 use Rattle.jfr_laws.proofs.Copied.{record_length}
@@ -57,7 +57,7 @@ module _ (c : List ℕ) (remaining : List EntryAt) where
       omega (arith, chained_length c remaining i l ss at older)
 
   -- The last checkpoint starts at the offset of the last link.
-  pub last_back : (ss : List OutputRecord) (at : ℕ) (older : Option ℕ) → last_at older (written c remaining at older ss) ≡ last_from older (new_links c remaining at older ss)
+  pub last_back : (ss : List OutputRecord) (at : ℕ) (older : Option ℕ) → newest_at older (written c remaining at older ss) ≡ last_from older (new_links c remaining at older ss)
   last_back [] at None = refl
   last_back [] at (Some o) = refl
   last_back (Whole r ∷ ss) at None = last_back ss (at + length (record_bytes c r)) None
@@ -72,7 +72,7 @@ module _ (c : List ℕ) (remaining : List EntryAt) where
       last_back ss (at + n) (Some at) ∙ last_joined (new_link c remaining at (Some o) i l) (new_links c remaining (at + n) (Some at) ss)
 
   -- It starts in what is written.
-  pub last_bound : (ss : List OutputRecord) (at : ℕ) (older : Option ℕ) → AtMost older at → last_at older (written c remaining at older ss) ≤ at + length (bytes_from c remaining at older ss)
+  pub last_bound : (ss : List OutputRecord) (at : ℕ) (older : Option ℕ) → AtMost older at → newest_at older (written c remaining at older ss) ≤ at + length (bytes_from c remaining at older ss)
   last_bound [] at None o = omega arith
   last_bound [] at (Some z) o = let i : z ≤ at = o in omega arith
   last_bound (Whole r ∷ ss) at None o =

@@ -11,7 +11,7 @@ use Rattle.jfr_pool.specs.declared.link.Link.{Link}
 use Rattle.jfr_pool.specs.declared.entry.EntryAt.{EntryAt}
 use Rattle.jfr_pool.specs.Entries.{entries_from}
 use Rattle.jfr_chunk.specs.Written.{Group, by_pool, group_bytes, distance, checkpoint_tail, sized, checkpoint_bytes}
-use Rattle.jfr_chunk.specs.Scrub.{OutputRecord, Whole, Chained, Rebuilt, Written, groups_of, written, record_of, last_at}
+use Rattle.jfr_chunk.specs.Scrub.{OutputRecord, Whole, Chained, Rebuilt, Written, groups_of, written, record_of, newest_at}
 use Rattle.jfr_chunk.proofs.AllLaws.{all_append}
 use Rattle.jfr_laws.specs.InChunk.{IsLinkIn}
 use Rattle.jfr_laws.proofs.ReadBack.{moved_frame, moved_link, tail_lengths, checkpoint_held}
@@ -60,7 +60,7 @@ IsPlaced w = (record_of w.output_record).at ≡ w.at
 -- Written again: the same bytes, the same last checkpoint, and each record at its place.
 pub record Rewritten (at : ℕ) (older : Option ℕ) (bytes : List ℕ) (last : ℕ) (b : List ℕ) (remaining : List EntryAt) (ss : List OutputRecord) : Type 0 where
   pub same : bytes_from b remaining at older ss ≡ bytes
-  pub last_same : last_at older (written b remaining at older ss) ≡ last
+  pub last_same : newest_at older (written b remaining at older ss) ≡ last
   pub placed : AllByRecursion IsPlaced (written b remaining at older ss)
 
 -- The first record, and those after it.
@@ -70,7 +70,7 @@ whole_then at older x bytes last b remaining r ss p e i =
     let j : Rewritten (at + length (record_bytes b r)) older bytes last b remaining ss = subst (λ z. Rewritten (at + length z) older bytes last b remaining ss) (sym e) i in
     record { same = (λ k. e k ++ j.same k); last_same = last_of older j.last_same; placed = (p, j.placed) }
   where
-    last_of : (older : Option ℕ) → last_at older (written b remaining (at + length (record_bytes b r)) older ss) ≡ last → last_at older (written b remaining at older (Whole r ∷ ss)) ≡ last
+    last_of : (older : Option ℕ) → newest_at older (written b remaining (at + length (record_bytes b r)) older ss) ≡ last → newest_at older (written b remaining at older (Whole r ∷ ss)) ≡ last
     last_of None e = e
     last_of (Some o) e = e
 
@@ -78,7 +78,7 @@ rebuilt_then : (at : ℕ) (older : Option ℕ) (x bytes : List ℕ) (last : ℕ)
     → Rewritten at older (x ++ bytes) last b remaining (Rebuilt r x ∷ ss)
 rebuilt_then at older x bytes last b remaining r ss p j = record { same = ap (λ z. x ++ z) j.same; last_same = last_of older j.last_same; placed = (p, j.placed) }
   where
-    last_of : (older : Option ℕ) → last_at older (written b remaining (at + length x) older ss) ≡ last → last_at older (written b remaining at older (Rebuilt r x ∷ ss)) ≡ last
+    last_of : (older : Option ℕ) → newest_at older (written b remaining (at + length x) older ss) ≡ last → newest_at older (written b remaining at older (Rebuilt r x ∷ ss)) ≡ last
     last_of None e = e
     last_of (Some o) e = e
 
@@ -89,7 +89,7 @@ chained_then at older x bytes last b remaining i l ss p e h =
     let j : Rewritten (at + n) (Some at) bytes last b remaining ss = subst (λ z. Rewritten (at + length z) (Some at) bytes last b remaining ss) (sym e) h in
     record { same = (λ k. e k ++ j.same k); last_same = last_of older n j.last_same; placed = (p, j.placed) }
   where
-    last_of : (older : Option ℕ) (n : ℕ) → last_at (Some at) (written b remaining (at + n) (Some at) ss) ≡ last → last_at older (record { output_record = Chained i l; at = at; older = older } ∷ written b remaining (at + n) (Some at) ss) ≡ last
+    last_of : (older : Option ℕ) (n : ℕ) → newest_at (Some at) (written b remaining (at + n) (Some at) ss) ≡ last → newest_at older (record { output_record = Chained i l; at = at; newest = older } ∷ written b remaining (at + n) (Some at) ss) ≡ last
     last_of None n e = e
     last_of (Some o) n e = e
 
@@ -107,7 +107,7 @@ module _ (c : List ℕ) (remaining : List EntryAt) (k : Classes) (b : List ℕ) 
   -- What is left is written again unchanged, with all entries.
   pub rewritten : (ss : List OutputRecord) (j at : ℕ) (older : Option ℕ) (before : List EntryAt) → AllByRecursion (IsOutputRecordIn c remaining k) ss → Deltas (is_some older) ss → Holds b (length b) at (bytes_from c remaining at older ss)
       → all ≡ before ++ new_entries c remaining k j at older ss → ((n : ℕ) → j ≤ n → NotOf n before)
-      → Rewritten at older (bytes_from c remaining at older ss) (last_at older (written c remaining at older ss)) b all (new_output_records c remaining j at older ss)
+      → Rewritten at older (bytes_from c remaining at older ss) (newest_at older (written c remaining at older ss)) b all (new_output_records c remaining j at older ss)
   rewritten [] j at None before s d h e a = record { same = refl; last_same = refl; placed = tt }
   rewritten [] j at (Some o) before s d h e a = record { same = refl; last_same = refl; placed = tt }
   rewritten (Whole r ∷ ss) j at older before s d h e a =
@@ -115,9 +115,9 @@ module _ (c : List ℕ) (remaining : List EntryAt) (k : Classes) (b : List ℕ) 
       let p = holds_parts b (length b) at (record_bytes c r) (bytes_from c remaining (at + n) older ss) h in
       let i = rewritten ss j (at + n) older before s.1 d p.1 e a in
       subst (λ z. Rewritten at older (bytes_from c remaining at older (Whole r ∷ ss)) z b all (new_output_records c remaining j at older (Whole r ∷ ss))) (last_of older)
-      (whole_then at older (record_bytes c r) (bytes_from c remaining (at + n) older ss) (last_at older (written c remaining (at + n) older ss)) b all (copied_to c at r) (new_output_records c remaining j (at + n) older ss) refl p.0.bytes i)
+      (whole_then at older (record_bytes c r) (bytes_from c remaining (at + n) older ss) (newest_at older (written c remaining (at + n) older ss)) b all (copied_to c at r) (new_output_records c remaining j (at + n) older ss) refl p.0.bytes i)
     where
-      last_of : (older : Option ℕ) → last_at older (written c remaining (at + length (record_bytes c r)) older ss) ≡ last_at older (written c remaining at older (Whole r ∷ ss))
+      last_of : (older : Option ℕ) → newest_at older (written c remaining (at + length (record_bytes c r)) older ss) ≡ newest_at older (written c remaining at older (Whole r ∷ ss))
       last_of None = refl
       last_of (Some o) = refl
   rewritten (Rebuilt r x ∷ ss) j at older before s d h e a =
@@ -125,9 +125,9 @@ module _ (c : List ℕ) (remaining : List EntryAt) (k : Classes) (b : List ℕ) 
       let p = holds_parts b (length b) at x (bytes_from c remaining (at + n) older ss) h in
       let i = rewritten ss j (at + n) older before s.1 d p.1 e a in
       subst (λ z. Rewritten at older (bytes_from c remaining at older (Rebuilt r x ∷ ss)) z b all (new_output_records c remaining j at older (Rebuilt r x ∷ ss))) (last_of older)
-      (rebuilt_then at older x (bytes_from c remaining (at + n) older ss) (last_at older (written c remaining (at + n) older ss)) b all (moved_frame at (own_frame x) n) (new_output_records c remaining j (at + n) older ss) refl i)
+      (rebuilt_then at older x (bytes_from c remaining (at + n) older ss) (newest_at older (written c remaining (at + n) older ss)) b all (moved_frame at (own_frame x) n) (new_output_records c remaining j (at + n) older ss) refl i)
     where
-      last_of : (older : Option ℕ) → last_at older (written c remaining (at + length x) older ss) ≡ last_at older (written c remaining at older (Rebuilt r x ∷ ss))
+      last_of : (older : Option ℕ) → newest_at older (written c remaining (at + length x) older ss) ≡ newest_at older (written c remaining at older (Rebuilt r x ∷ ss))
       last_of None = refl
       last_of (Some o) = refl
   rewritten (Chained i l ∷ ss) j at older before s d h e a =
@@ -146,9 +146,9 @@ module _ (c : List ℕ) (remaining : List EntryAt) (k : Classes) (b : List ℕ) 
       checkpoint_again c b l (distance at older) at gs (groups_at j 0 (new_pools c remaining k at older i l)) s.0.0 (chained_fits c remaining k i l at older s.0 d.0) p.0
       (groups_many j c k gs 0 (new_place c remaining at older i l)) (groups_again j c k b (at + n) gs 0 (new_place c remaining at older i l) s.0.1 st.held) in
       subst (λ z. Rewritten at older (bytes_from c remaining at older (Chained i l ∷ ss)) z b all (new_output_records c remaining j at older (Chained i l ∷ ss))) (last_of older)
-      (chained_then at older (chained_bytes c remaining at older i l) (bytes_from c remaining (at + n) (Some at) ss) (last_at (Some at) (written c remaining (at + n) (Some at) ss)) b all j (new_link c remaining at older i l) (new_output_records c remaining (j + 1) (at + n) (Some at) ss) refl
+      (chained_then at older (chained_bytes c remaining at older i l) (bytes_from c remaining (at + n) (Some at) ss) (newest_at (Some at) (written c remaining (at + n) (Some at) ss)) b all j (new_link c remaining at older i l) (new_output_records c remaining (j + 1) (at + n) (Some at) ss) refl
       (ap (checkpoint_bytes b (new_link c remaining at older i l) (distance at older)) g ∙ x) r)
     where
-      last_of : (older : Option ℕ) → last_at (Some at) (written c remaining (at + length (chained_bytes c remaining at older i l)) (Some at) ss) ≡ last_at older (written c remaining at older (Chained i l ∷ ss))
+      last_of : (older : Option ℕ) → newest_at (Some at) (written c remaining (at + length (chained_bytes c remaining at older i l)) (Some at) ss) ≡ newest_at older (written c remaining at older (Chained i l ∷ ss))
       last_of None = refl
       last_of (Some o) = refl

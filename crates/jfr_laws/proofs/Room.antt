@@ -13,7 +13,7 @@ use Rattle.jfr_chunk.specs.Reach.{marked}
 use Rattle.jfr_chunk.specs.Written.{Group, by_pool, entry_bytes, group_bytes}
 use Rattle.jfr_chunk.proofs.AllLaws.{all_append}
 use Rattle.jfr_laws.proofs.Marks.{all_marked, fewer, marked_append}
-use Rattle.jfr_laws.specs.InChunk.{ConstantStands, Constants, PoolStands, Pools}
+use Rattle.jfr_laws.specs.InChunk.{ConstantStands, AreConstants, PoolStands, ArePools}
 use Rattle.jfr_laws.proofs.Groups.{apart, in_front, by_front}
 
 -- The shortest spelling of m isn't longer than any spelling of n, if m isn't above n.
@@ -47,12 +47,12 @@ module _ (c : List ℕ) (k : Classes) where
       let v : x.value_at ≤ x.end = s.order in
       (sym s.begins, omega arith)
 
-  constants_order : (class at : ℕ) (xs : List Constant) (to : ℕ) → Constants c k class at xs to → at ≤ to
+  constants_order : (class at : ℕ) (xs : List Constant) (to : ℕ) → AreConstants c k class at xs to → at ≤ to
   constants_order class at [] to s = let e : to ≡ at = s in omega arith
   constants_order class at (x ∷ xs) to s = omega (arith, constant_order class at x s.0, constants_order class x.end xs to s.1)
 
   -- The marked entries of a pool.
-  constants_room : (checkpoint number class at : ℕ) (xs : List Constant) (to : ℕ) (marks : List Bool) → Constants c k class at xs to
+  constants_room : (checkpoint number class at : ℕ) (xs : List Constant) (to : ℕ) (marks : List Bool) → AreConstants c k class at xs to
       → length (flat_map (entry_bytes c) (marked marks (map (entry_of checkpoint number class) xs))) + at ≤ to
   constants_room checkpoint number class at xs to [] s = omega (arith, constants_order class at xs to s)
   constants_room checkpoint number class at [] to (m ∷ ms) s = let e : to ≡ at = s in omega arith
@@ -92,7 +92,7 @@ module _ (c : List ℕ) (k : Classes) where
       record { count = omega (arith, i.count); bytes = omega (arith, i.bytes) }
 
   -- The groups of the marked entries of pools fit in the bytes of the pools.
-  pub have_room : (checkpoint number at : ℕ) (pools : List PoolAt) (to : ℕ) (marks : List Bool) → Pools c k at pools to → HaveRoom at pools to (by_pool (marked marks (entries_from checkpoint number pools)))
+  pub have_room : (checkpoint number at : ℕ) (pools : List PoolAt) (to : ℕ) (marks : List Bool) → ArePools c k at pools to → HaveRoom at pools to (by_pool (marked marks (entries_from checkpoint number pools)))
   have_room checkpoint number at [] to marks s = none marks
     where
       none : (marks : List Bool) → HaveRoom at [] to (by_pool (marked marks []))

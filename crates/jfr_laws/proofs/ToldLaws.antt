@@ -15,7 +15,7 @@ use Rattle.jfr_worklist.proofs.Members.{contains_in}
 use Rattle.jfr_chunk.specs.Parts.{Parts, EventAt, AreParts, metadata_at, pools_at}
 use Rattle.jfr_chunk.specs.Reach.{remain}
 use Rattle.jfr_chunk.specs.Written.{Group, distance, entry_bytes, sized}
-use Rattle.jfr_chunk.specs.Scrub.{OutputRecord, Whole, Chained, Rebuilt, Written, bytes_of, groups_of, header_with, is_kept_or_metadata, last_at, moved, older_after, output_record_by, output_record_of, output_records, record_of, scrub_with, written, written_anew}
+use Rattle.jfr_chunk.specs.Scrub.{OutputRecord, Whole, Chained, Rebuilt, Written, bytes_of, groups_of, header_with, is_kept_or_metadata, newest_at, moved, newest_after, output_record_by, output_record_of, output_records, record_of, scrub_with, written, written_anew}
 use Rattle.jfr_chunk.proofs.AllLaws.{all_in, all_reverse}
 use Rattle.jfr_chunk.proofs.HasNodesLaws.{links_each}
 use Rattle.jfr_laws.specs.Told.{ToldRecord, Event, Metadata, after, body_from, last_from, metadata_from, pool_bytes, rendered, tail_bytes, told, told_by, told_bytes, told_head, told_pool, told_record}
@@ -45,7 +45,7 @@ pub record AreWritten (whole : Framed → List ℕ) (entry : EntryAt → List �
   pub new_bytes : (r : Framed) (x : List ℕ) (at : ℕ) (older : Option ℕ) → bytes (Rebuilt r x) at older ≡ x
   pub chained_bytes : (number : ℕ) (l : Link) (at : ℕ) (older : Option ℕ) → bytes (Chained number l) at older ≡ checkpoint_with entry c l (distance at older) (groups_of entries number)
   pub none : (at : ℕ) (older : Option ℕ) → lay at older [] ≡ []
-  pub next : (at : ℕ) (older : Option ℕ) (s : OutputRecord) (ss : List OutputRecord) → lay at older (s ∷ ss) ≡ record { output_record = s; at = at; older = older } ∷ lay (at + length (bytes s at older)) (older_after s at older) ss
+  pub next : (at : ℕ) (older : Option ℕ) (s : OutputRecord) (ss : List OutputRecord) → lay at older (s ∷ ss) ≡ record { output_record = s; at = at; newest = older } ∷ lay (at + length (bytes s at older)) (newest_after s at older) ss
 
 module _ (whole : Framed → List ℕ) (entry : EntryAt → List ℕ) (p : Parts) (entries : List EntryAt) (bytes : OutputRecord → ℕ → Option ℕ → List ℕ) (lay : ℕ → Option ℕ → List OutputRecord → List Written)
     (are : AreWritten whole entry p.bytes entries bytes lay) where
@@ -76,7 +76,7 @@ module _ (whole : Framed → List ℕ) (entry : EntryAt → List ℕ) (p : Parts
   bytes_same (Rebuilt r x) at older = sym (are.new_bytes r x at older)
   bytes_same (Chained number l) at older = checkpoint_same (groups_of entries number) l (distance at older) ∙ sym (are.chained_bytes number l at older)
 
-  after_same : (s : OutputRecord) (at : ℕ) (older : Option ℕ) → after (shown s) at older ≡ older_after s at older
+  after_same : (s : OutputRecord) (at : ℕ) (older : Option ℕ) → after (shown s) at older ≡ newest_after s at older
   after_same (Whole r) at older = by_test (r.at == m)
     where
       by_test : (t : Bool) → after (if t then Metadata (whole r) else Event (whole r)) at older ≡ older
@@ -87,41 +87,41 @@ module _ (whole : Framed → List ℕ) (entry : EntryAt → List ℕ) (p : Parts
 
   -- The bytes of all.
   abbrev body : ℕ → Option ℕ → List OutputRecord → List ℕ
-  body at older ss = flat_map (λ w. bytes w.output_record w.at w.older) (lay at older ss)
+  body at older ss = flat_map (λ w. bytes w.output_record w.at w.newest) (lay at older ss)
 
   body_same : (ss : List OutputRecord) (at : ℕ) (older : Option ℕ) → body_from at older (map shown ss) ≡ body at older ss
-  body_same [] at older = sym (ap (flat_map (λ w. bytes w.output_record w.at w.older)) (are.none at older))
+  body_same [] at older = sym (ap (flat_map (λ w. bytes w.output_record w.at w.newest)) (are.none at older))
   body_same (s ∷ ss) at older =
       (λ i. bytes_same s at older i ++ body_from (at + length (bytes_same s at older i)) (after_same s at older i) (map shown ss))
-      ∙ (ap (λ z. bytes s at older ++ z) (body_same ss (at + length (bytes s at older)) (older_after s at older))
-      ∙ sym (ap (flat_map (λ w. bytes w.output_record w.at w.older)) (are.next at older s ss)))
+      ∙ (ap (λ z. bytes s at older ++ z) (body_same ss (at + length (bytes s at older)) (newest_after s at older))
+      ∙ sym (ap (flat_map (λ w. bytes w.output_record w.at w.newest)) (are.next at older s ss)))
 
   -- The offset of the last checkpoint.
-  last_step : (s : OutputRecord) (ss : List OutputRecord) (at : ℕ) (older : Option ℕ) → last_from at older (map shown (s ∷ ss)) ≡ last_from (at + length (bytes s at older)) (older_after s at older) (map shown ss)
+  last_step : (s : OutputRecord) (ss : List OutputRecord) (at : ℕ) (older : Option ℕ) → last_from at older (map shown (s ∷ ss)) ≡ last_from (at + length (bytes s at older)) (newest_after s at older) (map shown ss)
   last_step s ss at older = λ i. last_from (at + length (bytes_same s at older i)) (after_same s at older i) (map shown ss)
 
-  last_same : (ss : List OutputRecord) (at : ℕ) (older : Option ℕ) → last_from at older (map shown ss) ≡ last_at older (lay at older ss)
-  last_same [] at None = sym (ap (last_at None) (are.none at None))
-  last_same [] at (Some o) = sym (ap (last_at (Some o)) (are.none at (Some o)))
-  last_same (s ∷ ss) at None = last_step s ss at None ∙ (last_same ss (at + length (bytes s at None)) (older_after s at None) ∙ sym (ap (last_at None) (are.next at None s ss)))
-  last_same (s ∷ ss) at (Some o) = last_step s ss at (Some o) ∙ (last_same ss (at + length (bytes s at (Some o))) (older_after s at (Some o)) ∙ sym (ap (last_at (Some o)) (are.next at (Some o) s ss)))
+  last_same : (ss : List OutputRecord) (at : ℕ) (older : Option ℕ) → last_from at older (map shown ss) ≡ newest_at older (lay at older ss)
+  last_same [] at None = sym (ap (newest_at None) (are.none at None))
+  last_same [] at (Some o) = sym (ap (newest_at (Some o)) (are.none at (Some o)))
+  last_same (s ∷ ss) at None = last_step s ss at None ∙ (last_same ss (at + length (bytes s at None)) (newest_after s at None) ∙ sym (ap (newest_at None) (are.next at None s ss)))
+  last_same (s ∷ ss) at (Some o) = last_step s ss at (Some o) ∙ (last_same ss (at + length (bytes s at (Some o))) (newest_after s at (Some o)) ∙ sym (ap (newest_at (Some o)) (are.next at (Some o) s ss)))
 
   -- The offset of the metadata record.
-  moved_here : (s : OutputRecord) (at : ℕ) (older : Option ℕ) (ws : List Written) → ((record_of s).at == m) ≡ true → at ≡ moved (record { output_record = s; at = at; older = older } ∷ ws) m
+  moved_here : (s : OutputRecord) (at : ℕ) (older : Option ℕ) (ws : List Written) → ((record_of s).at == m) ≡ true → at ≡ moved (record { output_record = s; at = at; newest = older } ∷ ws) m
   moved_here s at older ws e = rw e refl
 
-  moved_on : (s : OutputRecord) (at : ℕ) (older : Option ℕ) (ws : List Written) → ((record_of s).at == m) ≡ false → moved ws m ≡ moved (record { output_record = s; at = at; older = older } ∷ ws) m
+  moved_on : (s : OutputRecord) (at : ℕ) (older : Option ℕ) (ws : List Written) → ((record_of s).at == m) ≡ false → moved ws m ≡ moved (record { output_record = s; at = at; newest = older } ∷ ws) m
   moved_on s at older ws e = rw e refl
 
   metadata_same : (ss : List OutputRecord) (at : ℕ) (older : Option ℕ) → AllByRecursion (IsApart m) ss → metadata_from at older (map shown ss) ≡ moved (lay at older ss) m
   metadata_same [] at older a = sym (ap (λ z. moved z m) (are.none at older))
   metadata_same (Whole r ∷ ss) at older a = by_test (r.at == m) refl (metadata_same ss (at + length (whole r)) older a.1) ∙ sym (ap (λ z. moved z m) laid)
     where
-      laid : lay at older (Whole r ∷ ss) ≡ record { output_record = Whole r; at = at; older = older } ∷ lay (at + length (whole r)) older ss
-      laid = are.next at older (Whole r) ss ∙ ap (λ z. record { output_record = Whole r; at = at; older = older } ∷ lay (at + length z) older ss) (are.whole_bytes r at older)
+      laid : lay at older (Whole r ∷ ss) ≡ record { output_record = Whole r; at = at; newest = older } ∷ lay (at + length (whole r)) older ss
+      laid = are.next at older (Whole r) ss ∙ ap (λ z. record { output_record = Whole r; at = at; newest = older } ∷ lay (at + length z) older ss) (are.whole_bytes r at older)
 
       by_test : (t : Bool) → (r.at == m) ≡ t → metadata_from (at + length (whole r)) older (map shown ss) ≡ moved (lay (at + length (whole r)) older ss) m
-          → metadata_from at older ((if t then Metadata (whole r) else Event (whole r)) ∷ map shown ss) ≡ moved (record { output_record = Whole r; at = at; older = older } ∷ lay (at + length (whole r)) older ss) m
+          → metadata_from at older ((if t then Metadata (whole r) else Event (whole r)) ∷ map shown ss) ≡ moved (record { output_record = Whole r; at = at; newest = older } ∷ lay (at + length (whole r)) older ss) m
       by_test true e i = moved_here (Whole r) at older (lay (at + length (whole r)) older ss) e
       by_test false e i = i ∙ moved_on (Whole r) at older (lay (at + length (whole r)) older ss) e
   metadata_same (Rebuilt r x ∷ ss) at older a = moved_here (Rebuilt r x) at older (lay (at + length (bytes (Rebuilt r x) at older)) older ss) a.0 ∙ sym (ap (λ z. moved z m) (are.next at older (Rebuilt r x) ss))
@@ -131,7 +131,7 @@ module _ (whole : Framed → List ℕ) (entry : EntryAt → List ℕ) (p : Parts
       ∙ (moved_on (Chained number l) at older (lay (at + length (bytes (Chained number l) at older)) (Some at) ss) a.0 ∙ sym (ap (λ z. moved z m) (are.next at older (Chained number l) ss))))
 
   pub rendered_same : (ss : List OutputRecord) → AllByRecursion (IsApart m) ss
-      → header_with p.bytes (68 + length (body 68 None ss)) (last_at None (lay 68 None ss)) (moved (lay 68 None ss) m) ++ body 68 None ss ≡ rendered (told_by whole entry p entries ss)
+      → header_with p.bytes (68 + length (body 68 None ss)) (newest_at None (lay 68 None ss)) (moved (lay 68 None ss) m) ++ body 68 None ss ≡ rendered (told_by whole entry p entries ss)
   unfolding rendered
   rendered_same ss a = λ i. header_with p.bytes (68 + length (sym (body_same ss 68 None) i)) (sym (last_same ss 68 None) i) (sym (metadata_same ss 68 None a) i) ++ sym (body_same ss 68 None) i
 

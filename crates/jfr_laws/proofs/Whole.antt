@@ -13,7 +13,7 @@ use Rattle.jfr_frame.proofs.RecordLaws.{record_one}
 use Rattle.jfr_pool.specs.declared.entry.EntryAt.{EntryAt}
 use Rattle.jfr_chunk.specs.Parts.{Parts, EventAt, AreParts, metadata_at}
 use Rattle.jfr_chunk.specs.Reach.{marked}
-use Rattle.jfr_chunk.specs.Scrub.{Written, is_kept_or_metadata, written_anew, output_records, written, last_at, moved, assembled}
+use Rattle.jfr_chunk.specs.Scrub.{Written, is_kept_or_metadata, written_anew, output_records, written, newest_at, moved, assembled}
 use Rattle.jfr_worklist.proofs.Members.{contains_in}
 use Rattle.jfr_chunk.proofs.TestLaws.{is_eq}
 use Rattle.jfr_laws.proofs.Order.{Numbered, numbered_at, found_numbered}
@@ -73,7 +73,7 @@ module _ (slim : Option (List ℕ)) (p : Parts) (kept : List EventAt) (marks : L
 
   -- The offsets of the output's last checkpoint and of its metadata record.
   abbrev pub last_of : ℕ
-  last_of = last_at None written_of
+  last_of = newest_at None written_of
 
   abbrev pub metadata_of : ℕ
   metadata_of = moved written_of (metadata_at p.bytes)

@@ -49,9 +49,9 @@ pub record ConstantStands (c : List ℕ) (k : Classes) (class at : ℕ) (x : Con
   pub exact : Exactly (value_format k (inline class)) (slice_range c x.value_at x.end) x.value
 
 -- The bytes spell constants, one after another.
-abbrev pub Constants : List ℕ → Classes → ℕ → ℕ → List Constant → ℕ → Type 0
-Constants c k class at [] to = to ≡ at
-Constants c k class at (x ∷ xs) to = ConstantStands c k class at x × Constants c k class x.end xs to
+abbrev pub AreConstants : List ℕ → Classes → ℕ → ℕ → List Constant → ℕ → Type 0
+AreConstants c k class at [] to = to ≡ at
+AreConstants c k class at (x ∷ xs) to = ConstantStands c k class at x × AreConstants c k class x.end xs to
 
 -- The bytes from an offset up to another spell a pool: its class and its count, then its constants.
 pub record PoolStands (c : List ℕ) (k : Classes) (at : ℕ) (p : PoolAt) (to : ℕ) : Type 0 where
@@ -60,12 +60,12 @@ pub record PoolStands (c : List ℕ) (k : Classes) (at : ℕ) (p : PoolAt) (to :
   pub class : IntAt c at count_at p.class
   pub known : pool_check k p.class ≡ None
   pub count : IntAt c count_at first (length p.constants)
-  pub constants : Constants c k p.class first p.constants to
+  pub constants : AreConstants c k p.class first p.constants to
 
 -- The bytes spell pools, one after another.
-abbrev pub Pools : List ℕ → Classes → ℕ → List PoolAt → ℕ → Type 0
-Pools c k at [] to = to ≡ at
-Pools c k at (p ∷ ps) to = (m : ℕ) × PoolStands c k at p m × Pools c k m ps to
+abbrev pub ArePools : List ℕ → Classes → ℕ → List PoolAt → ℕ → Type 0
+ArePools c k at [] to = to ≡ at
+ArePools c k at (p ∷ ps) to = (m : ℕ) × PoolStands c k at p m × ArePools c k m ps to
 
 -- The bytes from an offset up to an end spell a checkpoint's body.
 pub record BodyStands (c : List ℕ) (k : Classes) (end at : ℕ) (pools : List PoolAt) : Type 0 where
@@ -81,4 +81,4 @@ pub record BodyStands (c : List ℕ) (k : Classes) (end at : ℕ) (pools : List 
   pub delta_spelled : IntAt c delta_at delta_end word
   pub kind_within : delta_end + 1 ≤ end
   pub count : IntAt c (delta_end + 1) first (length pools)
-  pub rest : Pools c k first pools end
+  pub rest : ArePools c k first pools end

@@ -1,4 +1,4 @@
--- When two chunks agree on all that stays of them.
+-- When two chunks agree on all that remains of them.
 use Rattle.std.specs.Prelude.{◌≡◌, ℕ, ◌+◌, ◌==◌, Bool, List, [], ◌∷◌, length, map, Option, Some, None, ⊤, if◌then◌else◌}
 use Rattle.jfr_frame.specs.Records.{record_bytes}
 use Rattle.jfr_pool.specs.declared.entry.EntryAt.{EntryAt}
@@ -51,7 +51,7 @@ outline_of p kept (Chained number l) = OfCheckpoint number (told_head p.bytes l)
 abbrev pub outlines : Option (List ℕ) → Parts → List EventAt → List Outline
 outlines slim p kept = map (outline_of p kept) (output_records slim p kept)
 
--- Two chunks agree on all that stays. The kept events have the same classes and bytes. The headers agree except
+-- Two chunks agree on all that remains. The kept events have the same classes and bytes. The headers agree except
 -- for the size and the positions. The output records come in the same order, with the same metadata record and
 -- equal heads of checkpoints. The entries that remain in the first chunk are among those of the second, with the
 -- same bytes, in the same order, checkpoints and pools; and no other entry of the second is in force for what

@@ -47,34 +47,34 @@ pool_bytes g = spell g.class ++ (spell (length g.entries) ++ flat_map (λ x. x) 
 abbrev pub tail_bytes : ToldCheckpoint → ℕ → List ℕ
 tail_bytes k delta = k.type_bytes ++ (k.times ++ (spell delta ++ (k.kind ++ (spell (length k.pools) ++ flat_map pool_bytes k.pools))))
 
--- A record at this offset of the output, with the older checkpoint at `older`, if there is one.
+-- A record at this offset of the output, with the newest checkpoint before it at `newest`, if there is one.
 abbrev pub told_bytes : ToldRecord → ℕ → Option ℕ → List ℕ
-told_bytes (Event x) at older = x
-told_bytes (Metadata x) at older = x
-told_bytes (Checkpoint k) at older = sized k.width (tail_bytes k (distance at older))
+told_bytes (Event x) at newest = x
+told_bytes (Metadata x) at newest = x
+told_bytes (Checkpoint k) at newest = sized k.width (tail_bytes k (distance at newest))
 
--- The offset of the last checkpoint once this record is written at this offset.
+-- The offset of the newest checkpoint once this record is written at this offset.
 abbrev pub after : ToldRecord → ℕ → Option ℕ → Option ℕ
-after (Event x) at older = older
-after (Metadata x) at older = older
-after (Checkpoint k) at older = Some at
+after (Event x) at newest = newest
+after (Metadata x) at newest = newest
+after (Checkpoint k) at newest = Some at
 
 -- The records, one after another, from this offset on.
 abbrev pub body_from : ℕ → Option ℕ → List ToldRecord → List ℕ
-body_from at older [] = []
-body_from at older (t ∷ ts) = told_bytes t at older ++ body_from (at + length (told_bytes t at older)) (after t at older) ts
+body_from at newest [] = []
+body_from at newest (t ∷ ts) = told_bytes t at newest ++ body_from (at + length (told_bytes t at newest)) (after t at newest) ts
 
--- The offset of the last checkpoint; 0 if there is none.
+-- The offset of the newest checkpoint; 0 if there is none.
 abbrev pub last_from : ℕ → Option ℕ → List ToldRecord → ℕ
-last_from at older [] = unwrap_or older 0
-last_from at older (t ∷ ts) = last_from (at + length (told_bytes t at older)) (after t at older) ts
+last_from at newest [] = unwrap_or newest 0
+last_from at newest (t ∷ ts) = last_from (at + length (told_bytes t at newest)) (after t at newest) ts
 
 -- The offset of the metadata record; 0 if there is none.
 abbrev pub metadata_from : ℕ → Option ℕ → List ToldRecord → ℕ
-metadata_from at older [] = 0
-metadata_from at older (Event x ∷ ts) = metadata_from (at + length x) older ts
-metadata_from at older (Metadata x ∷ ts) = at
-metadata_from at older (Checkpoint k ∷ ts) = metadata_from (at + length (told_bytes (Checkpoint k) at older)) (Some at) ts
+metadata_from at newest [] = 0
+metadata_from at newest (Event x ∷ ts) = metadata_from (at + length x) newest ts
+metadata_from at newest (Metadata x ∷ ts) = at
+metadata_from at newest (Checkpoint k ∷ ts) = metadata_from (at + length (told_bytes (Checkpoint k) at newest)) (Some at) ts
 
 -- The output that tells this. No chunk is mentioned.
 unfoldable pub rendered : Told → List ℕ

@@ -33,14 +33,14 @@ pub fn output_is_what_it_tells()
     ensures { (slim : Option (List ℕ)) (p : Parts) (kept : List EventAt) → AreParts p → scrub_with slim p kept ≡ rendered (told slim p kept) }
 {}
 
-/// If two accepted chunks agree on all that stays, their outputs are equal, byte for byte. So nothing else of a
+/// If two accepted chunks agree on all that remains, their outputs are equal, byte for byte. So nothing else of a
 /// chunk can be found out from its output.
 #[tactic(auto, using(crate::proofs::OnlyKept::same_scrub))]
-pub fn only_what_stays_matters()
+pub fn only_what_remains_matters()
     ensures { (slim other : Option (List ℕ)) (p q : Parts) (kept others : List EventAt) → AreParts p → AreParts q → AreEvents p kept → AreEvents q others → SameKept slim other p q kept others → scrub_with slim p kept ≡ scrub_with other q others }
 {}
 
-/// A chunk agrees with itself on all that stays, so the premise of `only_what_stays_matters` can be met.
+/// A chunk agrees with itself on all that remains, so the premise of `only_what_remains_matters` can be met.
 pub fn chunk_agrees_with_itself()
     ensures { (slim : Option (List ℕ)) (p : Parts) (kept : List EventAt) → AreParts p → AreEvents p kept → SameKept slim slim p p kept kept }
 {}

@@ -7,6 +7,6 @@
 mod laws;
 
 pub use laws::{
-    chunk_agrees_with_itself, filter_keeps_its_output, only_what_stays_matters,
+    chunk_agrees_with_itself, filter_keeps_its_output, only_what_remains_matters,
     output_is_what_it_tells, scrubbed_is_kept,
 };

@@ -14,7 +14,7 @@ use Rattle.jfr_pool.specs.declared.link.Link.{Link}
 use Rattle.jfr_pool.specs.declared.entry.EntryAt.{EntryAt}
 use Rattle.jfr_pool.specs.Entries.{entry_node}
 use Rattle.jfr_chunk.specs.Parts.{Parts, EventAt, metadata_at}
-use Rattle.jfr_chunk.specs.Scrub.{OutputRecord, Whole, Chained, Rebuilt, Written, header_with, last_at, moved, older_after, record_of}
+use Rattle.jfr_chunk.specs.Scrub.{OutputRecord, Whole, Chained, Rebuilt, Written, header_with, newest_at, moved, newest_after, record_of}
 use Rattle.jfr_chunk.specs.Written.{Group, distance, sized}
 use Rattle.jfr_rewrite.specs.Changed.{Change, changed}
 use Rattle.jfr_rewrite.specs.Rewrite.{Rewrite, bytes_by, changed_bytes, checkpoint_tail, entry_bytes, event_bytes, event_tail, event_there, fewest, group_bytes, new_bytes, resized, rewritten, whole_bytes, written_by}
@@ -27,7 +27,7 @@ use Rattle.jfr_mask.proofs.ExchangeLaws.{all_mapped}
 use Rattle.jfr_mask.proofs.OneToOnes.{flat_map_alike, flat_map_mapped, same_length}
 use Rattle.jfr_mask.proofs.SecrecyLaws.{masked_alike, texts_exchanged}
 
-last_cons : (o : Option ℕ) (x : Written) (ws : List Written) → last_at o (x ∷ ws) ≡ last_at (older_after x.output_record x.at o) ws
+last_cons : (o : Option ℕ) (x : Written) (ws : List Written) → newest_at o (x ∷ ws) ≡ newest_at (newest_after x.output_record x.at o) ws
 last_cons None x ws = refl
 last_cons (Some z) x ws = refl
 
@@ -59,7 +59,7 @@ module _ (w : Rewrite) (p : Parts) (kept : List EventAt) (entries : List EntryAt
   bytes_are (Rebuilt r x) at older = refl
   bytes_are (Chained number l) at older = refl
 
-  older_is : (o : OutputRecord) (at : ℕ) (older : Option ℕ) → older_after o at older ≡ origin_older (origin_of p kept entries o) at older
+  older_is : (o : OutputRecord) (at : ℕ) (older : Option ℕ) → newest_after o at older ≡ origin_older (origin_of p kept entries o) at older
   older_is (Whole r) at older = by_event (event_there kept r)
     where
       by_event : (o : Option EventAt) → older ≡ origin_older (whole_origin p r o) at older
@@ -208,14 +208,14 @@ module _ (m : Masking) (g : List ℕ → List ℕ) (ex : IsExchange m.known g) (
     record_alike o u a at older =
         bytes_are two q others (entries_left m q others) u at older ∙ (origin_alike (origins o) (other_origins u) a.origin at older ∙ sym (bytes_are one p kept (entries_left m p kept) o at older))
 
-    older_alike : (o u : OutputRecord) → AlikeRecord m g p q kept others o u → (at : ℕ) (older : Option ℕ) → older_after u at older ≡ older_after o at older
+    older_alike : (o u : OutputRecord) → AlikeRecord m g p q kept others o u → (at : ℕ) (older : Option ℕ) → newest_after u at older ≡ newest_after o at older
     older_alike o u a at older =
         older_is two q others (entries_left m q others) u at older ∙ (same_older (origins o) (other_origins u) a.origin at older ∙ sym (older_is one p kept (entries_left m p kept) o at older))
 
-    -- What is written of all: the bytes, the last checkpoint, and the position of the metadata record.
+    -- What is written of all: the bytes, the newest checkpoint, and the position of the metadata record.
     record AllWritten (xs ys : List OutputRecord) (at : ℕ) (older : Option ℕ) : Type 0 where
       bytes : flat_map (bytes_by second) (written_by second at older ys) ≡ flat_map (bytes_by first) (written_by first at older xs)
-      last : last_at older (written_by second at older ys) ≡ last_at older (written_by first at older xs)
+      last : newest_at older (written_by second at older ys) ≡ newest_at older (written_by first at older xs)
       position : moved (written_by second at older ys) (metadata_at q.bytes) ≡ moved (written_by first at older xs) (metadata_at p.bytes)
 
     all_written : (xs ys : List OutputRecord) (at : ℕ) (older : Option ℕ) → OneToOne (AlikeRecord m g p q kept others) xs ys → AllWritten xs ys at older
@@ -224,25 +224,25 @@ module _ (m : Masking) (g : List ℕ → List ℕ) (ex : IsExchange m.known g) (
     all_written (x ∷ xs) [] at older a = absurd a
     all_written (x ∷ xs) (y ∷ ys) at older a =
         let same : second y at older ≡ first x at older = record_alike x y a.0 at older in
-        let next : older_after y at older ≡ older_after x at older = older_alike x y a.0 at older in
+        let next : newest_after y at older ≡ newest_after x at older = older_alike x y a.0 at older in
         let to : ℕ = at + length (first x at older) in
-        let i : AllWritten xs ys to (older_after x at older) = all_written xs ys to (older_after x at older) a.1 in
+        let i : AllWritten xs ys to (newest_after x at older) = all_written xs ys to (newest_after x at older) a.1 in
         let ws : ℕ → Option ℕ → List Written = λ n o. written_by second n o ys in
-        let rest : List Written = ws (at + length (second y at older)) (older_after y at older) in
-        let moves : rest ≡ ws to (older_after x at older) = ap (λ z. ws (at + length z) (older_after y at older)) same ∙ ap (ws to) next in
-        let u : Written = record { output_record = y; at = at; older = older } in
-        let v : Written = record { output_record = x; at = at; older = older } in
+        let rest : List Written = ws (at + length (second y at older)) (newest_after y at older) in
+        let moves : rest ≡ ws to (newest_after x at older) = ap (λ z. ws (at + length z) (newest_after y at older)) same ∙ ap (ws to) next in
+        let u : Written = record { output_record = y; at = at; newest = older } in
+        let v : Written = record { output_record = x; at = at; newest = older } in
         record {
-          bytes = ap (λ z. second y at older ++ flat_map (bytes_by second) z) moves ∙ (ap (λ z. z ++ flat_map (bytes_by second) (ws to (older_after x at older))) same ∙ ap (λ z. first x at older ++ z) i.bytes);
+          bytes = ap (λ z. second y at older ++ flat_map (bytes_by second) z) moves ∙ (ap (λ z. z ++ flat_map (bytes_by second) (ws to (newest_after x at older))) same ∙ ap (λ z. first x at older ++ z) i.bytes);
           last =
               last_cons older u rest
-              ∙ (ap (last_at (older_after y at older)) moves ∙ (ap (λ z. last_at z (ws to (older_after x at older))) next ∙ (i.last ∙ sym (last_cons older v (written_by first to (older_after x at older) xs)))));
+              ∙ (ap (newest_at (newest_after y at older)) moves ∙ (ap (λ z. newest_at z (ws to (newest_after x at older))) next ∙ (i.last ∙ sym (last_cons older v (written_by first to (newest_after x at older) xs)))));
           position =
               moved_cons u rest (metadata_at q.bytes)
               ∙ (ap (λ z. if z then at else moved rest (metadata_at q.bytes)) (sym a.0.position)
               ∙ (ap (λ z. if (record_of x).at == metadata_at p.bytes then at else moved z (metadata_at q.bytes)) moves
               ∙ (ap (λ z. if (record_of x).at == metadata_at p.bytes then at else z) i.position
-              ∙ sym (moved_cons v (written_by first to (older_after x at older) xs) (metadata_at p.bytes)))));
+              ∙ sym (moved_cons v (written_by first to (newest_after x at older) xs) (metadata_at p.bytes)))));
         }
 
     chunk_alike : rewritten two q others (entries_left m q others) ≡ rewritten one p kept (entries_left m p kept)
@@ -252,9 +252,9 @@ module _ (m : Masking) (g : List ℕ → List ℕ) (ex : IsExchange m.known g) (
         let ws : List Written = written_by second 68 None (records_out m q others) in
         let ws_here : List Written = written_by first 68 None (records_out m p kept) in
         let b : List ℕ = flat_map (bytes_by first) ws_here in
-        let l : ℕ = last_at None ws_here in
+        let l : ℕ = newest_at None ws_here in
         let position : ℕ = moved ws_here (metadata_at p.bytes) in
-        ap (λ z. header_with q.bytes (68 + length z) (last_at None ws) (moved ws (metadata_at q.bytes)) ++ z) i.bytes
+        ap (λ z. header_with q.bytes (68 + length z) (newest_at None ws) (moved ws (metadata_at q.bytes)) ++ z) i.bytes
         ∙ (ap (λ z. header_with q.bytes (68 + length b) z (moved ws (metadata_at q.bytes)) ++ b) i.last
         ∙ (ap (λ z. header_with q.bytes (68 + length b) l z ++ b) i.position
         ∙ ap (λ (h : Header). header_bytes (record h { size = 68 + length b; pools = l; metadata = position }) ++ b) (sym alike.header)))

@@ -6,7 +6,7 @@ use Rattle.std.specs.Str.{bytes_eq}
 use Rattle.std.proofs.Common.{ap, refl, sym, ◌∙◌}
 use Rattle.std.proofs.lemmas.List.{map-append}
 use Rattle.jfr_mask.specs.Masked.{numbered_text}
-use Rattle.jfr_mask.specs.Pseudonyms.{has_text, is_descriptor, number_of, pseudonym, shown, stays, with_text, with_texts}
+use Rattle.jfr_mask.specs.Pseudonyms.{has_text, is_descriptor, number_of, pseudonym, shown, is_unmasked, with_text, with_texts}
 use Rattle.jfr_mask.specs.Secrecy.{IsExchange}
 use Rattle.jfr_mask.proofs.NumberLaws.{eq_is, eq_self}
 
@@ -48,7 +48,7 @@ module _ (known : List ℕ → Bool) (g : List ℕ → List ℕ) (ex : IsExchang
   -- The texts that get numbers are the exchanged ones.
   pub numbered_exchanged : (o : Option (List ℕ)) → numbered_text known (option_map g o) ≡ map g (numbered_text known o)
   numbered_exchanged None = refl
-  numbered_exchanged (Some t) = ap (λ b. if b then [] else g t ∷ []) (ex.others t) ∙ by_stays (stays known t)
+  numbered_exchanged (Some t) = ap (λ b. if b then [] else g t ∷ []) (ex.others t) ∙ by_stays (is_unmasked known t)
     where
       by_stays : (b : Bool) → (if b then [] else g t ∷ []) ≡ map g (if b then [] else t ∷ [])
       by_stays true = refl
@@ -56,9 +56,9 @@ module _ (known : List ℕ → Bool) (g : List ℕ → List ℕ) (ex : IsExchang
 
   -- With the exchanged dictionary, the same is shown.
   pub shown_alike : (d : List (List ℕ)) (t : List ℕ) → shown known (map g d) (g t) ≡ shown known d t
-  shown_alike d t = ap (λ b. if b then g t else pseudonym (is_descriptor (g t)) (number_of (map g d) (g t))) (ex.others t) ∙ by_stays (stays known t) refl
+  shown_alike d t = ap (λ b. if b then g t else pseudonym (is_descriptor (g t)) (number_of (map g d) (g t))) (ex.others t) ∙ by_stays (is_unmasked known t) refl
     where
-      by_stays : (b : Bool) → stays known t ≡ b → (if b then g t else pseudonym (is_descriptor (g t)) (number_of (map g d) (g t))) ≡ (if b then t else pseudonym (is_descriptor t) (number_of d t))
+      by_stays : (b : Bool) → is_unmasked known t ≡ b → (if b then g t else pseudonym (is_descriptor (g t)) (number_of (map g d) (g t))) ≡ (if b then t else pseudonym (is_descriptor t) (number_of d t))
       by_stays true e = ex.same t e
       by_stays false e = ap (λ z. pseudonym z (number_of (map g d) (g t))) (ex.descriptor t) ∙ ap (pseudonym (is_descriptor t)) (same_number d t)
 

@@ -15,7 +15,7 @@ use Rattle.jfr_chunk.specs.Parts.{Parts}
 use Rattle.jfr_mask.specs.Masked.{numbered_text, string_bytes, string_text}
 use Rattle.jfr_mask.specs.MaskedLeaves.{leaf_text}
 use Rattle.jfr_mask.specs.Noted.{AreNoted, IsMaskedAt, entry_by, entry_text}
-use Rattle.jfr_mask.specs.Pseudonyms.{Extends, is_descriptor, number_of, pseudonym, shown, stays, with_text, with_texts}
+use Rattle.jfr_mask.specs.Pseudonyms.{Extends, is_descriptor, number_of, pseudonym, shown, is_unmasked, with_text, with_texts}
 use Rattle.jfr_mask.specs.Written.{utf8_string}
 use Rattle.jfr_mask.proofs.NumberLaws.{at_number, has_at, has_one}
 
@@ -82,12 +82,12 @@ noted_same known d text index m =
     ap (λ b. with_texts d (if b then [] else text ∷ [])) m.hidden ∙ ap (λ b. if b then d else d ++ text ∷ []) (has_at d index text m.there)
 
 -- A text that is added has its number.
-pub masked_added : (known : List ℕ → Bool) (d : List (List ℕ)) (text : List ℕ) (index : ℕ) → stays known text ≡ false → suc index ≡ number_of (with_text d text) text → IsMaskedAt known (with_text d text) text index
+pub masked_added : (known : List ℕ → Bool) (d : List (List ℕ)) (text : List ℕ) (index : ℕ) → is_unmasked known text ≡ false → suc index ≡ number_of (with_text d text) text → IsMaskedAt known (with_text d text) text index
 masked_added known d text index h e =
     record { there = (let n : number_of (with_text d text) text - 1 ≡ index = omega (arith, e) in subst (λ z. slice_get (with_text d text) z ≡ Some text) n (at_number (with_text d text) text (has_one d text))); hidden = h }
 
 -- A string with what is shown for a text that isn't shown as it is.
-pub noted_string : (known : List ℕ → Bool) (d : List (List ℕ)) (text u : List ℕ) → stays known text ≡ false → u ≡ encode_utf8_all (shown known d text) → string_bytes (option_map (shown known d) (Some text)) ≡ utf8_string u
+pub noted_string : (known : List ℕ → Bool) (d : List (List ℕ)) (text u : List ℕ) → is_unmasked known text ≡ false → u ≡ encode_utf8_all (shown known d text) → string_bytes (option_map (shown known d) (Some text)) ≡ utf8_string u
 noted_string known d text u h e =
     let s : shown known d text ≡ pseudonym (is_descriptor text) (number_of d text) = ap (λ b. if b then text else pseudonym (is_descriptor text) (number_of d text)) h in
     ap text_bytes s ∙ (by_descriptor (is_descriptor text) (number_of d text) ∙ (ap filled (sym s) ∙ ap utf8_string (sym e)))
@@ -117,7 +117,7 @@ noted_ok p known d numbers l entry (Some index) s f h a =
     let r = noted_leads p known d numbers l entry index h (f index refl) a in
     sym (ap (λ o. with_texts d (numbered_text known o)) r.1 ∙ noted_same known d r.0 index r.2)
 
-pub added_number : {E : Type 0} (known : List ℕ → Bool) (old new : List (List ℕ)) (text : List ℕ) (r : Result ℕ E) → stays known text ≡ false → OnOk r (new ≡ with_text old text) → IfOk r (λ n. n ≡ number_of new text) → IfOk r (λ n. (index : ℕ) → n ≡ suc index → IsMaskedAt known new text index)
+pub added_number : {E : Type 0} (known : List ℕ → Bool) (old new : List (List ℕ)) (text : List ℕ) (r : Result ℕ E) → is_unmasked known text ≡ false → OnOk r (new ≡ with_text old text) → IfOk r (λ n. n ≡ number_of new text) → IfOk r (λ n. (index : ℕ) → n ≡ suc index → IsMaskedAt known new text index)
 added_number known old new text (Ok n) h e m = λ index q. subst (λ z. IsMaskedAt known z text index) (sym e) (masked_added known old text index h (sym q ∙ (m ∙ ap (λ z. number_of z text) e)))
 added_number known old new text (Err x) h e m = tt
 

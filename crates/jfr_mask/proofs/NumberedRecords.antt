@@ -24,7 +24,7 @@ use Rattle.jfr_laws.proofs.Passing.{clash}
 use Rattle.jfr_laws.proofs.Premises.{metadata_stands, recorded}
 use Rattle.jfr_laws.proofs.Quiet.{no_metadata_event}
 use Rattle.jfr_laws.proofs.Same.{chosen_events, event_of_chunk}
-use Rattle.jfr_output.specs.OutputRecords.{IsKeptEvent, whole_or}
+use Rattle.jfr_output.specs.RemainingRecords.{IsKeptEvent, whole_or}
 use Rattle.jfr_rewrite.proofs.Accepted.{computed}
 use Rattle.jfr_rewrite.proofs.Output.{find_in}
 use Rattle.jfr_mask.specs.declared.numbering.Numbering.{Numbering}

@@ -17,7 +17,7 @@ use Rattle.jfr_chunk.specs.Parts.{Parts}
 use Rattle.jfr_chunk.specs.Paths.{always, content_in, follow_while, string_of}
 use Rattle.jfr_rewrite.specs.Changed.{Change, plain, single_of}
 use Rattle.jfr_mask.specs.Fields.{Masks, is_masked_field, is_text}
-use Rattle.jfr_mask.specs.Pseudonyms.{stays}
+use Rattle.jfr_mask.specs.Pseudonyms.{is_unmasked}
 
 -- Whether a string with this holder is masked: its holder is a masked field; or it has none, as the value of a
 -- constant, and the constants are masked.
@@ -64,7 +64,7 @@ masking masked show p h s x =
 -- The text, if there is one, unless it is shown as it is.
 abbrev pub numbered_text : (List ℕ → Bool) → Option (List ℕ) → List (List ℕ)
 numbered_text known None = []
-numbered_text known (Some t) = if stays known t then [] else t ∷ []
+numbered_text known (Some t) = if is_unmasked known t then [] else t ∷ []
 
 -- The texts of the masked strings in a value, from left to right, without those that are shown as they are.
 abbrev mutual

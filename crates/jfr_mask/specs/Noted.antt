@@ -10,7 +10,7 @@ use Rattle.jfr_mask.specs.declared.numbering.GrowingDictionary.{GrowingDictionar
 use Rattle.jfr_mask.specs.declared.masker.Masker.{Masker}
 use Rattle.jfr_mask.specs.declared.numbering.Numbering.{Numbering}
 use Rattle.jfr_mask.specs.Maskers.{shown_by}
-use Rattle.jfr_mask.specs.Pseudonyms.{has_text, stays}
+use Rattle.jfr_mask.specs.Pseudonyms.{has_text, is_unmasked}
 
 -- The text to which an entry leads, from its value on. `constant_text` is that of the entry in force.
 abbrev pub entry_text : Parts → EntryAt → Option (List ℕ)
@@ -23,7 +23,7 @@ entry_by p l = option_and_then (λ key. number_in_force p.entries (l.class, key)
 -- The text has this index in the dictionary, and isn't shown as it is.
 pub record IsMaskedAt (known : List ℕ → Bool) (d : List (List ℕ)) (text : List ℕ) (index : ℕ) : Type 0 where
   pub there : slice_get d index ≡ Some text
-  pub hidden : stays known text ≡ false
+  pub hidden : is_unmasked known text ≡ false
 
 -- There is a number for each entry. If it isn't 0, it is that of the text to which the entry leads.
 pub record AreNoted (p : Parts) (known : List ℕ → Bool) (d : List (List ℕ)) (numbers : List ℕ) : Type 0 where
@@ -40,4 +40,4 @@ HasNoted m = AreNoted m.strings.chunk.now (has_text m.known.now) m.dictionary.no
 
 -- There is a text that isn't shown as it is, and these bytes are shown for it.
 abbrev pub IsShownBy : Masker → Option (List ℕ) → List ℕ → Type 0
-IsShownBy m found bytes = (text : List ℕ) × (found ≡ Some text) × (stays (has_text m.known.now) text ≡ false) × (bytes ≡ encode_utf8_all (shown_by m text))
+IsShownBy m found bytes = (text : List ℕ) × (found ≡ Some text) × (is_unmasked (has_text m.known.now) text ≡ false) × (bytes ≡ encode_utf8_all (shown_by m text))

@@ -54,10 +54,10 @@ abbrev pub pseudonym : Bool → ℕ → List ℕ
 pseudonym descriptor n = (if descriptor then codes "()masked-" else codes "masked-") ++ decimal n
 
 -- The text is shown as it is: it is empty or known.
-abbrev pub stays : (List ℕ → Bool) → List ℕ → Bool
-stays known [] = true
-stays known (c ∷ cs) = known (c ∷ cs)
+abbrev pub is_unmasked : (List ℕ → Bool) → List ℕ → Bool
+is_unmasked known [] = true
+is_unmasked known (c ∷ cs) = known (c ∷ cs)
 
 -- What is shown for a text: the text itself, or the pseudonym with its number.
 abbrev pub shown : (List ℕ → Bool) → List (List ℕ) → List ℕ → List ℕ
-shown known d t = if stays known t then t else pseudonym (is_descriptor t) (number_of d t)
+shown known d t = if is_unmasked known t then t else pseudonym (is_descriptor t) (number_of d t)

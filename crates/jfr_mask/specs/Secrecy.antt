@@ -16,15 +16,15 @@ use Rattle.jfr_laws.specs.Told.{told_header}
 use Rattle.jfr_rewrite.specs.Rewritten.{OneToOne}
 use Rattle.jfr_mask.specs.Masked.{is_masked_string, string_text}
 use Rattle.jfr_mask.specs.MaskOf.{Chosen, Event, Masking, Metadata, Origin, Pools, entries_left, events_kept, is_masked_in, origin_of, records_out}
-use Rattle.jfr_mask.specs.Pseudonyms.{is_descriptor, stays}
+use Rattle.jfr_mask.specs.Pseudonyms.{is_descriptor, is_unmasked}
 
 -- Other texts in place of texts: different ones for different ones. Texts that are shown as they are, which are the
 -- empty and the known ones, stay, and no other text becomes one of these. A text becomes a descriptor exactly if it is
 -- one.
 pub record IsExchange (known : List ℕ → Bool) (g : List ℕ → List ℕ) : Type 0 where
   pub one : (t u : List ℕ) → g t ≡ g u → t ≡ u
-  pub same : (t : List ℕ) → stays known t ≡ true → g t ≡ t
-  pub others : (t : List ℕ) → stays known (g t) ≡ stays known t
+  pub same : (t : List ℕ) → is_unmasked known t ≡ true → g t ≡ t
+  pub others : (t : List ℕ) → is_unmasked known (g t) ≡ is_unmasked known t
   pub descriptor : (t : List ℕ) → is_descriptor (g t) ≡ is_descriptor t
 
 -- The bytes and keys of two values without parts: those of masked strings have exchanged texts, or both none, so one can

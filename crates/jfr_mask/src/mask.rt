@@ -18,7 +18,7 @@ use crate::{Dictionary, Known, MaskFault, MaskedFields};
 use jfr_chunk::{Chunk, Kept};
 use jfr_filter::{Filter, Patterns};
 use jfr_output::slim_metadata;
-use jfr_rewrite::{Source, WriteFault, sizes_are_carried, write_chunk};
+use jfr_rewrite::{RewriteSource, WriteFault, sizes_are_carried, write_chunk};
 use std::alloc::Global;
 
 /// A masked chunk is below this length.
@@ -77,7 +77,7 @@ pub fn mask_chunk<'m>(
         dictionary,
         noted: &noted,
     };
-    let source = Source {
+    let source = RewriteSource {
         chunk: &*chunk,
         kept: &*kept,
         metadata: metadata.as_deref(),
@@ -91,7 +91,7 @@ pub fn mask_chunk<'m>(
 fn put_masked(
     alloc: Global,
     memory: Vec<u8>,
-    source: Source<'_, Masker<'_, '_>>,
+    source: RewriteSource<'_, Masker<'_, '_>>,
 ) -> Result<Vec<u8>, MaskFault>
     requires chunk { source.chunk.now ≡ source.rewriting.now.strings.chunk.now }
     requires plain { KnowsPlain source.rewriting.now.strings }

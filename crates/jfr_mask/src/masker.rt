@@ -44,7 +44,7 @@ impl Rewriter for Masker<'_, '_> {
 
     ghost suits = { λ m p. (p ≡ m.strings.chunk.now) × KnowsPlain m.strings × HasNoted m };
 
-    fn stays(&self, _chunk: &Chunk<'_>, node: Node<'_>) -> bool {
+    fn is_unchanged(&self, _chunk: &Chunk<'_>, node: Node<'_>) -> bool {
         self.strings.chunk.parts_are_valid();
         self.strings.are_none_in(node)
     }

@@ -7,7 +7,7 @@ ghost use Rattle.jfr_value.specs.Nodes.{IsValue, node_of};
 ghost use Rattle.jfr_pool.specs.Entries.{entry_node};
 ghost use Rattle.jfr_chunk.specs.Parts.{events_of, metadata_at};
 ghost use Rattle.jfr_chunk.specs.Reach.{kept_by};
-ghost use Rattle.jfr_output.specs.OutputRecords.{ShowsEvent, ShowsMetadata, output_record_as};
+ghost use Rattle.jfr_output.specs.RemainingRecords.{ShowsEvent, ShowsMetadata, output_record_for};
 ghost use Rattle.jfr_output.specs.Remaining.{NotFalling};
 ghost use Rattle.jfr_rewrite.specs.Copying.{LiesIn};
 ghost use Rattle.jfr_mask.specs.Masked.{is_string_leaf, numbered_text};
@@ -18,13 +18,13 @@ ghost use Rattle.jfr_mask.specs.Noted.{AreNoted, IsMaskedAt, NotesTexts, entry_b
 ghost use Rattle.jfr_mask.specs.Pseudonyms.{Extends, has_text, with_texts};
 
 use crate::noted::NotedTexts;
-use crate::shown::stays;
+use crate::shown::is_unmasked;
 use crate::texts::{MaskedStrings, leaf_text};
 use crate::{Dictionary, Known};
 use jfr_base::NoMemory;
 use jfr_chunk::Kept;
 use jfr_layout::Shape;
-use jfr_output::{Cursor, OutputRecord, entries_of, next_output_record};
+use jfr_output::{RecordCursor, RemainingRecord, entries_of, next_remaining_record};
 use jfr_pool::EntryAt;
 use jfr_value::{Leaf, Node, VisitLeaf, visit_leaves};
 use std::alloc::Global;
@@ -79,40 +79,40 @@ impl Numbering<'_> {
         ensures noted { OnOk result (NotesTexts self.now growing.new) }
     {
         self.strings.chunk.parts_are_valid();
-        let mut cursor = Cursor {
+        let mut cursor = RecordCursor {
             frame: 0,
             event: 0,
             link: 0,
         };
-        'output_records: while let Some(output_record) = next_output_record(
+        'output_records: while let Some(remaining_record) = next_remaining_record(
             self.strings.chunk,
             kept,
             &mut cursor,
         ) {
-            self.add_record(growing, entries, output_record)?;
+            self.add_record(growing, entries, remaining_record)?;
         }
         Ok(())
     }
 
-    /// Adds the texts of an output record.
+    /// Adds the texts of a remaining record.
     fn add_record(
         &self,
         growing: &mut GrowingDictionary,
         entries: &[EntryAt],
-        output_record: OutputRecord,
+        remaining_record: RemainingRecord,
     ) -> Result<(), NoMemory>
         requires plain { KnowsPlain self.now.strings }
         requires order { NotFalling 0 entries.now }
         requires values { AllByRecursion (IsEntryValue self.now.strings.chunk.now) entries.now }
         requires noted { NotesTexts self.now growing.old }
-        ensures ok { OnOk result ((m : Masking) (flags : List Bool) (slim : Option (List ℕ)) → IsMaskingBy self.now m → ShowsEvent self.now.strings.chunk.now flags output_record → ShowsMetadata (metadata_at self.now.strings.chunk.now.bytes) output_record → growing.new.dictionary ≡ with_texts growing.old.dictionary (origin_texts m self.now.strings.chunk.now (origin_of self.now.strings.chunk.now (kept_by self.now.strings.chunk.now flags) entries.now (output_record_as slim output_record)))) }
+        ensures ok { OnOk result ((m : Masking) (flags : List Bool) (slim : Option (List ℕ)) → IsMaskingBy self.now m → ShowsEvent self.now.strings.chunk.now flags remaining_record → ShowsMetadata (metadata_at self.now.strings.chunk.now.bytes) remaining_record → growing.new.dictionary ≡ with_texts growing.old.dictionary (origin_texts m self.now.strings.chunk.now (origin_of self.now.strings.chunk.now (kept_by self.now.strings.chunk.now flags) entries.now (output_record_for slim remaining_record)))) }
         ensures noted { OnOk result (NotesTexts self.now growing.new) }
     {
         self.strings.chunk.parts_are_valid();
-        match output_record {
-            OutputRecord::Event(number, _) => self.add_event(growing, number),
-            OutputRecord::Metadata(_) => Ok(()),
-            OutputRecord::Chained(number, _) => {
+        match remaining_record {
+            RemainingRecord::Event(number, _) => self.add_event(growing, number),
+            RemainingRecord::Metadata(_) => Ok(()),
+            RemainingRecord::Chained(number, _) => {
                 self.add_entries(growing, entries_of(entries, number))
             }
         }
@@ -284,7 +284,7 @@ fn add_unless_shown(known: &Known, dictionary: &mut Dictionary, text: &str) -> R
     ensures number { IfOk result (λ number. (index : ℕ) → number ≡ suc index → IsMaskedAt (has_text known.now) dictionary.new (chars text.now) index) }
     ensures grown { Extends dictionary.old dictionary.new }
 {
-    if stays(known, text) {
+    if is_unmasked(known, text) {
         return Ok(0);
     }
     dictionary.add(text)

@@ -1,7 +1,7 @@
 //! What is shown for a text.
 ghost use Rattle.std.specs.Prelude.{◌≡◌, ◌++◌, encode_utf8_all, codes, if◌then◌else◌, length, OnOk};
 ghost use Rattle.std.specs.Str.{chars};
-ghost use Rattle.jfr_mask.specs.Pseudonyms.{has_text, is_descriptor, pseudonym, shown, stays};
+ghost use Rattle.jfr_mask.specs.Pseudonyms.{has_text, is_descriptor, is_unmasked, pseudonym, shown};
 ghost use Rattle.jfr_mask.specs.Written.{shown_bytes};
 
 use crate::{Dictionary, Known};
@@ -28,7 +28,7 @@ impl<'t> Shown<'t> {
     pub fn of(known: &Known, dictionary: &Dictionary, text: &'t str) -> Shown<'t>
         ensures { shown_bytes result ≡ encode_utf8_all (shown (has_text known.now) dictionary.now (chars text.now)) }
     {
-        if stays(known, text) {
+        if is_unmasked(known, text) {
             return Shown::Text(text);
         }
         Shown::pseudonym(text, dictionary.number_or_next(text))
@@ -66,8 +66,8 @@ impl<'t> Shown<'t> {
 }
 
 /// Whether the text is empty or known.
-pub(crate) fn stays(known: &Known, text: &str) -> bool
-    ensures { result ≡ stays (has_text known.now) (chars text.now) }
+pub(crate) fn is_unmasked(known: &Known, text: &str) -> bool
+    ensures { result ≡ is_unmasked (has_text known.now) (chars text.now) }
 {
     if text.is_empty() {
         return true;

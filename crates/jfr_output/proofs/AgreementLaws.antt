@@ -1,4 +1,4 @@
--- Recordings that agree on all that stays of them have the same output, if chunks that do have the same.
+-- Recordings that agree on all that remains of them have the same output, if chunks that do have the same.
 use Rattle.std.specs.Prelude.{◌≡◌, ℕ, List, [], ◌∷◌, map, true, Ok, Option, Some, None}
 use Rattle.std.specs.List.{AllByRecursion}
 use Rattle.std.proofs.Common.{ap, refl}

@@ -20,10 +20,10 @@ use Rattle.jfr_chunk.specs.Scrub.{OutputRecord, output_record_by, output_record_
 use Rattle.jfr_laws.proofs.Marks.{all_marked}
 use Rattle.jfr_laws.proofs.Order.{Numbered, numbered_at, found_numbered, output_records_in, chained_of}
 use Rattle.jfr_laws.proofs.Premises.{all_links, IsCheckpoint, chained_checkpoints, metadata_stands, ready}
-use Rattle.jfr_output.specs.declared.output_records.Cursor.{Cursor}
-use Rattle.jfr_output.specs.declared.output_records.OutputRecord as contents
-use Rattle.jfr_output.specs.declared.output_records.OutputRecord.TheVariants as declared_records
-use Rattle.jfr_output.specs.OutputRecords.{IsChosen, IsCursor, IsKeptEvent, ShowsEvent, ShowsMetadata, output_record_as, events_from, event_there, link_there, remaining_output_records, is_kept_at, event_after, linked_at, link_after}
+use Rattle.jfr_output.specs.declared.remaining_records.RecordCursor.{RecordCursor}
+use Rattle.jfr_output.specs.declared.remaining_records.RemainingRecord.{RemainingRecord}
+use Rattle.jfr_output.specs.declared.remaining_records.RemainingRecord.TheVariants as remaining_records
+use Rattle.jfr_output.specs.RemainingRecords.{IsRemaining, IsCursor, IsKeptEvent, ShowsEvent, ShowsMetadata, output_record_for, events_from, event_there, link_there, output_records_from, is_kept_at, event_after, linked_at, link_after}
 use Rattle.jfr_output.proofs.OutputRecordLaws.{Rises, rises_given, rises_marked, Stands, at_head, past_head, elsewhere, found_place, any_found, Occurs, AllOccur, in_order}
 
 -- Where an event, or a numbered checkpoint, starts.
@@ -165,7 +165,7 @@ link_passed f s ls n r rs a e = by_head (slice_get ls n) refl
     by_head (Some l) q = by_test l (drop_at ls n l q) (l.frame.at == r.at) refl
 
 -- A cursor after a record.
-pub cursor_passed : (p : Parts) (flags : List Bool) (c : Cursor) (r : Framed) → IsCursor p flags c → slice_get p.records c.frame ≡ Some r →
+pub cursor_passed : (p : Parts) (flags : List Bool) (c : RecordCursor) (r : Framed) → IsCursor p flags c → slice_get p.records c.frame ≡ Some r →
     IsCursor p flags (record { frame = c.frame + 1; event = event_after (events_of p) c.event r.at; link = link_after (reverse p.chain) c.link r.at })
     × (is_kept_at (events_of p) flags c.event r.at ≡ list_any (λ e. e.record_of.at == r.at) (kept_by p flags))
     × (linked_at (reverse p.chain) c.link r.at ≡ link_there p r)
@@ -183,20 +183,20 @@ cursor_passed p flags c r i e =
     )
 
 -- A cursor after the record at an offset.
-abbrev pub IsAfter : Parts → List Bool → Cursor → Framed → ℕ → Type 0
+abbrev pub IsAfter : Parts → List Bool → RecordCursor → Framed → ℕ → Type 0
 IsAfter p flags c r at =
     IsCursor p flags (record { frame = c.frame + 1; event = event_after (events_of p) c.event at; link = link_after (reverse p.chain) c.link at })
     × (is_kept_at (events_of p) flags c.event at ≡ list_any (λ e. e.record_of.at == r.at) (kept_by p flags))
     × (linked_at (reverse p.chain) c.link at ≡ link_there p r)
     × (event_there (kept_by p flags) r ≡ (if is_kept_at (events_of p) flags c.event at then slice_get (events_of p) c.event else None))
 
-pub record PlacePassed (p : Parts) (flags : List Bool) (c : Cursor) (at : ℕ) : Type 0 where
+pub record PlacePassed (p : Parts) (flags : List Bool) (c : RecordCursor) (at : ℕ) : Type 0 where
   pub frame : Framed
   pub there : slice_get p.records c.frame ≡ Some frame
   pub place : frame.at ≡ at
   pub behind : IsAfter p flags c frame at
 
-pub place_passed : (p : Parts) (flags : List Bool) (c : Cursor) (at : ℕ) → IsCursor p flags c → option_map (λ r. r.at) (slice_get p.records c.frame) ≡ Some at → PlacePassed p flags c at
+pub place_passed : (p : Parts) (flags : List Bool) (c : RecordCursor) (at : ℕ) → IsCursor p flags c → option_map (λ r. r.at) (slice_get p.records c.frame) ≡ Some at → PlacePassed p flags c at
 place_passed p flags c at i h = by_record (slice_get p.records c.frame) refl h
   where
     by_record : (o : Option Framed) → slice_get p.records c.frame ≡ o → option_map (λ r. r.at) o ≡ Some at → PlacePassed p flags c at
@@ -208,7 +208,7 @@ some_if true n = refl
 some_if false n = refl
 
 -- The event that a cursor passes, if it is kept.
-pub passed_event : (p : Parts) (flags : List Bool) (c : Cursor) (r s : Framed) (at number : ℕ) (event : Option ℕ) → IsAfter p flags c r at → event ≡ (if is_kept_at (events_of p) flags c.event at then Some c.event else None) → event ≡ Some number → s ≡ r
+pub passed_event : (p : Parts) (flags : List Bool) (c : RecordCursor) (r s : Framed) (at number : ℕ) (event : Option ℕ) → IsAfter p flags c r at → event ≡ (if is_kept_at (events_of p) flags c.event at then Some c.event else None) → event ≡ Some number → s ≡ r
     → IsKeptEvent p flags number s
 passed_event p flags c r s at number event b e n same = subst (IsKeptEvent p flags number) (sym same) (by_test (is_kept_at (events_of p) flags c.event at) refl (sym e ∙ n) b.3)
   where
@@ -236,34 +236,34 @@ link_other p a r l e = by_test (l.1.frame.at == metadata_at p.bytes) refl
         let z : l.1.frame.type_id ≡ a.metadata_record.type_id = ap (λ (x : Framed). x.type_id) same in
         absurd (omega arith)
 
--- What is chosen for a record shows whether it is the metadata record, and which event it is.
-pub chosen_metadata : (p : Parts) → AreParts p → (r : Framed) (link : Option (ℕ × Link)) (event : Option ℕ) (metadata : Bool) (o : Option contents.OutputRecord) → link ≡ link_there p r → metadata ≡ (r.at == metadata_at p.bytes) → IfSome o (IsChosen link event metadata r)
+-- How a record remains shows whether it is the metadata record, and which event it is.
+pub remaining_metadata : (p : Parts) → AreParts p → (r : Framed) (link : Option (ℕ × Link)) (event : Option ℕ) (metadata : Bool) (o : Option RemainingRecord) → link ≡ link_there p r → metadata ≡ (r.at == metadata_at p.bytes) → IfSome o (IsRemaining link event metadata r)
     → IfSome o (ShowsMetadata (metadata_at p.bytes))
-chosen_metadata p a r link event metadata None l m h = tt
-chosen_metadata p a r link event metadata (Some (declared_records.Event number s)) l m h = ap (λ (z : Framed). z.at == metadata_at p.bytes) h.2 ∙ (sym m ∙ h.1)
-chosen_metadata p a r link event metadata (Some (declared_records.Metadata s)) l m h = ap (λ (z : Framed). z.at == metadata_at p.bytes) h.1 ∙ (sym m ∙ h.0)
-chosen_metadata p a r link event metadata (Some (declared_records.Chained number x)) l m h = link_other p a r (number, x) (sym l ∙ h)
+remaining_metadata p a r link event metadata None l m h = tt
+remaining_metadata p a r link event metadata (Some (remaining_records.Event number s)) l m h = ap (λ (z : Framed). z.at == metadata_at p.bytes) h.2 ∙ (sym m ∙ h.1)
+remaining_metadata p a r link event metadata (Some (remaining_records.Metadata s)) l m h = ap (λ (z : Framed). z.at == metadata_at p.bytes) h.1 ∙ (sym m ∙ h.0)
+remaining_metadata p a r link event metadata (Some (remaining_records.Chained number x)) l m h = link_other p a r (number, x) (sym l ∙ h)
 
-pub chosen_event : (p : Parts) (flags : List Bool) (c : Cursor) (r : Framed) (at : ℕ) (link : Option (ℕ × Link)) (event : Option ℕ) (metadata : Bool) (o : Option contents.OutputRecord) → IsAfter p flags c r at
-    → event ≡ (if is_kept_at (events_of p) flags c.event at then Some c.event else None) → IfSome o (IsChosen link event metadata r) → IfSome o (ShowsEvent p flags)
-chosen_event p flags c r at link event metadata None b e h = tt
-chosen_event p flags c r at link event metadata (Some (declared_records.Event number s)) b e h = passed_event p flags c r s at number event b e h.0 h.2
-chosen_event p flags c r at link event metadata (Some (declared_records.Metadata s)) b e h = tt
-chosen_event p flags c r at link event metadata (Some (declared_records.Chained number x)) b e h = tt
+pub remaining_event : (p : Parts) (flags : List Bool) (c : RecordCursor) (r : Framed) (at : ℕ) (link : Option (ℕ × Link)) (event : Option ℕ) (metadata : Bool) (o : Option RemainingRecord) → IsAfter p flags c r at
+    → event ≡ (if is_kept_at (events_of p) flags c.event at then Some c.event else None) → IfSome o (IsRemaining link event metadata r) → IfSome o (ShowsEvent p flags)
+remaining_event p flags c r at link event metadata None b e h = tt
+remaining_event p flags c r at link event metadata (Some (remaining_records.Event number s)) b e h = passed_event p flags c r s at number event b e h.0 h.2
+remaining_event p flags c r at link event metadata (Some (remaining_records.Metadata s)) b e h = tt
+remaining_event p flags c r at link event metadata (Some (remaining_records.Chained number x)) b e h = tt
 
 -- What stays from a record on.
-pub output_records_at : (new : Option (List ℕ)) (p : Parts) (flags : List Bool) (c : Cursor) (r : Framed) → slice_get p.records c.frame ≡ Some r →
-    remaining_output_records new p flags c ≡ cons_option (output_record_of new p (kept_by p flags) r) (filter_map (output_record_of new p (kept_by p flags)) (drop (c.frame + 1) p.records))
+pub output_records_at : (new : Option (List ℕ)) (p : Parts) (flags : List Bool) (c : RecordCursor) (r : Framed) → slice_get p.records c.frame ≡ Some r →
+    output_records_from new p flags c ≡ cons_option (output_record_of new p (kept_by p flags) r) (filter_map (output_record_of new p (kept_by p flags)) (drop (c.frame + 1) p.records))
 output_records_at new p flags c r e = ap (filter_map (output_record_of new p (kept_by p flags))) (drop_at p.records c.frame r e)
 
-pub output_records_none : (new : Option (List ℕ)) (p : Parts) (flags : List Bool) (c : Cursor) → length p.records ≤ c.frame → remaining_output_records new p flags c ≡ []
+pub output_records_none : (new : Option (List ℕ)) (p : Parts) (flags : List Bool) (c : RecordCursor) → length p.records ≤ c.frame → output_records_from new p flags c ≡ []
 output_records_none new p flags c h = ap (filter_map (output_record_of new p (kept_by p flags))) (drop_all c.frame p.records h)
 
-pub output_record_next : (new : Option (List ℕ)) (p : Parts) (flags : List Bool) (c d : Cursor) (frames : List Framed) (at : ℕ) (o : Option contents.OutputRecord) → frames ≡ p.records → option_map (λ r. r.at) (slice_get frames c.frame) ≡ Some at → d.frame ≡ c.frame + 1 →
-    IfSome (slice_get p.records c.frame) (λ r. option_map (output_record_as new) o ≡ output_record_of new p (kept_by p flags) r) → remaining_output_records new p flags c ≡ cons_option (option_map (output_record_as new) o) (remaining_output_records new p flags d)
-output_record_next new p flags c d frames at o e h f g = by_record (slice_get p.records c.frame) refl (ap (λ rs. option_map (λ r. r.at) (slice_get rs c.frame)) (sym e) ∙ h) g
+pub remaining_record_next : (new : Option (List ℕ)) (p : Parts) (flags : List Bool) (c d : RecordCursor) (frames : List Framed) (at : ℕ) (o : Option RemainingRecord) → frames ≡ p.records → option_map (λ r. r.at) (slice_get frames c.frame) ≡ Some at → d.frame ≡ c.frame + 1 →
+    IfSome (slice_get p.records c.frame) (λ r. option_map (output_record_for new) o ≡ output_record_of new p (kept_by p flags) r) → output_records_from new p flags c ≡ cons_option (option_map (output_record_for new) o) (output_records_from new p flags d)
+remaining_record_next new p flags c d frames at o e h f g = by_record (slice_get p.records c.frame) refl (ap (λ rs. option_map (λ r. r.at) (slice_get rs c.frame)) (sym e) ∙ h) g
   where
-    by_record : (x : Option Framed) → slice_get p.records c.frame ≡ x → option_map (λ r. r.at) x ≡ Some at → IfSome x (λ r. option_map (output_record_as new) o ≡ output_record_of new p (kept_by p flags) r) → remaining_output_records new p flags c ≡ cons_option (option_map (output_record_as new) o) (remaining_output_records new p flags d)
+    by_record : (x : Option Framed) → slice_get p.records c.frame ≡ x → option_map (λ r. r.at) x ≡ Some at → IfSome x (λ r. option_map (output_record_for new) o ≡ output_record_of new p (kept_by p flags) r) → output_records_from new p flags c ≡ cons_option (option_map (output_record_for new) o) (output_records_from new p flags d)
     by_record None e h g = cc
     by_record (Some r) e h g = output_records_at new p flags c r e ∙ (λ i. cons_option (sym g i) (filter_map (output_record_of new p (kept_by p flags)) (drop (sym f i) p.records)))
 
@@ -279,18 +279,18 @@ number_below p (r ∷ rs) zero at a e = let h : r.at ≡ at = cc in let l = a.0 
 number_below p (r ∷ rs) (suc n) at a e = let l = a.0 in let m = number_below (r.at + 1) rs n at a.1 e in omega (arith, l, m)
 
 -- Behind the last record nothing remains.
-pub none_remain : (new : Option (List ℕ)) (p : Parts) (flags : List Bool) (c : Cursor) (frames : List Framed) → frames ≡ p.records → None ≡ option_map (λ (r : Framed). r.at) (slice_get frames c.frame) → remaining_output_records new p flags c ≡ []
+pub none_remain : (new : Option (List ℕ)) (p : Parts) (flags : List Bool) (c : RecordCursor) (frames : List Framed) → frames ≡ p.records → None ≡ option_map (λ (r : Framed). r.at) (slice_get frames c.frame) → output_records_from new p flags c ≡ []
 none_remain new p flags c frames e h = by_record (slice_get p.records c.frame) refl (h ∙ ap (λ rs. option_map (λ (r : Framed). r.at) (slice_get rs c.frame)) e)
   where
-    by_record : (o : Option Framed) → slice_get p.records c.frame ≡ o → None ≡ option_map (λ (r : Framed). r.at) o → remaining_output_records new p flags c ≡ []
+    by_record : (o : Option Framed) → slice_get p.records c.frame ≡ o → None ≡ option_map (λ (r : Framed). r.at) o → output_records_from new p flags c ≡ []
     by_record None q h = ap (filter_map (output_record_of new p (kept_by p flags))) (drop_none p.records c.frame q)
     by_record (Some r) q h = cc
 
-pub told_some : (new : Option (List ℕ)) (before rest : List OutputRecord) (o : Option contents.OutputRecord) → before ≡ cons_option (option_map (output_record_as new) o) rest → is_some o ≡ true → MatchOption o (before ≡ []) (λ s. before ≡ output_record_as new s ∷ rest)
+pub told_some : (new : Option (List ℕ)) (before rest : List OutputRecord) (o : Option RemainingRecord) → before ≡ cons_option (option_map (output_record_for new) o) rest → is_some o ≡ true → MatchOption o (before ≡ []) (λ s. before ≡ output_record_for new s ∷ rest)
 told_some new before rest None e h = cc
 told_some new before rest (Some s) e h = e
 
-pub told_none : (new : Option (List ℕ)) (before rest : List OutputRecord) (o : Option contents.OutputRecord) → before ≡ cons_option (option_map (output_record_as new) o) rest → is_some o ≡ false → before ≡ rest
+pub told_none : (new : Option (List ℕ)) (before rest : List OutputRecord) (o : Option RemainingRecord) → before ≡ cons_option (option_map (output_record_for new) o) rest → is_some o ≡ false → before ≡ rest
 told_none new before rest None e h = e
 told_none new before rest (Some s) e h = cc
 

@@ -1,6 +1,6 @@
 pub mod Agreements
 pub mod Metadata
-pub mod OutputRecords
+pub mod RemainingRecords
 pub mod Pools
 pub mod Positions
 pub mod Recordings

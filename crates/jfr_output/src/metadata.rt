@@ -15,9 +15,9 @@ use jfr_layout::{ClassInfo, Classes};
 use jfr_meta::{Ids, slim, staying};
 use std::alloc::Global;
 
-/// The metadata record without the event classes that the output doesn't describe: those that no kept event
-/// needs, and whose names no pattern of `Side::Describe` matches. `None` if the output keeps the record of the
-/// chunk, since the new one would be longer.
+/// The metadata record of the classes that remain. An event class remains only if it has a kept event, its name
+/// matches a pattern of `Side::Describe`, or a class that remains names it. `None` if the output keeps the record of
+/// the chunk, since the new one would be longer.
 pub fn slim_metadata(
     alloc: Global,
     chunk: &Chunk,
@@ -29,19 +29,24 @@ pub fn slim_metadata(
     ensures metadata { IfOk result (λ found. IfSome found (λ v. IsMetadataRecord v.items)) }
 {
     chunk.parts_are_valid();
-    let stay = staying_classes(alloc, chunk, kept, filter)?;
-    slim(alloc, chunk.metadata(), &stay, chunk.metadata_frame().size)
+    let remaining = remaining_class_ids(alloc, chunk, kept, filter)?;
+    slim(
+        alloc,
+        chunk.metadata(),
+        &remaining,
+        chunk.metadata_frame().size,
+    )
 }
 
-/// The ids of the classes that the output describes if its metadata record is rebuilt.
-fn staying_classes(
+/// The ids of the classes that remain if the metadata record is rebuilt.
+fn remaining_class_ids(
     alloc: Global,
     chunk: &Chunk,
     kept: &Kept,
     filter: &Filter,
 ) -> Result<Ids, NoMemory>
     requires { length kept.now ≡ length (events_of chunk.now) }
-    ensures exact { IfOk result (λ stay. (id : ℕ) → is_in stay id ≡ stays_in (describes filter.now) chunk.now (kept_by chunk.now kept.now) id) }
+    ensures exact { IfOk result (λ remaining. (id : ℕ) → is_in remaining id ≡ stays_in (describes filter.now) chunk.now (kept_by chunk.now kept.now) id) }
 {
     if !filter.has(Side::Describe) && kept.are_all() {
         return staying(alloc, chunk.metadata(), chunk.event_classes());

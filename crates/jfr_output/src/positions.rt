@@ -6,13 +6,13 @@ ghost use Rattle.jfr_output.specs.Positions.{IsBefore};
 
 use jfr_header::{Header, write_header};
 
-/// The delta from this offset to the older checkpoint, or 0 if there is none.
-pub fn delta_to(older: Option<usize>, at: usize) -> u64
-    requires { IsBefore older at }
-    ensures { result ≡ distance at older }
+/// The delta from this offset to the newest checkpoint before it, or 0 if there is none.
+pub fn delta_to(newest: Option<usize>, at: usize) -> u64
+    requires { IsBefore newest at }
+    ensures { result ≡ distance at newest }
 {
-    match older {
-        Some(older) => (older as u64).wrapping_sub(at as u64),
+    match newest {
+        Some(newest) => (newest as u64).wrapping_sub(at as u64),
         None => 0,
     }
 }

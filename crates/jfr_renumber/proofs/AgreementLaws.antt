@@ -1,4 +1,4 @@
--- Recordings that agree on all that stays of them have the same output with new keys.
+-- Recordings that agree on all that remains of them have the same output with new keys.
 use Rattle.std.specs.Prelude.{◌≡◌, ℕ, List}
 use Rattle.std.proofs.Common.{ap, sym, ◌∙◌}
 use Rattle.jfr_filter.specs.Filters.{Given, describes}

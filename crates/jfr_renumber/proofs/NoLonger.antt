@@ -9,7 +9,7 @@ use Rattle.jfr_pool.specs.declared.entry.EntryAt.{EntryAt}
 use Rattle.jfr_chunk.specs.Parts.{Parts, EventAt, AreParts, metadata_at}
 use Rattle.jfr_chunk.specs.Reach.{marked, kept_by}
 use Rattle.jfr_chunk.specs.Metas.{Names, new_metadata}
-use Rattle.jfr_chunk.specs.Scrub.{OutputRecord, Whole, Chained, Rebuilt, assembled, groups_of, header_with, last_at, moved, output_records, is_kept_or_metadata, written, written_anew}
+use Rattle.jfr_chunk.specs.Scrub.{OutputRecord, Whole, Chained, Rebuilt, assembled, groups_of, header_with, newest_at, moved, output_records, is_kept_or_metadata, written, written_anew}
 use Rattle.jfr_chunk.proofs.HasNodesLaws.{has_nodes}
 use Rattle.jfr_laws.proofs.Anews.{good_anew}
 use Rattle.jfr_laws.proofs.Copied.{record_length}
@@ -78,8 +78,8 @@ module _ (names : Names) (p : Parts) (a : AreParts p) (flags : List Bool) (new :
   no_longer whole =
       let here : List ℕ = new_from 68 None outs in
       let there : List ℕ = old_from 68 None outs in
-      let last_here : ℕ = last_at None (written_by write 68 None outs) in
-      let last_there : ℕ = last_at None (written p.bytes theirs 68 None outs) in
+      let last_here : ℕ = newest_at None (written_by write 68 None outs) in
+      let last_there : ℕ = newest_at None (written p.bytes theirs 68 None outs) in
       let metadata_here : ℕ = moved (written_by write 68 None outs) (metadata_at p.bytes) in
       let metadata_there : ℕ = moved (written p.bytes theirs 68 None outs) (metadata_at p.bytes) in
       let hx = header_length p.bytes (68 + length here) last_here metadata_here in

@@ -1,4 +1,4 @@
--- The output with new keys is made of what it tells, and chunks that agree on all that stays have equal ones.
+-- The output with new keys is made of what it tells, and chunks that agree on all that remains have equal ones.
 use Rattle.std.specs.Prelude.{◌≡◌, ℕ, not, ◌&&◌, ◌||◌, ◌==◌, Bool, List, [], ◌∷◌, ◌++◌, find, map, slice_range, length, Option, Some, None, Contains}
 use Rattle.std.specs.Option.{option_map_or}
 use Rattle.std.specs.Str.{bytes_eq}

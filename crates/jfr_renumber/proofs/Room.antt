@@ -85,7 +85,7 @@ module _ (p : Parts) (a : AreParts p) (flags : List Bool) (new : ℕ × ℕ → 
       bytes = rewrite.new_bytes (with_keys new new_record) p these remaining
 
       abbrev Carried : Written → Type 0
-      Carried o = CarriesRecord (with_keys new new_record) p these remaining o.output_record o.at o.older
+      Carried o = CarriesRecord (with_keys new new_record) p these remaining o.output_record o.at o.newest
 
       event_carried : (r : Framed) → IsRecord p.bytes r → (at : ℕ) (older : Option ℕ) → CarriesRecord (with_keys new new_record) p these remaining (Whole r) at older
       event_carried r s at older =

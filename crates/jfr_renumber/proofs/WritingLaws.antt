@@ -6,7 +6,7 @@ use Rattle.jfr_chunk.specs.Parts.{Parts, AreParts}
 use Rattle.jfr_chunk.specs.Reach.{kept_by, marked}
 use Rattle.jfr_chunk.specs.Scrub.{output_records}
 use Rattle.jfr_laws.proofs.Same.{chosen_events}
-use Rattle.jfr_output.specs.OutputRecords.{IsNewMetadata}
+use Rattle.jfr_output.specs.RemainingRecords.{IsNewMetadata}
 use Rattle.jfr_rewrite.specs.Rewrite.{rewritten}
 use Rattle.jfr_rewrite.specs.Rewritten.{CarriesAll}
 use Rattle.jfr_rewrite.specs.Writing.{AreSomeOf, Wrote}

@@ -79,10 +79,10 @@ checkpoint_tail new p l delta gs = rewrite.checkpoint_tail (with_keys new None) 
 abbrev pub whole_bytes : (ℕ × ℕ → ℕ) → Parts → Framed → Option EventAt → List ℕ
 whole_bytes new p r e = rewrite.whole_bytes (with_keys new None) p r e
 
--- The bytes of an output record at this offset in the output, with the older checkpoint at `older`, if there is
--- one. `entries` are those of the output.
+-- The bytes of an output record at this offset in the output, with the newest checkpoint before it at `newest`,
+-- if there is one. `entries` are those of the output.
 abbrev pub new_bytes : (ℕ × ℕ → ℕ) → Parts → List EventAt → List EntryAt → OutputRecord → ℕ → Option ℕ → List ℕ
-new_bytes new p kept entries o at older = rewrite.new_bytes (with_keys new None) p kept entries o at older
+new_bytes new p kept entries o at newest = rewrite.new_bytes (with_keys new None) p kept entries o at newest
 
 -- The output chunk with these output records, given the bytes of each.
 abbrev pub assembled_by : Parts → (OutputRecord → ℕ → Option ℕ → List ℕ) → List OutputRecord → List ℕ

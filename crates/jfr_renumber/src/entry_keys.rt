@@ -82,7 +82,7 @@ impl<'k> Rewriter for EntryKeys<'k> {
 
     ghost suits = { λ _ _. ⊤ };
 
-    fn stays(&self, _chunk: &Chunk<'_>, _node: Node<'_>) -> bool {
+    fn is_unchanged(&self, _chunk: &Chunk<'_>, _node: Node<'_>) -> bool {
         false
     }
 

@@ -92,10 +92,10 @@ pub fn output_is_what_it_tells()
     ensures { (slim : Option (List ℕ)) (p : Parts) (kept : List EventAt) → AreParts p → renumber_with slim p kept ≡ rendered (told_anew slim p kept) }
 {}
 
-/// If two accepted chunks agree on all that stays, their outputs with new keys are equal, byte for byte; and so are
+/// If two accepted chunks agree on all that remains, their outputs with new keys are equal, byte for byte; and so are
 /// those of recordings that agree chunk by chunk. So nothing else can be found out from these outputs.
 #[tactic(auto, using(crate::proofs::OnlyKeptAnew::same_renumber, crate::proofs::AgreementLaws::recordings_same))]
-pub fn only_what_stays_matters()
+pub fn only_what_remains_matters()
     ensures chunks { (slim other : Option (List ℕ)) (p q : Parts) (kept others : List EventAt) → AreParts p → AreParts q → AreEvents p kept → AreEvents q others → SameKept slim other p q kept others → renumber_with slim p kept ≡ renumber_with other q others }
     ensures recordings { (g : Given) (x y : List ℕ) → RecordingsAgree g x y → recording_output refusal_of (renumbered g) x ≡ recording_output refusal_of (renumbered g) y }
 {}

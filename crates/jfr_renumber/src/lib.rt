@@ -26,7 +26,7 @@ mod values;
 
 pub use laws::{
     firsts_one_by_one, keys_are_numbered, new_keys_depend_on_order, only_used_keys_matter,
-    only_what_stays_matters, output_is_what_it_tells, rekeyed_values_are_read, renamed_paths,
+    only_what_remains_matters, output_is_what_it_tells, rekeyed_values_are_read, renamed_paths,
     renumbered_means_the_same, used_keys_are_used,
 };
 pub use renumberer::Renumberer;

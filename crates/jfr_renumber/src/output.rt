@@ -1,13 +1,13 @@
 //! The output chunk with new keys.
 ghost use Rattle.std.specs.Prelude.{◌≡◌, ℕ, option_map, IfOk};
 ghost use Rattle.jfr_chunk.specs.Reach.{kept_by};
-ghost use Rattle.jfr_output.specs.OutputRecords.{IsNewMetadata};
+ghost use Rattle.jfr_output.specs.RemainingRecords.{IsNewMetadata};
 ghost use Rattle.jfr_renumber.specs.Numbers.{number_of};
 ghost use Rattle.jfr_renumber.specs.Renumber.{firsts, new_key_of, renumber_with};
 
 use crate::entry_keys::EntryKeys;
 use jfr_base::NoMemory;
-use jfr_rewrite::{Source, WriteFault, write_chunk};
+use jfr_rewrite::{RewriteSource, WriteFault, write_chunk};
 use std::alloc::Global;
 
 /// Writes the output chunk in the memory of a vector, whose items are dropped. The new keys aren't larger than the
@@ -15,7 +15,7 @@ use std::alloc::Global;
 pub(crate) fn put_chunk(
     alloc: Global,
     memory: Vec<u8>,
-    source: Source<'_, EntryKeys<'_>>,
+    source: RewriteSource<'_, EntryKeys<'_>>,
 ) -> Result<Vec<u8>, NoMemory>
     requires metadata { IsNewMetadata source.chunk.now (kept_by source.chunk.now source.kept.now) (option_map (λ s. s.now) source.metadata) }
     requires entries { source.entries.now ≡ firsts source.chunk.now (kept_by source.chunk.now source.kept.now) }

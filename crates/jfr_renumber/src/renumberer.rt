@@ -18,7 +18,7 @@ use jfr_filter::Filter;
 use jfr_output::slim_metadata;
 use jfr_path::choose;
 use jfr_reach::Marks;
-use jfr_rewrite::Source;
+use jfr_rewrite::RewriteSource;
 use std::alloc::Global;
 use std::marker::Model;
 
@@ -131,7 +131,7 @@ fn put_output(
     let new = EntryKeys::make(alloc, keys, chunk.pools())?;
     let entries = first_entries(alloc, chunk, chosen.marks, &new)?;
     let slim = slim_metadata(alloc, chunk, chosen.kept, chosen.filter)?;
-    let source = Source {
+    let source = RewriteSource {
         chunk,
         kept: chosen.kept,
         metadata: slim.as_deref(),

@@ -21,7 +21,7 @@ use Rattle.jfr_pool.specs.Chains.{IsChain}
 use Rattle.jfr_pool.specs.Entries.{AreEntries, PoolAt, inline}
 use Rattle.jfr_chunk.specs.Parts.{Parts, EventAt, HasFields, event_by, event_of, event_records, events_of, AreParts, StartsAt, metadata_at}
 use Rattle.jfr_chunk.specs.Parts as parts_of
-use Rattle.jfr_chunk.specs.Scrub.{OutputRecord, Written, last_at, moved, is_kept_or_metadata, written_anew}
+use Rattle.jfr_chunk.specs.Scrub.{OutputRecord, Written, newest_at, moved, is_kept_or_metadata, written_anew}
 use Rattle.jfr_worklist.specs.Members.{In}
 use Rattle.jfr_worklist.proofs.Members.{contains_in, in_contains}
 use Rattle.jfr_chunk.proofs.AllLaws.{in_filter_map}
@@ -109,7 +109,7 @@ module _ (given : Rewriting) where
   body_of = bytes_from m write heads widths pooled 68 None outs
 
   abbrev last_of : ℕ
-  last_of = last_at None ws
+  last_of = newest_at None ws
 
   abbrev metadata_of : ℕ
   metadata_of = moved ws (metadata_at p.bytes)
@@ -183,11 +183,11 @@ module _ (given : Rewriting) where
     abbrev offset : ℕ
     offset = (found b l.held).offset
 
-    abbrev metadata_there_read : MetadataRead given metadata_anew b offset (found b l.held).older
-    metadata_there_read = metadata_read given metadata_anew (sym (new_is w.metadata p a)) b offset (found b l.held).older (found b l.held).held
+    abbrev metadata_there_read : MetadataRead given metadata_anew b offset (found b l.held).newest
+    metadata_there_read = metadata_read given metadata_anew (sym (new_is w.metadata p a)) b offset (found b l.held).newest (found b l.held).held
 
     abbrev metadata_frame : Framed
-    metadata_frame = frame_at m write heads widths pooled (shown metadata_anew a.metadata_record) offset (found b l.held).older
+    metadata_frame = frame_at m write heads widths pooled (shown metadata_anew a.metadata_record) offset (found b l.held).newest
 
     frame_type : (z : Option (List ℕ)) (at : ℕ) (older : Option ℕ) → (frame_at m write heads widths pooled (shown z a.metadata_record) at older).type_id ≡ 0
     frame_type None at older = a.metadata_there.type_is
@@ -201,7 +201,7 @@ module _ (given : Rewriting) where
     metadata_there =
         let f = found b l.held in
         let e : f.offset ≡ metadata_at b = sym (l.metadata ∙ (ap (moved ws) (sym a.metadata_there.place) ∙ f.leads)) in
-        record { listed = in_contains rs metadata_frame f.listed; place = frame_place metadata_anew offset f.older ∙ e; type_is = frame_type metadata_anew offset f.older }
+        record { listed = in_contains rs metadata_frame f.listed; place = frame_place metadata_anew offset f.newest ∙ e; type_is = frame_type metadata_anew offset f.newest }
 
     are_entries : AreEntries b m 0 (reverse (reverse ls)) es
     are_entries =

@@ -14,7 +14,7 @@ use Rattle.jfr_pool.specs.declared.entry.EntryAt.{EntryAt}
 use Rattle.jfr_pool.specs.Chains.{head_format}
 use Rattle.jfr_pool.specs.Entries.{AreEntries, PoolAt, checkpoint_format, entries_from}
 use Rattle.jfr_chunk.specs.Written.{distance}
-use Rattle.jfr_chunk.specs.Scrub.{OutputRecord, Whole, Chained, Rebuilt, Written, last_at, moved, older_after, record_of}
+use Rattle.jfr_chunk.specs.Scrub.{OutputRecord, Whole, Chained, Rebuilt, Written, newest_at, moved, newest_after, record_of}
 use Rattle.jfr_worklist.specs.Members.{In}
 use Rattle.jfr_chunk.proofs.TestLaws.{is_eq}
 use Rattle.jfr_laws.proofs.Chains.{LeadsTo, Linked, step_delta}
@@ -43,7 +43,7 @@ module _ (k : Classes) (bytes : OutputRecord → ℕ → Option ℕ → List ℕ
   frame_at (Chained i l) at older = (checkpoint_at at older i l).frame
 
   abbrev pub frame_of : Written → Framed
-  frame_of w = frame_at w.output_record w.at w.older
+  frame_of w = frame_at w.output_record w.at w.newest
 
   abbrev pub chain_from : ℕ → Option ℕ → List OutputRecord → List Link
   chain_from at older [] = []
@@ -59,10 +59,10 @@ module _ (k : Classes) (bytes : OutputRecord → ℕ → Option ℕ → List ℕ
 
   -- What is written for the first, and the rest after it.
   more_length : (o : OutputRecord) (ss : List OutputRecord) (at : ℕ) (older : Option ℕ)
-      → at + length (bytes o at older) + length (bytes_from (at + length (bytes o at older)) (older_after o at older) ss) ≡ at + length (bytes_from at older (o ∷ ss))
-  more_length o ss at older = omega (arith, length-append (bytes o at older) (bytes_from (at + length (bytes o at older)) (older_after o at older) ss))
+      → at + length (bytes o at older) + length (bytes_from (at + length (bytes o at older)) (newest_after o at older) ss) ≡ at + length (bytes_from at older (o ∷ ss))
+  more_length o ss at older = omega (arith, length-append (bytes o at older) (bytes_from (at + length (bytes o at older)) (newest_after o at older) ss))
 
-  pub last_made : (ss : List OutputRecord) (at : ℕ) (older : Option ℕ) → last_at older (written_by bytes at older ss) ≡ last_from older (chain_from at older ss)
+  pub last_made : (ss : List OutputRecord) (at : ℕ) (older : Option ℕ) → newest_at older (written_by bytes at older ss) ≡ last_from older (chain_from at older ss)
   last_made [] at None = refl
   last_made [] at (Some o) = refl
   last_made (Whole r ∷ ss) at None = last_made ss (at + length (bytes (Whole r) at None)) None
@@ -72,7 +72,7 @@ module _ (k : Classes) (bytes : OutputRecord → ℕ → Option ℕ → List ℕ
   last_made (Chained i l ∷ ss) at None = let n : ℕ = length (bytes (Chained i l) at None) in last_made ss (at + n) (Some at) ∙ last_joined (checkpoint_at at None i l) (chain_from (at + n) (Some at) ss)
   last_made (Chained i l ∷ ss) at (Some o) = let n : ℕ = length (bytes (Chained i l) at (Some o)) in last_made ss (at + n) (Some at) ∙ last_joined (checkpoint_at at (Some o) i l) (chain_from (at + n) (Some at) ss)
 
-  pub last_inside : (ss : List OutputRecord) (at : ℕ) (older : Option ℕ) → AtMost older at → last_at older (written_by bytes at older ss) ≤ at + length (bytes_from at older ss)
+  pub last_inside : (ss : List OutputRecord) (at : ℕ) (older : Option ℕ) → AtMost older at → newest_at older (written_by bytes at older ss) ≤ at + length (bytes_from at older ss)
   last_inside [] at None o = omega arith
   last_inside [] at (Some z) o = let i : z ≤ at = o in omega arith
   last_inside (Whole r ∷ ss) at None o =
@@ -119,7 +119,7 @@ module _ (k : Classes) (bytes : OutputRecord → ℕ → Option ℕ → List ℕ
     IsReadAs (Chained i l) at older = (l.frame.type_id ≡ 1) × (Holds b (length b) at (bytes (Chained i l) at older) → ChainedRead i l at older)
 
     abbrev pub IsRead : Written → Type 0
-    IsRead w = IsReadAs w.output_record w.at w.older
+    IsRead w = IsReadAs w.output_record w.at w.newest
 
     -- So each that is written.
     abbrev pub AllRead : ℕ → Option ℕ → List OutputRecord → Type 0
@@ -198,7 +198,7 @@ module _ (k : Classes) (bytes : OutputRecord → ℕ → Option ℕ → List ℕ
     -- The record is at an offset in the output, to which its old offset leads.
     pub record Found (f : Framed) (w : Option (List ℕ)) (at : ℕ) (ws : List Written) : Type 0 where
       pub offset : ℕ
-      pub older : Option ℕ
+      pub newest : Option ℕ
       pub from : at ≤ offset
       pub held : Holds b (length b) offset (bytes (shown w f) offset older)
       pub leads : moved ws f.at ≡ offset
@@ -208,7 +208,7 @@ module _ (k : Classes) (bytes : OutputRecord → ℕ → Option ℕ → List ℕ
       abbrev RecordsAfter : List Framed → List OutputRecord
       RecordsAfter rs = output_records_in all whole new rs
 
-      leads_here : (w : Option (List ℕ)) (rest : List Written) (at : ℕ) (older : Option ℕ) → moved (record { output_record = shown w f; at = at; older = older } ∷ rest) f.at ≡ at
+      leads_here : (w : Option (List ℕ)) (rest : List Written) (at : ℕ) (older : Option ℕ) → moved (record { output_record = shown w f; at = at; newest = older } ∷ rest) f.at ≡ at
       leads_here None rest at older = rw (is_eq f.at f.at refl) refl
       leads_here (Some x) rest at older = rw (is_eq f.at f.at refl) refl
 
@@ -216,14 +216,14 @@ module _ (k : Classes) (bytes : OutputRecord → ℕ → Option ℕ → List ℕ
           → Found f w at (written_by bytes at older (shown w f ∷ rest))
       found_here w rest at older h =
           let n : ℕ = length (bytes (shown w f) at older) in
-          let p = holds_parts b (length b) at (bytes (shown w f) at older) (bytes_from (at + n) (older_after (shown w f) at older) rest) h in
-          record { offset = at; older = older; from = omega arith; held = p.0; leads = leads_here w (written_by bytes (at + n) (older_after (shown w f) at older) rest) at older; listed = inl refl }
+          let p = holds_parts b (length b) at (bytes (shown w f) at older) (bytes_from (at + n) (newest_after (shown w f) at older) rest) h in
+          record { offset = at; newest = older; from = omega arith; held = p.0; leads = leads_here w (written_by bytes (at + n) (newest_after (shown w f) at older) rest) at older; listed = inl refl }
 
       found_later : (w : Option (List ℕ)) (x : OutputRecord) (ws : List Written) (at n : ℕ) (older : Option ℕ) → ((record_of x).at == f.at) ≡ false → Found f w (at + n) ws
-          → Found f w at (record { output_record = x; at = at; older = older } ∷ ws)
+          → Found f w at (record { output_record = x; at = at; newest = older } ∷ ws)
       found_later w x ws at n older t i =
           let z : at + n ≤ i.offset = i.from in
-          record { offset = i.offset; older = i.older; from = omega arith; held = i.held; leads = rw t i.leads; listed = inr i.listed }
+          record { offset = i.offset; newest = i.newest; from = omega arith; held = i.held; leads = rw t i.leads; listed = inr i.listed }
 
       pub found_made : (rs : List Framed) (at : ℕ) (older : Option ℕ) → AllByRecursion (IsRecord c) rs → In rs f → Holds b (length b) at (bytes_from at older (RecordsAfter rs))
           → Found f (new f) at (written_by bytes at older (RecordsAfter rs))

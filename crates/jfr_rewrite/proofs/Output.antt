@@ -177,7 +177,7 @@ module _ (given : Rewriting) where
   Carried o at older = CarriesRecord w p kept remaining o at older
 
   abbrev pub CarriedFrom : ℕ → Option ℕ → List OutputRecord → Type 0
-  CarriedFrom at older xs = AllByRecursion (λ (o : Written). Carried o.output_record o.at o.older) (written_by bytes at older xs)
+  CarriedFrom at older xs = AllByRecursion (λ (o : Written). Carried o.output_record o.at o.newest) (written_by bytes at older xs)
 
   -- A checkpoint.
   chained_is : (i : ℕ) (l : Link) → IsOutputRecordIn p.bytes remaining p.classes (Chained i l) → (at : ℕ) (older : Option ℕ)

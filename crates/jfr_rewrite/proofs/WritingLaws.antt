@@ -18,7 +18,7 @@ use Rattle.jfr_worklist.specs.Members.{In}
 use Rattle.jfr_worklist.proofs.Members.{contains_in, in_contains}
 use Rattle.jfr_chunk.specs.Parts.{Parts, EventAt, AreParts, events_of, metadata_at}
 use Rattle.jfr_chunk.specs.Reach.{kept_by}
-use Rattle.jfr_chunk.specs.Scrub.{OutputRecord, Whole, Chained, Rebuilt, Written, groups_of, is_kept_or_metadata, last_at, moved, older_after, output_records, record_of, written_anew}
+use Rattle.jfr_chunk.specs.Scrub.{OutputRecord, Whole, Chained, Rebuilt, Written, groups_of, is_kept_or_metadata, newest_at, moved, newest_after, output_records, record_of, written_anew}
 use Rattle.jfr_chunk.proofs.AllLaws.{all_in}
 use Rattle.jfr_laws.specs.InChunk.{IsEntryIn}
 use Rattle.jfr_laws.proofs.Groups.{groups_hold}
@@ -28,17 +28,17 @@ use Rattle.jfr_laws.proofs.Passing.{clash}
 use Rattle.jfr_laws.proofs.Premises.{GoodAnew, all_links, metadata_stands, ready, recorded}
 use Rattle.jfr_laws.proofs.Quiet.{no_metadata_event}
 use Rattle.jfr_laws.proofs.Same.{chosen_events, event_of_chunk}
-use Rattle.jfr_output.specs.declared.output_records.OutputRecord as contents
-use Rattle.jfr_output.specs.declared.output_records.OutputRecord.TheVariants as declared_records
-use Rattle.jfr_output.specs.OutputRecords.{IsKeptEvent, ShowsEvent, ShowsMetadata, output_record_as, whole_or}
+use Rattle.jfr_output.specs.declared.remaining_records.RemainingRecord.{RemainingRecord}
+use Rattle.jfr_output.specs.declared.remaining_records.RemainingRecord.TheVariants as remaining_records
+use Rattle.jfr_output.specs.RemainingRecords.{IsKeptEvent, ShowsEvent, ShowsMetadata, output_record_for, whole_or}
 use Rattle.jfr_output.specs.Positions.{IsBefore, offset_so_far}
 use Rattle.jfr_output.specs.Remaining.{NotFalling}
 use Rattle.jfr_output.proofs.CheckpointEntries.{marked_order}
-use Rattle.jfr_output.proofs.PositionLaws.{last_next, last_none, moved_next, or_none, or_place}
+use Rattle.jfr_output.proofs.PositionLaws.{newest_next, newest_none, moved_next, or_none, or_place}
 use Rattle.jfr_rewrite.specs.declared.fault.WriteFault.{WriteFault}
 use Rattle.jfr_rewrite.specs.Rewrite.{Rewrite, assembled_by, bytes_by, chained_tail, event_bytes, event_tail, new_bytes, resized, rewritten, whole_bytes, written_by}
 use Rattle.jfr_rewrite.specs.Rewritten.{CarriesRecord, CarriesTail}
-use Rattle.jfr_rewrite.specs.Writing.{AreSomeOf, CanWrite, CheckpointStands, IsBody, Progress, Wrote, with_record}
+use Rattle.jfr_rewrite.specs.Writing.{AreSomeOf, CanWrite, CheckpointStands, HasAllRecords, Progress, Wrote, with_record}
 use Rattle.jfr_rewrite.proofs.Accepted.{computed}
 use Rattle.jfr_rewrite.proofs.CheckpointWriting.{entries_stand}
 use Rattle.jfr_rewrite.proofs.Output.{OnChained, OnChosen, find_in, none_anew, on_chained, on_chosen}
@@ -119,11 +119,11 @@ module _ (w : Rewrite) (p : Parts) (flags : List Bool) (entries : List EntryAt) 
   place = metadata_at p.bytes
 
   -- With this record the output is `after`.
-  abbrev pub IsNext : contents.OutputRecord → Progress → Progress → Type 0
-  IsNext s b after = (after ≡ with_record bytes place b (output_record_as new s)) × IsBefore after.newest (length after.bytes)
+  abbrev pub IsNext : RemainingRecord → Progress → Progress → Type 0
+  IsNext s b after = (after ≡ with_record bytes place b (output_record_for new s)) × IsBefore after.newest (length after.bytes)
 
-  abbrev pub CarriesIt : contents.OutputRecord → Progress → Type 0
-  CarriesIt s b = CarriesRecord w p (kept_by p flags) entries (output_record_as new s) (length b.bytes) b.newest
+  abbrev pub CarriesIt : RemainingRecord → Progress → Type 0
+  CarriesIt s b = CarriesRecord w p (kept_by p flags) entries (output_record_for new s) (length b.bytes) b.newest
 
   appended_before : (o : Option ℕ) (old x after : List ℕ) → after ≡ old ++ x → IsBefore o (length old) → IsBefore o (length after)
   appended_before o old x after e h = later_before o (length old) (length after) h (omega (arith, ap length e, length-append old x))
@@ -133,7 +133,7 @@ module _ (w : Rewrite) (p : Parts) (flags : List Bool) (entries : List EntryAt) 
   event_next number r b after k t h =
       λ i. record { bytes = (h ∙ ap (λ o. b.bytes ++ whole_bytes w p r o) (sym k.there)) i; newest = b.newest; metadata = sym (seen_not b.metadata (r.at == place) (length b.bytes) t) i }
 
-  pub event_written : {A : Type 0} (result : Result A WriteFault) (s : contents.OutputRecord) (number : ℕ) (r : Framed) (b : Progress) (after : List ℕ) → s ≡ declared_records.Event number r → ShowsEvent p flags s → ShowsMetadata place s
+  pub event_written : {A : Type 0} (result : Result A WriteFault) (s : RemainingRecord) (number : ℕ) (r : Framed) (b : Progress) (after : List ℕ) → s ≡ remaining_records.Event number r → ShowsEvent p flags s → ShowsMetadata place s
       → IsBefore b.newest (length b.bytes) → IfSome (slice_get (events_of p) number) (λ e. Wrote result (λ x. after ≡ b.bytes ++ event_bytes w p e) (CarriesTail w e.record_of (event_tail w p e)))
       → Wrote result (λ x. IsNext s b (record { bytes = after; newest = b.newest; metadata = b.metadata })) (CarriesIt s b)
   event_written {A = A} result s number r b after q k t before h =
@@ -147,7 +147,7 @@ module _ (w : Rewrite) (p : Parts) (flags : List Bool) (entries : List EntryAt) 
   metadata_next a r None b s t = λ i. record { bytes = b.bytes ++ whole_bytes w p r (sym (metadata_no_event p a flags r s t) i); newest = b.newest; metadata = offset_so_far b.metadata (sym t i) (length b.bytes) }
   metadata_next a r (Some x) b s t = λ i. record { bytes = b.bytes ++ x; newest = b.newest; metadata = offset_so_far b.metadata (sym t i) (length b.bytes) }
 
-  pub metadata_written : (a : AreParts p) (s : contents.OutputRecord) (r : Framed) (b after : Progress) → s ≡ declared_records.Metadata r → ShowsMetadata place s → IsBefore b.newest (length b.bytes) → IsRecord p.bytes r
+  pub metadata_written : (a : AreParts p) (s : RemainingRecord) (r : Framed) (b after : Progress) → s ≡ remaining_records.Metadata r → ShowsMetadata place s → IsBefore b.newest (length b.bytes) → IsRecord p.bytes r
       → after ≡ record { bytes = b.bytes ++ unwrap_or new (record_bytes p.bytes r); newest = b.newest; metadata = offset_so_far b.metadata true (length b.bytes) } → IsNext s b after
   metadata_written a s r b after q t before i e =
       subst (λ z. ShowsMetadata place z → IsNext z b after) (sym q)
@@ -166,7 +166,7 @@ module _ (w : Rewrite) (p : Parts) (flags : List Bool) (entries : List EntryAt) 
         metadata = sym (seen_not b.metadata (l.frame.at == place) (length b.bytes) t) i;
       }
 
-  pub link_written : {A : Type 0} (result : Result A WriteFault) (s : contents.OutputRecord) (number : ℕ) (l : Link) (b after : Progress) → s ≡ declared_records.Chained number l → ShowsMetadata place s
+  pub link_written : {A : Type 0} (result : Result A WriteFault) (s : RemainingRecord) (number : ℕ) (l : Link) (b after : Progress) → s ≡ remaining_records.Chained number l → ShowsMetadata place s
       → Wrote result (λ x. (after ≡ record { bytes = b.bytes ++ resized w l.frame (chained_tail w p entries number l (length b.bytes) b.newest); newest = Some (length b.bytes); metadata = b.metadata }) × (length b.bytes < length after.bytes))
       (CarriesTail w l.frame (chained_tail w p entries number l (length b.bytes) b.newest))
       → Wrote result (λ x. IsNext s b after) (CarriesIt s b)
@@ -175,14 +175,14 @@ module _ (w : Rewrite) (p : Parts) (flags : List Bool) (entries : List EntryAt) 
       (λ t. wrote_weaker result (λ x e. (e.0 ∙ link_next number l b t, subst (λ o. IsBefore o (length after.bytes)) (sym (ap (λ (z : Progress). z.newest) e.0)) e.1)) (λ carried. carried) h) t
 
 -- What a checkpoint and the metadata record need.
-pub link_stands : (p : Parts) (entries : List EntryAt) (new : Option (List ℕ)) (s : contents.OutputRecord) (number : ℕ) (l : Link) → s ≡ declared_records.Chained number l → CanWrite p entries (output_record_as new s)
+pub link_stands : (p : Parts) (entries : List EntryAt) (new : Option (List ℕ)) (s : RemainingRecord) (number : ℕ) (l : Link) → s ≡ remaining_records.Chained number l → CanWrite p entries (output_record_for new s)
     → CheckpointStands p l (filter (λ e. e.checkpoint == number) entries)
 unfolding CanWrite
-link_stands p entries new s number l q c = subst (λ z. CanWrite p entries (output_record_as new z)) q c
+link_stands p entries new s number l q c = subst (λ z. CanWrite p entries (output_record_for new z)) q c
 
-pub record_stands : (p : Parts) (entries : List EntryAt) (new : Option (List ℕ)) (s : contents.OutputRecord) (r : Framed) → s ≡ declared_records.Metadata r → CanWrite p entries (output_record_as new s) → IsRecord p.bytes r
+pub record_stands : (p : Parts) (entries : List EntryAt) (new : Option (List ℕ)) (s : RemainingRecord) (r : Framed) → s ≡ remaining_records.Metadata r → CanWrite p entries (output_record_for new s) → IsRecord p.bytes r
 unfolding CanWrite
-record_stands p entries new s r q c = by_new new (subst (λ z. CanWrite p entries (output_record_as new z)) q c)
+record_stands p entries new s r q c = by_new new (subst (λ z. CanWrite p entries (output_record_for new z)) q c)
   where
     by_new : (o : Option (List ℕ)) → CanWrite p entries (whole_or o r) → IsRecord p.bytes r
     by_new None c = c
@@ -192,7 +192,7 @@ record_stands p entries new s r q c = by_new new (subst (λ z. CanWrite p entrie
 module _ (p : Parts) (bytes : OutputRecord → ℕ → Option ℕ → List ℕ) (Can : OutputRecord → Type 0) (Carried : Written → Type 0) where
   pub record Going (all ss : List OutputRecord) (b : Progress) : Type 0 where
     pub body : b.bytes ++ flat_map (bytes_by bytes) (written_by bytes (length b.bytes) b.newest ss) ≡ replicate 68 0 ++ flat_map (bytes_by bytes) (written_by bytes 68 None all)
-    pub newest : last_at b.newest (written_by bytes (length b.bytes) b.newest ss) ≡ last_at None (written_by bytes 68 None all)
+    pub newest : newest_at b.newest (written_by bytes (length b.bytes) b.newest ss) ≡ newest_at None (written_by bytes 68 None all)
     pub metadata : or_place b.metadata (moved (written_by bytes (length b.bytes) b.newest ss) (metadata_at p.bytes)) ≡ moved (written_by bytes 68 None all) (metadata_at p.bytes)
     pub can : AllByRecursion Can ss
     pub carried : AllByRecursion Carried (written_by bytes 68 None all) → AllByRecursion Carried (written_by bytes (length b.bytes) b.newest ss)
@@ -209,27 +209,27 @@ module _ (p : Parts) (bytes : OutputRecord → ℕ → Option ℕ → List ℕ) 
       going =
           let at : ℕ = length b.bytes in
           let x : List ℕ = bytes s at b.newest in
-          let o : Option ℕ = older_after s at b.newest in
+          let o : Option ℕ = newest_after s at b.newest in
           let l : length (b.bytes ++ x) ≡ at + length x = length-append b.bytes x in
-          let w : Written = record { output_record = s; at = at; older = b.newest } in
+          let w : Written = record { output_record = s; at = at; newest = b.newest } in
           let ws : List Written = written_by bytes (at + length x) o ss in
           record {
             body = ap (λ n. (b.bytes ++ x) ++ flat_map (bytes_by bytes) (written_by bytes n o ss)) l ∙ (append_assoc b.bytes x (flat_map (bytes_by bytes) ws) ∙ g.body);
-            newest = ap (λ n. last_at o (written_by bytes n o ss)) l ∙ (sym (last_next b.newest w ws) ∙ g.newest);
+            newest = ap (λ n. newest_at o (written_by bytes n o ss)) l ∙ (sym (newest_next b.newest w ws) ∙ g.newest);
             metadata = ap (λ n. or_place (offset_so_far b.metadata ((record_of s).at == metadata_at p.bytes) at) (moved (written_by bytes n o ss) (metadata_at p.bytes))) l ∙ (sym (moved_next b.metadata w ws (metadata_at p.bytes)) ∙ g.metadata);
             can = g.can.1;
             carried = λ c. subst (λ n. AllByRecursion Carried (written_by bytes n o ss)) (sym l) (g.carried c).1;
             before = subst (λ (z : Progress). IsBefore z.newest (length z.bytes)) e h;
           }
 
-  pub going_all : (all ss : List OutputRecord) (b : Progress) → Going all ss b → ss ≡ [] → IsBody p bytes all b
+  pub going_all : (all ss : List OutputRecord) (b : Progress) → Going all ss b → ss ≡ [] → HasAllRecords p bytes all b
   going_all all ss b g e = done (subst (λ z. Going all z b) e g)
     where
-      done : Going all [] b → IsBody p bytes all b
-      done g = record { body = sym (append-nil b.bytes) ∙ g.body; newest = sym (last_none b.newest) ∙ g.newest; metadata = sym (or_none b.metadata) ∙ g.metadata }
+      done : Going all [] b → HasAllRecords p bytes all b
+      done g = record { body = sym (append-nil b.bytes) ∙ g.body; newest = sym (newest_none b.newest) ∙ g.newest; metadata = sym (or_none b.metadata) ∙ g.metadata }
 
 -- The header in its place before the body is the output.
-pub all_assembled : (p : Parts) (bytes : OutputRecord → ℕ → Option ℕ → List ℕ) (ss : List OutputRecord) (b : Progress) (h : Header) (out : List ℕ) → IsBody p bytes ss b → h ≡ header_of (take 68 p.bytes)
+pub all_assembled : (p : Parts) (bytes : OutputRecord → ℕ → Option ℕ → List ℕ) (ss : List OutputRecord) (b : Progress) (h : Header) (out : List ℕ) → HasAllRecords p bytes ss b → h ≡ header_of (take 68 p.bytes)
     → out ≡ header_bytes (record h { size = length b.bytes; pools = unwrap_or b.newest 0; metadata = unwrap_or b.metadata 0 }) ++ drop 68 b.bytes → out ≡ assembled_by p bytes ss
 all_assembled p bytes ss b h out i e o =
     let body : List ℕ = flat_map (bytes_by bytes) (written_by bytes 68 None ss) in
@@ -240,5 +240,5 @@ pub is_rewritten : (w : Rewrite) (p : Parts) (these : List EventAt) (entries : L
 unfolding rewritten
 is_rewritten w p these entries out e = e
 
-pub header_room : (p : Parts) (bytes : OutputRecord → ℕ → Option ℕ → List ℕ) (ss : List OutputRecord) (b : Progress) → IsBody p bytes ss b → 68 ≤ length b.bytes
+pub header_room : (p : Parts) (bytes : OutputRecord → ℕ → Option ℕ → List ℕ) (ss : List OutputRecord) (b : Progress) → HasAllRecords p bytes ss b → 68 ≤ length b.bytes
 header_room p bytes ss b i = omega (arith, ap length i.body, length-append (replicate 68 0) (flat_map (bytes_by bytes) (written_by bytes 68 None ss)))

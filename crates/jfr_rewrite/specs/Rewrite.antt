@@ -14,7 +14,7 @@ use Rattle.jfr_pool.specs.declared.entry.EntryAt.{EntryAt}
 use Rattle.jfr_pool.specs.Entries.{entry_node}
 use Rattle.jfr_chunk.specs.Parts.{Parts, EventAt, metadata_at}
 use Rattle.jfr_chunk.specs.Written.{Group, distance, sized}
-use Rattle.jfr_chunk.specs.Scrub.{OutputRecord, Whole, Chained, Rebuilt, Written, groups_of, header_with, last_at, moved, older_after, output_records}
+use Rattle.jfr_chunk.specs.Scrub.{OutputRecord, Whole, Chained, Rebuilt, Written, groups_of, header_with, newest_at, moved, newest_after, output_records}
 use Rattle.jfr_rewrite.specs.Changed.{Change, changed}
 
 -- How a chunk is rewritten: the change of its values; the key of an entry, given its class and the key that it had;
@@ -84,32 +84,32 @@ whole_bytes w p r None = record_bytes p.bytes r
 abbrev pub event_there : List EventAt → Framed → Option EventAt
 event_there kept r = find (λ e. e.record_of.at == r.at) kept
 
--- What follows the size of a chained checkpoint with this number at this offset in the output, with the older
--- checkpoint at `older`, if there is one. `entries` are those of the output.
+-- What follows the size of a chained checkpoint with this number at this offset in the output, with the newest
+-- checkpoint before it at `newest`, if there is one. `entries` are those of the output.
 abbrev pub chained_tail : Rewrite → Parts → List EntryAt → ℕ → Link → ℕ → Option ℕ → List ℕ
-chained_tail w p entries number l at older = checkpoint_tail w p l (distance at older) (groups_of entries number)
+chained_tail w p entries number l at newest = checkpoint_tail w p l (distance at newest) (groups_of entries number)
 
 -- The bytes of an output record at this offset.
 abbrev pub new_bytes : Rewrite → Parts → List EventAt → List EntryAt → OutputRecord → ℕ → Option ℕ → List ℕ
-new_bytes w p kept entries (Whole r) at older = whole_bytes w p r (event_there kept r)
-new_bytes w p kept entries (Rebuilt r x) at older = x
-new_bytes w p kept entries (Chained number l) at older = resized w l.frame (chained_tail w p entries number l at older)
+new_bytes w p kept entries (Whole r) at newest = whole_bytes w p r (event_there kept r)
+new_bytes w p kept entries (Rebuilt r x) at newest = x
+new_bytes w p kept entries (Chained number l) at newest = resized w l.frame (chained_tail w p entries number l at newest)
 
 -- The output records with their offsets, one after another, given the bytes of each.
 abbrev pub written_by : (OutputRecord → ℕ → Option ℕ → List ℕ) → ℕ → Option ℕ → List OutputRecord → List Written
-written_by bytes at older [] = []
-written_by bytes at older (s ∷ ss) = record { output_record = s; at = at; older = older } ∷ written_by bytes (at + length (bytes s at older)) (older_after s at older) ss
+written_by bytes at newest [] = []
+written_by bytes at newest (s ∷ ss) = record { output_record = s; at = at; newest = newest } ∷ written_by bytes (at + length (bytes s at newest)) (newest_after s at newest) ss
 
 -- The bytes of an output record at its own offset in the output.
 abbrev pub bytes_by : (OutputRecord → ℕ → Option ℕ → List ℕ) → Written → List ℕ
-bytes_by bytes w = bytes w.output_record w.at w.older
+bytes_by bytes w = bytes w.output_record w.at w.newest
 
 -- The output chunk with these output records, given the bytes of each.
 abbrev pub assembled_by : Parts → (OutputRecord → ℕ → Option ℕ → List ℕ) → List OutputRecord → List ℕ
 assembled_by p bytes ss =
     let ws = written_by bytes 68 None ss in
     let body = flat_map (bytes_by bytes) ws in
-    header_with p.bytes (68 + length body) (last_at None ws) (moved ws (metadata_at p.bytes)) ++ body
+    header_with p.bytes (68 + length body) (newest_at None ws) (moved ws (metadata_at p.bytes)) ++ body
 
 -- The rewritten chunk, if these events are kept and these entries remain.
 unfoldable pub rewritten : Rewrite → Parts → List EventAt → List EntryAt → List ℕ

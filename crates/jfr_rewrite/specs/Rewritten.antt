@@ -34,13 +34,13 @@ CarriesTail w r tail = Carries (w.width r (length tail)) (length tail)
 
 -- So for an output record at this offset: an event, or a chained checkpoint.
 abbrev pub CarriesRecord : Rewrite → Parts → List EventAt → List EntryAt → OutputRecord → ℕ → Option ℕ → Type 0
-CarriesRecord w p kept entries (scrub.Whole r) at older = (e : EventAt) → event_there kept r ≡ Some e → CarriesTail w e.record_of (event_tail w p e)
-CarriesRecord w p kept entries (Rebuilt r x) at older = ⊤
-CarriesRecord w p kept entries (Chained number l) at older = CarriesTail w l.frame (chained_tail w p entries number l at older)
+CarriesRecord w p kept entries (scrub.Whole r) at newest = (e : EventAt) → event_there kept r ≡ Some e → CarriesTail w e.record_of (event_tail w p e)
+CarriesRecord w p kept entries (Rebuilt r x) at newest = ⊤
+CarriesRecord w p kept entries (Chained number l) at newest = CarriesTail w l.frame (chained_tail w p entries number l at newest)
 
 -- So for each record of the output.
 abbrev pub CarriesAll : Rewrite → Parts → List EventAt → List EntryAt → Type 0
-CarriesAll w p kept entries = AllByRecursion (λ (o : Written). CarriesRecord w p kept entries o.output_record o.at o.older) (rewritten_records w p kept entries)
+CarriesAll w p kept entries = AllByRecursion (λ (o : Written). CarriesRecord w p kept entries o.output_record o.at o.newest) (rewritten_records w p kept entries)
 
 -- The record at an offset with the given size, if its type and its body are this many bytes after its start.
 abbrev pub frame_from : ℕ → ℕ → ℕ → ℕ → ℕ → Framed

@@ -7,12 +7,12 @@ use Rattle.jfr_pool.specs.declared.entry.EntryAt.{EntryAt}
 use Rattle.jfr_pool.specs.declared.link.Link.{Link}
 use Rattle.jfr_chunk.specs.Parts.{Parts, metadata_at}
 use Rattle.jfr_chunk.specs.Reach.{marked}
-use Rattle.jfr_chunk.specs.Scrub.{OutputRecord, Whole, Chained, Rebuilt, last_at, moved, older_after, record_of}
+use Rattle.jfr_chunk.specs.Scrub.{OutputRecord, Whole, Chained, Rebuilt, newest_at, moved, newest_after, record_of}
 use Rattle.jfr_laws.specs.InChunk.{IsEntryIn, IsLinkIn}
 use Rattle.jfr_output.specs.Positions.{offset_so_far}
 use Rattle.jfr_rewrite.specs.declared.fault.WriteFault.{WriteFault}
 use Rattle.jfr_rewrite.specs.declared.fault.WriteFault.TheVariants as faults
-use Rattle.jfr_rewrite.specs.declared.writer.Output.{Output}
+use Rattle.jfr_rewrite.specs.declared.writer.ChunkSoFar.{ChunkSoFar}
 use Rattle.jfr_rewrite.specs.Changed.{Change}
 use Rattle.jfr_rewrite.specs.Rewrite.{Rewrite, bytes_by, changed_bytes, written_by}
 
@@ -42,8 +42,8 @@ pub record Progress : Type 0 where
   pub newest : Option ℕ
   pub metadata : Option ℕ
 
--- The code's `Output`, as the progress that it has made.
-abbrev pub progress_of : Output → Progress
+-- The code's `ChunkSoFar`, as the progress that it has made.
+abbrev pub progress_of : ChunkSoFar → Progress
 progress_of o = record { bytes = o.bytes.items; newest = o.newest; metadata = o.metadata }
 
 -- The output with one output record more, given the bytes of each. The metadata record was at this offset in
@@ -51,14 +51,14 @@ progress_of o = record { bytes = o.bytes.items; newest = o.newest; metadata = o.
 unfoldable pub with_record : (OutputRecord → ℕ → Option ℕ → List ℕ) → ℕ → Progress → OutputRecord → Progress
 with_record bytes old_at b s = record {
   bytes = b.bytes ++ bytes s (length b.bytes) b.newest;
-  newest = older_after s (length b.bytes) b.newest;
+  newest = newest_after s (length b.bytes) b.newest;
   metadata = offset_so_far b.metadata ((record_of s).at == old_at) (length b.bytes);
 }
 
 -- The output has all output records, given the bytes of each, and 68 bytes for the header.
-pub record IsBody (p : Parts) (bytes : OutputRecord → ℕ → Option ℕ → List ℕ) (ss : List OutputRecord) (b : Progress) : Type 0 where
+pub record HasAllRecords (p : Parts) (bytes : OutputRecord → ℕ → Option ℕ → List ℕ) (ss : List OutputRecord) (b : Progress) : Type 0 where
   pub body : b.bytes ≡ replicate 68 0 ++ flat_map (bytes_by bytes) (written_by bytes 68 None ss)
-  pub newest : unwrap_or b.newest 0 ≡ last_at None (written_by bytes 68 None ss)
+  pub newest : unwrap_or b.newest 0 ≡ newest_at None (written_by bytes 68 None ss)
   pub metadata : unwrap_or b.metadata 0 ≡ moved (written_by bytes 68 None ss) (metadata_at p.bytes)
 
 -- The checkpoint and these entries are in the chunk.

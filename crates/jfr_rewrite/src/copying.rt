@@ -37,7 +37,7 @@ pub(crate) fn put_changed<R: Rewriter>(
 {
     let chunk = changing.chunk;
     chunk.parts_are_valid();
-    if changing.rewriting.stays(chunk, node) {
+    if changing.rewriting.is_unchanged(chunk, node) {
         out.extend_from_slice(&chunk.bytes()[from..to])?;
         return Ok(());
     }

@@ -5,7 +5,7 @@
 //! | entry | what it is |
 //! |---|---|
 //! | `Rewriter` | how a chunk is rewritten: what becomes of leaves, the keys of entries, and how wide sizes are |
-//! | `Source` | what a rewritten chunk is made from: the chunk, the kept events, the remaining entries, a `Rewriter` |
+//! | `RewriteSource` | what a rewritten chunk is made from: the chunk, the kept events, the remaining entries, a `Rewriter` |
 //! | `write_chunk` | writes the rewritten chunk |
 //! | `WriteFault` | why that failed: an allocation, or a size that doesn't fit in its bytes |
 //! | `changed_values_are_read` and the other functions of `laws` | the laws: they do nothing |
@@ -43,4 +43,4 @@ pub use laws::{
     rewritten_chunks_are_accepted, sizes_are_carried,
 };
 pub use rewriter::Rewriter;
-pub use writer::{Source, write_chunk};
+pub use writer::{RewriteSource, write_chunk};

@@ -20,7 +20,7 @@ pub trait Rewriter {
     ghost suits: { Self → Parts → Type 0 };
 
     /// Whether all of a node's value stays the same. Then its leaves aren't visited.
-    fn stays(&self, chunk: &Chunk<'_>, node: Node<'_>) -> bool
+    fn is_unchanged(&self, chunk: &Chunk<'_>, node: Node<'_>) -> bool
         requires suits { suits self.now chunk.now }
         requires of_chunk { node.bytes.now ≡ chunk.now.bytes }
         requires value { IsValue chunk.now.classes node }

@@ -1,4 +1,4 @@
--- Chunks, and so recordings, that agree on all that stays of them have the same scrub.
+-- Chunks, and so recordings, that agree on all that remains of them have the same scrub.
 use Rattle.std.specs.Prelude.{◌≡◌, ℕ, List}
 use Rattle.std.proofs.Common.{ap, sym, ◌∙◌}
 use Rattle.jfr_filter.specs.Filters.{Given, describes}

@@ -19,7 +19,7 @@ use Rattle.jfr_laws.proofs.Listed.{in_any}
 use Rattle.jfr_laws.proofs.Marks.{all_marked}
 use Rattle.jfr_laws.proofs.Order.{Numbered, found_numbered}
 use Rattle.jfr_laws.proofs.Premises.{all_links, IsCheckpoint, chained_checkpoints, metadata_stands}
-use Rattle.jfr_output.specs.OutputRecords.{link_there}
+use Rattle.jfr_output.specs.RemainingRecords.{link_there}
 use Rattle.jfr_output.proofs.CursorLaws.{cursor_first, event_in, events_given}
 use Rattle.jfr_output.proofs.CheckpointEntries.{pools_number}
 use Rattle.jfr_scrub.specs.declared.piece.Range.{Range}

@@ -158,10 +158,10 @@ pub entries_kept : (ps qs : List Range) → Keeps ps qs → (n : ℕ) (es : List
 entries_kept ps qs k n [] a c = tt
 entries_kept ps qs k n (e ∷ es) a c = (k e.key_at e.end a.0.order c.0, entries_kept ps qs k n es a.1 c.1)
 
-output_record_kept : (ps qs : List Range) → Keeps ps qs → (b : List ℕ) (remaining : List EntryAt) → AllByRecursion (HasRange (length b)) remaining → (s : OutputRecord) (at : ℕ) (older : Option ℕ) → OutputRecordFits b remaining s at older → OutputRecordIsCopied remaining ps s → OutputRecordIsCopied remaining qs s
-output_record_kept ps qs k b remaining a (Whole r) at older f c = k r.at (record_end r) (some_bytes b r f) c
-output_record_kept ps qs k b remaining a (Rebuilt r x) at older f c = tt
-output_record_kept ps qs k b remaining a (Chained number l) at older f c =
+output_record_kept : (ps qs : List Range) → Keeps ps qs → (b : List ℕ) (remaining : List EntryAt) → AllByRecursion (HasRange (length b)) remaining → (s : OutputRecord) (at : ℕ) (newest : Option ℕ) → OutputRecordFits b remaining s at newest → OutputRecordIsCopied remaining ps s → OutputRecordIsCopied remaining qs s
+output_record_kept ps qs k b remaining a (Whole r) at newest f c = k r.at (record_end r) (some_bytes b r f) c
+output_record_kept ps qs k b remaining a (Rebuilt r x) at newest f c = tt
+output_record_kept ps qs k b remaining a (Chained number l) at newest f c =
     entries_kept ps qs k (length b) (filter (λ e. e.checkpoint == number) remaining) (range_filter (length b) (λ e. e.checkpoint == number) remaining a) c
 
 -- All are copied, if those still to come are, in any pieces that keep the ranges copied so far.
@@ -194,9 +194,9 @@ so_far_entry n i now next es all d h s k r c =
     λ ps m b. s ps (keeps_then now next ps k m) (subst (AllByRecursion (EntryIsCopied ps)) (sym g) (m e.key_at e.end r.order c, b))
 
 -- The output records after one.
-pub so_far_output_record : (b : List ℕ) (remaining : List EntryAt) (now next : List Range) (s : OutputRecord) (rest all : List OutputRecord) (at : ℕ) (older : Option ℕ) → AllByRecursion (HasRange (length b)) remaining → OutputRecordFits b remaining s at older → SoFar (OutputRecordIsCopied remaining) now (s ∷ rest) all → Keeps now next → OutputRecordIsCopied remaining next s →
+pub so_far_output_record : (b : List ℕ) (remaining : List EntryAt) (now next : List Range) (s : OutputRecord) (rest all : List OutputRecord) (at : ℕ) (newest : Option ℕ) → AllByRecursion (HasRange (length b)) remaining → OutputRecordFits b remaining s at newest → SoFar (OutputRecordIsCopied remaining) now (s ∷ rest) all → Keeps now next → OutputRecordIsCopied remaining next s →
     SoFar (OutputRecordIsCopied remaining) next rest all
-so_far_output_record b remaining now next s rest all at older a f so k c = λ ps m d. so ps (keeps_then now next ps k m) (output_record_kept next ps m b remaining a s at older f c, d)
+so_far_output_record b remaining now next s rest all at newest a f so k c = λ ps m d. so ps (keeps_then now next ps k m) (output_record_kept next ps m b remaining a s at newest f c, d)
 
 -- Records of a range that is copied.
 records_copied : (b : List ℕ) (remaining : List EntryAt) (now next : List Range) → Keeps now next → (p from to : ℕ) (rs : List Framed) → IsCopied now p to → p ≤ from → Tiles b from rs to → AllByRecursion (OutputRecordIsCopied remaining next) (map (λ r. Whole r) rs)

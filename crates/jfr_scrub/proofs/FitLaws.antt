@@ -21,7 +21,7 @@ use Rattle.jfr_chunk.specs.Reach.{reached_marks, remain}
 use Rattle.jfr_chunk.specs.Written.{distance}
 use Rattle.jfr_chunk.specs.Metas.{Names, new_metadata}
 use Rattle.jfr_chunk.specs.Scrub.{OutputRecord, Whole, Chained, Rebuilt, groups_of, bytes_of, written_bytes, written, written_anew, output_records, is_kept_or_metadata}
-use Rattle.jfr_laws.specs.InChunk.{IsLinkIn, Constants, Pools}
+use Rattle.jfr_laws.specs.InChunk.{IsLinkIn, AreConstants, ArePools}
 use Rattle.jfr_laws.proofs.InChunk.{body_stands}
 use Rattle.jfr_laws.proofs.Marks.{all_marked}
 use Rattle.jfr_laws.proofs.Order.{Numbered}
@@ -37,36 +37,36 @@ use Rattle.jfr_scrub.proofs.BodyLaws.{WrittenFits}
 
 module _ (c : List ℕ) (remaining : List EntryAt) (k : Classes) where
   -- Its delta takes no more bytes than before.
-  delta_room : (l : Link) → IsLinkIn c l → (at : ℕ) (older : Option ℕ) → (is_some older ≡ true → l.delta_end ≡ l.delta_at + 9) → l.delta_at + length (spell (distance at older)) ≤ l.delta_end
+  delta_room : (l : Link) → IsLinkIn c l → (at : ℕ) (newest : Option ℕ) → (is_some newest ≡ true → l.delta_end ≡ l.delta_at + 9) → l.delta_at + length (spell (distance at newest)) ≤ l.delta_end
   unfolding spell
   delta_room l s at None d = let i : l.delta_at < l.delta_end = int_some c l.delta_at l.delta_end s.word s.delta_spelled in omega arith
   delta_room l s at (Some o) d = let e : l.delta_end ≡ l.delta_at + 9 = d refl in let i = spell_most (distance at (Some o)) in omega arith
 
   -- A checkpoint that can be written fits.
-  link_fits : (i : ℕ) (l : Link) (at : ℕ) (older : Option ℕ) → IsOutputRecordIn c remaining k (Chained i l) → (is_some older ≡ true → l.delta_end ≡ l.delta_at + 9) → LinkFits c l (distance at older) (groups_of remaining i)
-  link_fits i l at older s d =
+  link_fits : (i : ℕ) (l : Link) (at : ℕ) (newest : Option ℕ) → IsOutputRecordIn c remaining k (Chained i l) → (is_some newest ≡ true → l.delta_end ≡ l.delta_at + 9) → LinkFits c l (distance at newest) (groups_of remaining i)
+  link_fits i l at newest s d =
       let b : l.frame.body ≤ s.0.middle = s.0.start_spelled.order in
       let m : s.0.middle ≤ l.delta_at = s.0.duration_spelled.order in
-      let t = tail_small c l (distance at older) (groups_of remaining i) s.0 (delta_room l s.0 at older d) s.2 in
+      let t = tail_small c l (distance at newest) (groups_of remaining i) s.0 (delta_room l s.0 at newest d) s.2 in
       record { framed = s.0.record_stands; behind = omega arith; order = s.0.delta_spelled.order; kind = s.0.kind_within; room = omega arith }
 
-  all_written : (ss : List OutputRecord) (at : ℕ) (older : Option ℕ) → AllByRecursion (IsOutputRecordIn c remaining k) ss → Deltas (is_some older) ss → AllByRecursion (WrittenFits c remaining) (written c remaining at older ss)
-  all_written [] at older a d = tt
-  all_written (Whole r ∷ ss) at older a d = (a.0, all_written ss (at + length (bytes_of c remaining (Whole r) at older)) older a.1 d)
-  all_written (Rebuilt r x ∷ ss) at older a d =
+  all_written : (ss : List OutputRecord) (at : ℕ) (newest : Option ℕ) → AllByRecursion (IsOutputRecordIn c remaining k) ss → Deltas (is_some newest) ss → AllByRecursion (WrittenFits c remaining) (written c remaining at newest ss)
+  all_written [] at newest a d = tt
+  all_written (Whole r ∷ ss) at newest a d = (a.0, all_written ss (at + length (bytes_of c remaining (Whole r) at newest)) newest a.1 d)
+  all_written (Rebuilt r x ∷ ss) at newest a d =
       let i : 0 < record_end (own_frame x) = some_bytes x (own_frame x) a.0.1 in
-      ((a.0.0, omega arith, a.0.2), all_written ss (at + length (bytes_of c remaining (Rebuilt r x) at older)) older a.1 d)
-  all_written (Chained i l ∷ ss) at older a d = (link_fits i l at older a.0 d.0, all_written ss (at + length (bytes_of c remaining (Chained i l) at older)) (Some at) a.1 d.1)
+      ((a.0.0, omega arith, a.0.2), all_written ss (at + length (bytes_of c remaining (Rebuilt r x) at newest)) newest a.1 d)
+  all_written (Chained i l ∷ ss) at newest a d = (link_fits i l at newest a.0 d.0, all_written ss (at + length (bytes_of c remaining (Chained i l) at newest)) (Some at) a.1 d.1)
 
 -- What is written has a byte.
-pub some_written : (c : List ℕ) (remaining : List EntryAt) (s : OutputRecord) (at : ℕ) (older : Option ℕ) → OutputRecordFits c remaining s at older → 1 ≤ length (bytes_of c remaining s at older)
-some_written c remaining (Whole r) at older f =
+pub some_written : (c : List ℕ) (remaining : List EntryAt) (s : OutputRecord) (at : ℕ) (newest : Option ℕ) → OutputRecordFits c remaining s at newest → 1 ≤ length (bytes_of c remaining s at newest)
+some_written c remaining (Whole r) at newest f =
     let i = some_bytes c r f in
     let l : length (record_bytes c r) ≡ record_end r - r.at = range_length c r.at (record_end r) f.within in
     omega arith
-some_written c remaining (Rebuilt r x) at older f = f.1
-some_written c remaining (Chained i l) at older f =
-    let n = checkpoint_length c l (distance at older) (groups_of remaining i) f in
+some_written c remaining (Rebuilt r x) at newest f = f.1
+some_written c remaining (Chained i l) at newest f =
+    let n = checkpoint_length c l (distance at newest) (groups_of remaining i) f in
     let w = size_width c l.frame f.framed in
     omega (arith, w.0)
 
@@ -92,14 +92,14 @@ module _ (names : Names) (p : Parts) (a : AreParts p) (kept : List EventAt) wher
       omega arith
 
 module _ (c : List ℕ) (k : Classes) where
-  constants_range : (checkpoint number class at : ℕ) (xs : List Constant) (to : ℕ) (ys : List EntryAt) → Constants c k class at xs to → AllByRecursion (HasRange (length c)) ys → AllByRecursion (HasRange (length c)) (map (entry_of checkpoint number class) xs ++ ys)
+  constants_range : (checkpoint number class at : ℕ) (xs : List Constant) (to : ℕ) (ys : List EntryAt) → AreConstants c k class at xs to → AllByRecursion (HasRange (length c)) ys → AllByRecursion (HasRange (length c)) (map (entry_of checkpoint number class) xs ++ ys)
   constants_range checkpoint number class at [] to ys s b = b
   constants_range checkpoint number class at (x ∷ xs) to ys s b =
       let i : x.key_at < x.value_at = int_some c x.key_at x.value_at x.key s.0.key in
       let j : x.value_at ≤ x.end = s.0.order in
       (record { order = omega arith; within = s.0.within }, constants_range checkpoint number class x.end xs to ys s.1 b)
 
-  pools_range : (checkpoint number at : ℕ) (ps : List PoolAt) (to : ℕ) (ys : List EntryAt) → Pools c k at ps to → AllByRecursion (HasRange (length c)) ys → AllByRecursion (HasRange (length c)) (entries_from checkpoint number ps ++ ys)
+  pools_range : (checkpoint number at : ℕ) (ps : List PoolAt) (to : ℕ) (ys : List EntryAt) → ArePools c k at ps to → AllByRecursion (HasRange (length c)) ys → AllByRecursion (HasRange (length c)) (entries_from checkpoint number ps ++ ys)
   pools_range checkpoint number at [] to ys s b = b
   pools_range checkpoint number at (p ∷ ps) to ys s b =
       subst (AllByRecursion (HasRange (length c))) (sym (append_assoc (map (entry_of checkpoint number p.class) p.constants) (entries_from checkpoint (number + 1) ps) ys))

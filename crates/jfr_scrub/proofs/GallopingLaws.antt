@@ -15,8 +15,8 @@ use Rattle.jfr_value.specs.Reading.{value_format}
 use Rattle.jfr_pool.specs.Entries.{inline}
 use Rattle.jfr_chunk.specs.Parts.{Parts, EventAt, AreParts, event_by, event_of, events_of}
 use Rattle.jfr_chunk.proofs.CountLaws.{whole_small}
-use Rattle.jfr_output.specs.declared.output_records.Cursor.{Cursor}
-use Rattle.jfr_output.specs.OutputRecords.{IsCursor, event_after, is_kept_at}
+use Rattle.jfr_output.specs.declared.remaining_records.RecordCursor.{RecordCursor}
+use Rattle.jfr_output.specs.RemainingRecords.{IsCursor, event_after, is_kept_at}
 use Rattle.jfr_output.proofs.CursorLaws.{drop_at, event_in, event_place, event_stands, events_given, rising_at}
 use Rattle.jfr_output.proofs.OutputRecordLaws.{Rises, Stands, at_head, rises_given}
 use Rattle.jfr_scrub.specs.Runs.{HasEventAt, HasRoom, IsAtEvents, is_in_run}
@@ -115,7 +115,7 @@ event_recorded p r e h = by_test (is_event_class p.classes r.type_id) h
     by_test false q = cc
 
 -- Where a record is the event of the same number from the cursor on, so are those before it.
-pub events_before : (p : Parts) (c : Cursor) → IsAtEvents p c → (k : ℕ) → HasEventAt p c k → (i : ℕ) → i ≤ k → HasEventAt p c i
+pub events_before : (p : Parts) (c : RecordCursor) → IsAtEvents p c → (k : ℕ) → HasEventAt p c k → (i : ℕ) → i ≤ k → HasEventAt p c i
 events_before p c a k h i l =
     let e : drop c.event (events_of p) ≡ filter_map (event_in p) (drop c.frame p.records) = a.events ∙ events_given p (drop c.frame p.records) in
     let rs = drop c.frame p.records in
@@ -144,7 +144,7 @@ rising_one p (s ∷ rs) (suc i) zero r a e f = let h : s ≡ r = cc in absurd (b
 rising_one p (s ∷ rs) (suc i) (suc j) r a e f = ap suc (rising_one (s.at + 1) rs i j r a.1 e f)
 
 -- What is computed at an offset.
-pub tells_event : (p : Parts) (c : Cursor) (offset number : ℕ) → AreParts p → option_map (slice_get p.records) (Some number) ≡ option_map (λ (e : EventAt). Some e.record_of) (slice_get (events_of p) (c.event + offset)) → IsTrue (number == c.frame + offset) ↔ HasEventAt p c offset
+pub tells_event : (p : Parts) (c : RecordCursor) (offset number : ℕ) → AreParts p → option_map (slice_get p.records) (Some number) ≡ option_map (λ (e : EventAt). Some e.record_of) (slice_get (events_of p) (c.event + offset)) → IsTrue (number == c.frame + offset) ↔ HasEventAt p c offset
 tells_event p c offset number a e = (by_true, by_event)
   where
     at_number : (x : EventAt) → slice_get (events_of p) (c.event + offset) ≡ Some x → slice_get p.records number ≡ Some x.record_of
@@ -165,7 +165,7 @@ tells_event p c offset number a e = (by_true, by_event)
         let n : number ≡ c.frame + offset = rising_one 0 p.records number (c.frame + offset) h.event.record_of (rising_of p.bytes 0 68 (length p.bytes) p.records (omega arith) a.records) (at_number h.event h.there) h.framed in
         grind (arith, nat_tests)
 
-pub tells_none : (p : Parts) (c : Cursor) (offset : ℕ) → None ≡ option_map (λ (e : EventAt). Some e.record_of) (slice_get (events_of p) (c.event + offset)) → IsTrue false ↔ HasEventAt p c offset
+pub tells_none : (p : Parts) (c : RecordCursor) (offset : ℕ) → None ≡ option_map (λ (e : EventAt). Some e.record_of) (slice_get (events_of p) (c.event + offset)) → IsTrue false ↔ HasEventAt p c offset
 tells_none p c offset e = ((λ t. cc), (λ h. (let g : None ≡ Some (Some h.event.record_of) = e ∙ ap (option_map (λ (e : EventAt). Some e.record_of)) h.there in cc)))
 
 -- There are no more records than bytes, and no more events than records.
@@ -192,17 +192,17 @@ counts_small p a =
     let s = whole_small p.bytes a.whole in
     (omega arith, omega arith)
 
-pub ahead_within : (p : Parts) (c : Cursor) (k : ℕ) → HasEventAt p c k → (c.frame + k < length p.records) × (c.event + k < length (events_of p))
+pub ahead_within : (p : Parts) (c : RecordCursor) (k : ℕ) → HasEventAt p c k → (c.frame + k < length p.records) × (c.event + k < length (events_of p))
 ahead_within p c k h = (slice_get_within p.records (c.frame + k) h.event.record_of h.framed, slice_get_within (events_of p) (c.event + k) h.event h.there)
 
 -- So the numbers up to twice as far have room.
-pub room_doubled : (p : Parts) (c : Cursor) → IsAccepted p → (k : ℕ) → HasEventAt p c k → HasRoom c (2 * k + 1)
+pub room_doubled : (p : Parts) (c : RecordCursor) → IsAccepted p → (k : ℕ) → HasEventAt p c k → HasRoom c (2 * k + 1)
 room_doubled p c a k h =
     let s = counts_small p a in
     let w = ahead_within p c k h in
     record { event = omega (arith, s.1, w.1); frame = omega (arith, s.0, w.0) }
 
-pub room_behind : (p : Parts) (c : Cursor) → IsAccepted p → HasRoom c 0 → (n : ℕ) → ((offset : ℕ) → offset < n → HasEventAt p c offset) → HasRoom c n
+pub room_behind : (p : Parts) (c : RecordCursor) → IsAccepted p → HasRoom c 0 → (n : ℕ) → ((offset : ℕ) → offset < n → HasEventAt p c offset) → HasRoom c n
 room_behind p c a r zero h = r
 room_behind p c a r (suc n) h =
     let s = counts_small p a in
@@ -210,7 +210,7 @@ room_behind p c a r (suc n) h =
     record { event = omega (arith, s.1, w.1); frame = omega (arith, s.0, w.0) }
 
 -- The cursor's record is its event and is kept.
-pub record InRun (p : Parts) (flags : List Bool) (c : Cursor) : Type 0 where
+pub record InRun (p : Parts) (flags : List Bool) (c : RecordCursor) : Type 0 where
   pub frame : Framed
   pub event : EventAt
   pub framed : slice_get p.records c.frame ≡ Some frame
@@ -219,7 +219,7 @@ pub record InRun (p : Parts) (flags : List Bool) (c : Cursor) : Type 0 where
   pub keep : is_kept_at (events_of p) flags c.event frame.at ≡ true
   pub behind : event_after (events_of p) c.event frame.at ≡ c.event + 1
 
-pub in_run : (p : Parts) (flags : List Bool) (c : Cursor) → IsCursor p flags c → is_in_run p flags c ≡ true → InRun p flags c
+pub in_run : (p : Parts) (flags : List Bool) (c : RecordCursor) → IsCursor p flags c → is_in_run p flags c ≡ true → InRun p flags c
 in_run p flags c i h = by_record (slice_get p.records c.frame) refl h
   where
     by_place : (r : Framed) → slice_get p.records c.frame ≡ Some r → (x : EventAt) → slice_get (events_of p) c.event ≡ Some x → (x.record_of.at == r.at) ≡ true → is_kept_at (events_of p) flags c.event r.at ≡ true → InRun p flags c

@@ -6,9 +6,9 @@ use Rattle.jfr_pool.specs.declared.entry.EntryAt.{EntryAt}
 use Rattle.jfr_chunk.specs.Parts.{Parts, EventAt, metadata_at}
 use Rattle.jfr_chunk.specs.Reach.{remain}
 use Rattle.jfr_chunk.specs.Written.{Group, distance}
-use Rattle.jfr_chunk.specs.Scrub.{OutputRecord, Whole, Chained, Rebuilt, output_records, groups_of, bytes_of, written_bytes, older_after, written, last_at, record_of, moved}
+use Rattle.jfr_chunk.specs.Scrub.{OutputRecord, Whole, Chained, Rebuilt, output_records, groups_of, bytes_of, written_bytes, newest_after, written, newest_at, record_of, moved}
 use Rattle.jfr_output.specs.Positions.{offset_so_far}
-use Rattle.jfr_scrub.specs.declared.body.Body.{Body}
+use Rattle.jfr_scrub.specs.declared.body.BodySoFar.{BodySoFar}
 use Rattle.jfr_scrub.specs.declared.piece.MadePart.{MadePart}
 use Rattle.jfr_scrub.specs.declared.piece.MadePart.TheVariants.{ChunkHeader, CheckpointSize, CheckpointDelta, PoolCount, PoolClass, EntryCount, MetadataRecord}
 use Rattle.jfr_scrub.specs.declared.piece.Range.{Range}
@@ -19,31 +19,31 @@ use Rattle.jfr_scrub.specs.Fits.{LinkFits}
 pub record Progress : Type 0 where
   pub output : OutputSoFar
   pub at : ℕ
-  pub older : Option ℕ
+  pub newest : Option ℕ
   pub metadata : Option ℕ
 
--- The body so far that the code's `Body` holds.
-abbrev pub progress_of : Body → Progress
-progress_of b = record { output = output_so_far b.output; at = b.at; older = b.older; metadata = b.metadata }
+-- The code's `BodySoFar`, as the progress that it has made.
+abbrev pub progress_of : BodySoFar → Progress
+progress_of b = record { output = output_so_far b.output; at = b.at; newest = b.newest; metadata = b.metadata }
 
 -- The output record takes no more bytes than the record of the chunk from which it is made.
 abbrev pub OutputRecordFits : List ℕ → List EntryAt → OutputRecord → ℕ → Option ℕ → Type 0
-OutputRecordFits c remaining (Whole r) at older = IsRecord c r
-OutputRecordFits c remaining (Rebuilt r x) at older = IsRecord c r × (1 ≤ length x) × (length x ≤ r.size)
-OutputRecordFits c remaining (Chained number l) at older = LinkFits c l (distance at older) (groups_of remaining number)
+OutputRecordFits c remaining (Whole r) at newest = IsRecord c r
+OutputRecordFits c remaining (Rebuilt r x) at newest = IsRecord c r × (1 ≤ length x) × (length x ≤ r.size)
+OutputRecordFits c remaining (Chained number l) at newest = LinkFits c l (distance at newest) (groups_of remaining number)
 
--- The body with one output record more: its bytes, the offset after it, the offset of the last checkpoint,
+-- The body with one output record more: its bytes, the offset after it, the offset of the newest checkpoint,
 -- and that of the metadata record, which was at this offset in the chunk.
 abbrev pub body_with : List EntryAt → ℕ → Progress → OutputRecord → Progress
 body_with remaining metadata b s =
-    let bytes = bytes_of b.output.chunk remaining s b.at b.older in
-    record { output = more b.output bytes; at = b.at + length bytes; older = older_after s b.at b.older; metadata = offset_so_far b.metadata ((record_of s).at == metadata) b.at }
+    let bytes = bytes_of b.output.chunk remaining s b.at b.newest in
+    record { output = more b.output bytes; at = b.at + length bytes; newest = newest_after s b.at b.newest; metadata = offset_so_far b.metadata ((record_of s).at == metadata) b.at }
 
 -- The body with all output records.
-pub record IsBody (p : Parts) (remaining : List EntryAt) (ss : List OutputRecord) (b : Progress) : Type 0 where
+pub record HasAllRecords (p : Parts) (remaining : List EntryAt) (ss : List OutputRecord) (b : Progress) : Type 0 where
   pub output : b.output ≡ record { chunk = p.bytes; bytes = flat_map (written_bytes p.bytes remaining) (written p.bytes remaining 68 None ss) }
   pub at : b.at ≡ 68 + length (flat_map (written_bytes p.bytes remaining) (written p.bytes remaining 68 None ss))
-  pub older : unwrap_or b.older 0 ≡ last_at None (written p.bytes remaining 68 None ss)
+  pub newest : unwrap_or b.newest 0 ≡ newest_at None (written p.bytes remaining 68 None ss)
   pub metadata : unwrap_or b.metadata 0 ≡ moved (written p.bytes remaining 68 None ss) (metadata_at p.bytes)
   pub within : b.at ≤ length p.bytes
 

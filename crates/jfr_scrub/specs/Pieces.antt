@@ -43,7 +43,7 @@ LieIn l = AllByRecursion (Lies (length l.chunk) (length l.made)) l.pieces
 
 -- The pieces given by a chunk and these ranges.
 abbrev pub laid_in : List ℕ → Ranges → PieceList
-laid_in c r = record { chunk = c; made = r.made.items; pieces = r.parts.items }
+laid_in c r = record { chunk = c; made = r.made.items; pieces = r.ranges.items }
 
 -- The range of a piece.
 abbrev pub range_of : Piece → Range

@@ -6,8 +6,8 @@ use Rattle.jfr_frame.specs.declared.framed.Framed.{Framed}
 use Rattle.jfr_frame.specs.Records.{Tiles}
 use Rattle.jfr_chunk.specs.Parts.{Parts, EventAt, events_of, metadata_at}
 use Rattle.jfr_chunk.specs.Scrub.{Whole}
-use Rattle.jfr_output.specs.declared.output_records.Cursor.{Cursor}
-use Rattle.jfr_output.specs.OutputRecords.{IsCursor, events_from, is_kept_at, remaining_output_records}
+use Rattle.jfr_output.specs.declared.remaining_records.RecordCursor.{RecordCursor}
+use Rattle.jfr_output.specs.RemainingRecords.{IsCursor, events_from, is_kept_at, output_records_from}
 use Rattle.jfr_scrub.specs.declared.run.Run.{Run}
 use Rattle.jfr_scrub.specs.Bodies.{Progress}
 use Rattle.jfr_scrub.specs.Pieces.{more}
@@ -18,37 +18,37 @@ abbrev pub record_start : Parts → ℕ → ℕ
 record_start p n = option_map_or (λ r. r.at) (slice_get p.records n) (length p.bytes)
 
 -- Whether the cursor's record is that of the cursor's event, and the event is kept.
-abbrev pub is_in_run : Parts → List Bool → Cursor → Bool
+abbrev pub is_in_run : Parts → List Bool → RecordCursor → Bool
 is_in_run p flags c = option_map_or (λ r. is_kept_at (events_of p) flags c.event r.at) (slice_get p.records c.frame) false
 
 -- The parts are those of a whole chunk, and from the cursor's event on, the events are those of the records
 -- from its record on.
-pub record IsAtEvents (p : Parts) (c : Cursor) : Type 0 where
+pub record IsAtEvents (p : Parts) (c : RecordCursor) : Type 0 where
   pub accepted : IsAccepted p
   pub events : drop c.event (events_of p) ≡ events_from p (drop c.frame p.records)
 
 -- The record at this offset from the cursor's is that of the event at the same offset from the cursor's.
-pub record HasEventAt (p : Parts) (c : Cursor) (offset : ℕ) : Type 0 where
+pub record HasEventAt (p : Parts) (c : RecordCursor) (offset : ℕ) : Type 0 where
   pub event : EventAt
   pub there : slice_get (events_of p) (c.event + offset) ≡ Some event
   pub framed : slice_get p.records (c.frame + offset) ≡ Some event.record_of
 
 -- The numbers at this offset from the cursor's fit in 64 bits.
-pub record HasRoom (c : Cursor) (offset : ℕ) : Type 0 where
+pub record HasRoom (c : RecordCursor) (offset : ℕ) : Type 0 where
   pub event : c.event + offset < 2 ^ 64
   pub frame : c.frame + offset < 2 ^ 64
 
 -- A run of consecutive records that are written whole covers this range of the chunk, and none of them is the
 -- metadata record. The output records from one cursor on are these, then those from the other.
-pub record IsRun (p : Parts) (flags : List Bool) (c d : Cursor) (from to : ℕ) : Type 0 where
+pub record IsRun (p : Parts) (flags : List Bool) (c d : RecordCursor) (from to : ℕ) : Type 0 where
   pub records : List Framed
   pub tiles : Tiles p.bytes from records to
   pub within : to ≤ length p.bytes
   pub others : AllByRecursion (λ r. (r.at == metadata_at p.bytes) ≡ false) records
-  pub output_records : (slim : Option (List ℕ)) → remaining_output_records slim p flags c ≡ map (λ r. Whole r) records ++ remaining_output_records slim p flags d
+  pub output_records : (slim : Option (List ℕ)) → output_records_from slim p flags c ≡ map (λ r. Whole r) records ++ output_records_from slim p flags d
 
 -- The cursor has moved past a run.
-pub record Passes (p : Parts) (flags : List Bool) (c d : Cursor) : Type 0 where
+pub record Passes (p : Parts) (flags : List Bool) (c d : RecordCursor) : Type 0 where
   pub cursor : IsCursor p flags d
   pub run : IsRun p flags c d (record_start p c.frame) (record_start p d.frame)
 

@@ -4,72 +4,74 @@ ghost use Rattle.std.specs.List.{AllByRecursion, flat_map};
 ghost use Rattle.jfr_chunk.specs.Reach.{kept_by, remain};
 ghost use Rattle.jfr_chunk.specs.Scrub.{bytes_of, output_records};
 ghost use Rattle.jfr_output.specs.Metadata.{IsMetadataRecord};
-ghost use Rattle.jfr_output.specs.OutputRecords.{IsNewMetadata, ShowsMetadata, output_record_as};
+ghost use Rattle.jfr_output.specs.RemainingRecords.{IsNewMetadata, ShowsMetadata, output_record_for};
 ghost use Rattle.jfr_output.specs.Positions.{IsBefore};
 ghost use Rattle.jfr_output.specs.Remaining.{NotFalling};
-ghost use Rattle.jfr_scrub.specs.Bodies.{IsBody, OutputRecordFits, OutputRecordIsCopied, OutputRecordsAreCopied, body_with, progress_of, output_record_parts};
+ghost use Rattle.jfr_scrub.specs.Bodies.{HasAllRecords, OutputRecordFits, OutputRecordIsCopied, OutputRecordsAreCopied, body_with, progress_of, output_record_parts};
 ghost use Rattle.jfr_scrub.specs.Pieces.{Grows, IsCopied, made_parts};
 ghost use Rattle.jfr_scrub.specs.Runs.{body_with_run};
 ghost use Rattle.jfr_scrub.specs.Scrubbing.{IsAccepted};
 ghost use Rattle.jfr_scrub.specs.Sizes.{HasRange};
 
 use crate::checkpoint::lay_checkpoint;
-use crate::output::Output;
+use crate::piece_builder::PieceBuilder;
 use crate::run::{Run, pass_run};
 use jfr_chunk::{Chunk, Kept};
-use jfr_output::{Cursor, OutputRecord, delta_to, entries_of, next_output_record};
+use jfr_output::{RecordCursor, RemainingRecord, delta_to, entries_of, next_remaining_record};
 use jfr_outside::NoMemory;
 use jfr_pool::EntryAt;
 use std::alloc::Global;
 
-/// The body so far: its bytes, the offset of the next byte, and the offsets of the last checkpoint and of
-/// the metadata record, if they have been laid out.
+/// The body so far: its pieces, the offset of the next byte, and the offsets of the newest checkpoint and of the
+/// metadata record, if they have been laid out.
 #[derive(Drop)]
-pub(crate) struct Body<'a> {
-    pub(crate) output: Output<'a>,
+pub(crate) struct BodySoFar<'a> {
+    pub(crate) output: PieceBuilder<'a>,
     pub(crate) at: usize,
-    pub(crate) older: Option<usize>,
+    pub(crate) newest: Option<usize>,
     pub(crate) metadata: Option<usize>,
 }
 
-/// Lays out all output records, with the entries that remain and the new metadata record, if there is one.
+/// Lays out the output records for all remaining records, with the entries that remain and the new metadata record,
+/// if there is one.
 pub(crate) fn lay_body<'a>(
     alloc: Global,
     chunk: &Chunk<'a>,
     kept: &Kept,
     remaining: &[EntryAt],
     slim: Option<&[u8]>,
-) -> Result<Body<'a>, NoMemory>
+) -> Result<BodySoFar<'a>, NoMemory>
     requires remaining { remaining.now ≡ remain chunk.now (kept_by chunk.now kept.now) }
     requires slim { IsNewMetadata chunk.now (kept_by chunk.now kept.now) (option_map (λ s. s.now) slim) }
     requires metadata { IfSome slim (λ s. IsMetadataRecord s.now) }
-    ensures ok { IfOk result (λ body. IsBody chunk.now remaining.now (output_records (option_map (λ s. s.now) slim.entry) chunk.now (kept_by chunk.now kept.now)) (progress_of body)) }
+    ensures ok { IfOk result (λ body. HasAllRecords chunk.now remaining.now (output_records (option_map (λ s. s.now) slim.entry) chunk.now (kept_by chunk.now kept.now)) (progress_of body)) }
     ensures copied { IfOk result (λ body. OutputRecordsAreCopied remaining.now (output_records (option_map (λ s. s.now) slim.entry) chunk.now (kept_by chunk.now kept.now)) body.output.pieces) }
     ensures made { IfOk result (λ body. made_parts body.output.pieces ≡ flat_map (output_record_parts remaining.now) (output_records (option_map (λ s. s.now) slim.entry) chunk.now (kept_by chunk.now kept.now))) }
     ensures accepted { IsAccepted chunk.now }
 {
-    let mut body = Body {
-        output: Output::new(alloc, chunk.bytes()),
+    let mut body = BodySoFar {
+        output: PieceBuilder::new(alloc, chunk.bytes()),
         at: 68,
-        older: None,
+        newest: None,
         metadata: None,
     };
-    let mut cursor = Cursor {
+    let mut cursor = RecordCursor {
         frame: 0,
         event: 0,
         link: 0,
     };
     'output_records: loop {
         lay_run(&mut body, pass_run(chunk, kept, &mut cursor))?;
-        let Some(output_record) = next_output_record(chunk, kept, &mut cursor) else {
+        let Some(remaining_record) = next_remaining_record(chunk, kept, &mut cursor) else {
             return Ok(body);
         };
-        lay_record(&mut body, remaining, slim, output_record)?;
+        lay_record(&mut body, remaining, slim, remaining_record)?;
     }
 }
 
+/// Copies a run of events.
 #[inline(always)]
-fn lay_run(body: &mut Body, run: Run) -> Result<(), NoMemory>
+fn lay_run(body: &mut BodySoFar, run: Run) -> Result<(), NoMemory>
     requires order { run.from ≤ run.to }
     requires within { run.to ≤ length body.old.output.chunk }
     requires room { body.old.at + (run.to - run.from) ≤ length body.old.output.chunk }
@@ -83,31 +85,32 @@ fn lay_run(body: &mut Body, run: Run) -> Result<(), NoMemory>
     Ok(())
 }
 
+/// Lays out the output record for a remaining record.
 #[inline(always)]
 fn lay_record(
-    body: &mut Body,
+    body: &mut BodySoFar,
     remaining: &[EntryAt],
     slim: Option<&[u8]>,
-    output_record: OutputRecord,
+    remaining_record: RemainingRecord,
 ) -> Result<(), NoMemory>
-    requires fits { OutputRecordFits body.old.output.chunk remaining.now (output_record_as (option_map (λ s. s.now) slim) output_record) body.old.at body.old.older }
+    requires fits { OutputRecordFits body.old.output.chunk remaining.now (output_record_for (option_map (λ s. s.now) slim) remaining_record) body.old.at body.old.newest }
     requires slim { IfSome slim (λ s. IsMetadataRecord s.now) }
     requires order { NotFalling 0 remaining.now }
     requires ranges { AllByRecursion (HasRange (length body.old.output.chunk)) remaining.now }
-    requires before { IsBefore body.old.older body.old.at }
-    requires room { body.old.at + length (bytes_of body.old.output.chunk remaining.now (output_record_as (option_map (λ s. s.now) slim) output_record) body.old.at body.old.older) ≤ length body.old.output.chunk }
+    requires before { IsBefore body.old.newest body.old.at }
+    requires room { body.old.at + length (bytes_of body.old.output.chunk remaining.now (output_record_for (option_map (λ s. s.now) slim) remaining_record) body.old.at body.old.newest) ≤ length body.old.output.chunk }
     requires small { length body.old.output.chunk < 2 ^ 64 }
-    ensures ok { OnOk result ((metadata : ℕ) → ShowsMetadata metadata output_record → progress_of body.new ≡ body_with remaining.now metadata (progress_of body.old) (output_record_as (option_map (λ s. s.now) slim.entry) output_record)) }
-    ensures copied { OnOk result (OutputRecordIsCopied remaining.now body.new.output.pieces (output_record_as (option_map (λ s. s.now) slim.entry) output_record)) }
-    ensures grows { OnOk result (Grows body.old.output.pieces body.new.output.pieces (output_record_parts remaining.now (output_record_as (option_map (λ s. s.now) slim.entry) output_record))) }
+    ensures ok { OnOk result ((metadata : ℕ) → ShowsMetadata metadata remaining_record → progress_of body.new ≡ body_with remaining.now metadata (progress_of body.old) (output_record_for (option_map (λ s. s.now) slim.entry) remaining_record)) }
+    ensures copied { OnOk result (OutputRecordIsCopied remaining.now body.new.output.pieces (output_record_for (option_map (λ s. s.now) slim.entry) remaining_record)) }
+    ensures grows { OnOk result (Grows body.old.output.pieces body.new.output.pieces (output_record_parts remaining.now (output_record_for (option_map (λ s. s.now) slim.entry) remaining_record))) }
 {
     let at = body.at;
-    match output_record {
-        OutputRecord::Event(_, frame) => {
+    match remaining_record {
+        RemainingRecord::Event(_, frame) => {
             body.output.copy(frame.at, frame.end())?;
             body.at = at + frame.size;
         }
-        OutputRecord::Metadata(frame) => {
+        RemainingRecord::Metadata(frame) => {
             body.metadata = Some(body.metadata.unwrap_or(at));
             match slim {
                 Some(record) => {
@@ -120,15 +123,15 @@ fn lay_record(
                 }
             }
         }
-        OutputRecord::Chained(number, link) => {
-            let delta = delta_to(body.older, at);
+        RemainingRecord::Chained(number, link) => {
+            let delta = delta_to(body.newest, at);
             let size = lay_checkpoint(
                 &mut body.output,
                 &link,
                 delta,
                 entries_of(remaining, number),
             )?;
-            body.older = Some(at);
+            body.newest = Some(at);
             body.at = at + size;
         }
     }

@@ -8,8 +8,8 @@ ghost use Rattle.jfr_scrub.specs.Pieces.{EntryIsCopied, Grows, output_so_far, mo
 ghost use Rattle.jfr_scrub.specs.Sizes.{HasRange};
 
 use crate::measure::measured;
-use crate::output::Output;
 use crate::piece::MadePart;
+use crate::piece_builder::PieceBuilder;
 use jfr_base::var_len;
 use jfr_output::pool_len;
 use jfr_outside::NoMemory;
@@ -18,7 +18,7 @@ use jfr_pool::{EntryAt, Link};
 /// Lays out a checkpoint with these entries: its new size in the same number of bytes as before, the new
 /// delta, and the pools that have an entry left. Returns the number of bytes.
 pub(crate) fn lay_checkpoint(
-    output: &mut Output,
+    output: &mut PieceBuilder,
     link: &Link,
     delta: u64,
     entries: &[EntryAt],
@@ -46,7 +46,7 @@ pub(crate) fn lay_checkpoint(
 }
 
 /// Lays out the pools of a checkpoint's entries.
-fn lay_pools(output: &mut Output, entries: &[EntryAt]) -> Result<(), NoMemory>
+fn lay_pools(output: &mut PieceBuilder, entries: &[EntryAt]) -> Result<(), NoMemory>
     requires { AllByRecursion (HasRange (length output.old.chunk)) entries.now }
     ensures ok { OnOk result (output_so_far output.new ≡ more (output_so_far output.old) (flat_map (group_bytes output.old.chunk) (by_pool entries.now))) }
     ensures copied { OnOk result (AllByRecursion (EntryIsCopied output.new.pieces) entries.now) }
@@ -64,7 +64,7 @@ fn lay_pools(output: &mut Output, entries: &[EntryAt]) -> Result<(), NoMemory>
 }
 
 /// Lays out the entries of a pool.
-fn lay_entries(output: &mut Output, entries: &[EntryAt]) -> Result<(), NoMemory>
+fn lay_entries(output: &mut PieceBuilder, entries: &[EntryAt]) -> Result<(), NoMemory>
     requires { AllByRecursion (HasRange (length output.old.chunk)) entries.now }
     ensures ok { OnOk result (output_so_far output.new ≡ more (output_so_far output.old) (flat_map (entry_bytes output.old.chunk) entries.now)) }
     ensures copied { OnOk result (AllByRecursion (EntryIsCopied output.new.pieces) entries.now) }

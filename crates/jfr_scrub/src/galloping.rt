@@ -4,12 +4,12 @@ ghost use Rattle.jfr_chunk.specs.Parts.{AreParts};
 ghost use Rattle.jfr_scrub.specs.Runs.{HasEventAt, HasRoom, IsAtEvents};
 
 use jfr_chunk::Chunk;
-use jfr_output::Cursor;
+use jfr_output::RecordCursor;
 
 /// The number of consecutive records, from the cursor's on, that are events. Event numbers rise with record
 /// numbers: if record `r + k` is event `e + k`, all `k` records between are events. So only a few records
 /// have to be tested: first at offsets that double, and then by binary search.
-pub(crate) fn events_ahead(chunk: &Chunk, cursor: &Cursor) -> usize
+pub(crate) fn events_ahead(chunk: &Chunk, cursor: &RecordCursor) -> usize
     requires { IsAtEvents chunk.now cursor.now }
     ensures each { (offset : ℕ) → offset < result → HasEventAt chunk.now cursor.now offset }
     ensures last { HasEventAt chunk.now cursor.now result → ⊥ }
@@ -19,7 +19,7 @@ pub(crate) fn events_ahead(chunk: &Chunk, cursor: &Cursor) -> usize
 }
 
 /// An offset at which `is_event_at` is false, though it is true at all offsets below half of this one.
-fn other_by_doubling(chunk: &Chunk, cursor: &Cursor) -> usize
+fn other_by_doubling(chunk: &Chunk, cursor: &RecordCursor) -> usize
     requires { IsAtEvents chunk.now cursor.now }
     ensures room { HasRoom cursor.now result }
     ensures before { (offset : ℕ) → 2 * offset < result → HasEventAt chunk.now cursor.now offset }
@@ -35,7 +35,7 @@ fn other_by_doubling(chunk: &Chunk, cursor: &Cursor) -> usize
 }
 
 /// The first offset at which `is_event_at` is false. It is at least `low` and at most `high`.
-fn other_by_halving(chunk: &Chunk, cursor: &Cursor, mut low: usize, mut high: usize) -> usize
+fn other_by_halving(chunk: &Chunk, cursor: &RecordCursor, mut low: usize, mut high: usize) -> usize
     requires at { IsAtEvents chunk.now cursor.now }
     requires room { HasRoom cursor.now high }
     requires order { low ≤ high }
@@ -57,7 +57,7 @@ fn other_by_halving(chunk: &Chunk, cursor: &Cursor, mut low: usize, mut high: us
 
 /// Whether the record at this offset from the cursor's is the event at the same offset from the cursor's.
 #[inline(always)]
-fn is_event_at(chunk: &Chunk, cursor: &Cursor, offset: usize) -> bool
+fn is_event_at(chunk: &Chunk, cursor: &RecordCursor, offset: usize) -> bool
     requires parts { AreParts chunk.now }
     requires room { HasRoom cursor.now offset }
     ensures { IsTrue result ↔ HasEventAt chunk.now cursor.now offset }

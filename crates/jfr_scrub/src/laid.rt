@@ -7,7 +7,7 @@ ghost use Rattle.jfr_laws.specs.Laws.{IsSettled};
 ghost use Rattle.jfr_output.specs.Metadata.{IsMetadataRecord};
 ghost use Rattle.jfr_filter.specs.Filters.{describes};
 ghost use Rattle.jfr_chunk.specs.Metas.{new_metadata};
-ghost use Rattle.jfr_output.specs.OutputRecords.{IsNewMetadata};
+ghost use Rattle.jfr_output.specs.RemainingRecords.{IsNewMetadata};
 ghost use Rattle.jfr_scrub.specs.IsLaidOut.{IsLaidOut};
 ghost use Rattle.jfr_scrub.specs.Pieces.{joined, laid_in, LieIn};
 ghost use Rattle.jfr_scrub.specs.Scrubbing.{IsAccepted};
@@ -119,7 +119,7 @@ fn lay_out<'a>(
     let remaining = remaining.as_slice();
     let body = lay_body(alloc, chunk, kept, remaining, slim)?;
     let size = body.at;
-    let header = output_header(chunk.header(), size, body.older, body.metadata);
+    let header = output_header(chunk.header(), size, body.newest, body.metadata);
     let pieces = body.output.finish(&header)?;
     Ok(LaidOut {
         pieces,

@@ -43,9 +43,9 @@ pub fn parts_are_scrubbed_one_by_one()
         → recording_scrubbed g (joined parts) ≡ joined (map (recording_scrubbed g) parts) }
 {}
 
-/// Recordings that agree, chunk by chunk, on all that stays have the same output, byte for byte. So nothing else
+/// Recordings that agree, chunk by chunk, on all that remains have the same output, byte for byte. So nothing else
 /// of a recording can be found out from its output.
 #[tactic(auto, using(crate::proofs::AgreementLaws::recordings_same))]
-pub fn only_what_stays_matters()
+pub fn only_what_remains_matters()
     ensures { (g : Given) (x y : List ℕ) → RecordingsAgree g x y → recording_scrubbed g x ≡ recording_scrubbed g y }
 {}

@@ -17,7 +17,7 @@ pub enum MadePart {
     PoolClass,
     /// The number of entries of a pool.
     EntryCount,
-    /// A metadata record without the event classes that the output doesn't need.
+    /// A metadata record of the classes that remain.
     MetadataRecord,
 }
 

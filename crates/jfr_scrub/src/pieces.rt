@@ -15,7 +15,7 @@ use std::marker::Model;
 pub(crate) struct Pieces<'a> {
     chunk: &'a [u8],
     made: Vec<u8>,
-    parts: Vec<Range>,
+    ranges: Vec<Range>,
 }
 
 impl<'a> Model for Pieces<'a> {
@@ -23,9 +23,9 @@ impl<'a> Model for Pieces<'a> {
 
     ghost Value = { PieceList };
 
-    ghost view = { λ p. record { chunk = p.chunk.now; made = p.made.items; pieces = p.parts.items } };
+    ghost view = { λ p. record { chunk = p.chunk.now; made = p.made.items; pieces = p.ranges.items } };
 
-    ghost invariant = { λ p. LieIn (record { chunk = p.chunk.now; made = p.made.items; pieces = p.parts.items }) };
+    ghost invariant = { λ p. LieIn (record { chunk = p.chunk.now; made = p.made.items; pieces = p.ranges.items }) };
 }
 
 impl<'a> Pieces<'a> {
@@ -36,7 +36,7 @@ impl<'a> Pieces<'a> {
         Pieces {
             chunk,
             made: Vec::new(alloc),
-            parts: Vec::new(alloc),
+            ranges: Vec::new(alloc),
         }
     }
 
@@ -53,7 +53,7 @@ impl<'a> Pieces<'a> {
         if from == to {
             return Ok(());
         }
-        self.parts.push(Range::Copied { from, to })?;
+        self.ranges.push(Range::Copied { from, to })?;
         Ok(())
     }
 
@@ -67,7 +67,7 @@ impl<'a> Pieces<'a> {
     {
         let from = self.made.len();
         self.made.extend_from_slice(bytes)?;
-        self.parts.push(Range::Made {
+        self.ranges.push(Range::Made {
             part,
             from,
             to: self.made.len(),
@@ -86,7 +86,7 @@ impl<'a> Pieces<'a> {
     {
         let from = self.made.len();
         self.made.extend_from_slice(bytes)?;
-        self.parts.insert(
+        self.ranges.insert(
             0,
             Range::Made {
                 part: MadePart::ChunkHeader,
@@ -108,7 +108,7 @@ impl<'a> Pieces<'a> {
     pub(crate) fn len(&self) -> usize
         ensures { result ≡ length self.now.pieces }
     {
-        self.parts.len()
+        self.ranges.len()
     }
 
     /// The piece with this number, from 0, if there is one.
@@ -116,8 +116,8 @@ impl<'a> Pieces<'a> {
         ensures exact { option_map range_of result ≡ slice_get self.now.pieces number }
         ensures of_chunk { IfSome result (IsOfChunk self.now.chunk) }
     {
-        let part = *self.parts.get(number)?;
-        Some(piece_of(self.chunk, part))
+        let range = *self.ranges.get(number)?;
+        Some(piece_of(self.chunk, range))
     }
 
     /// The ranges, without the chunk.
@@ -127,7 +127,7 @@ impl<'a> Pieces<'a> {
     {
         Ranges {
             made: self.made,
-            parts: self.parts,
+            ranges: self.ranges,
         }
     }
 
@@ -136,17 +136,17 @@ impl<'a> Pieces<'a> {
         requires { vec_len out.old + length (joined self.now) ≤ vec_capacity out.old }
         ensures { out.new.items ≡ out.old.items ++ joined self.now }
     {
-        write_parts(out, self.chunk, &self.made, &self.parts);
+        write_ranges(out, self.chunk, &self.made, &self.ranges);
     }
 }
 
 /// A range as a piece.
-fn piece_of<'a>(chunk: &'a [u8], part: Range) -> Piece<'a>
-    requires { (m : ℕ) × Lies (length chunk.now) m part }
-    ensures exact { range_of result ≡ part }
+fn piece_of<'a>(chunk: &'a [u8], range: Range) -> Piece<'a>
+    requires { (m : ℕ) × Lies (length chunk.now) m range }
+    ensures exact { range_of result ≡ range }
     ensures of_chunk { IsOfChunk chunk.now result }
 {
-    match part {
+    match range {
         Range::Copied { from, to } => Piece::Copied {
             at: from,
             bytes: &chunk[from..to],
@@ -156,25 +156,25 @@ fn piece_of<'a>(chunk: &'a [u8], part: Range) -> Piece<'a>
 }
 
 /// Appends the bytes of the ranges. The vector must have the capacity.
-fn write_parts(out: &mut Vec<u8>, chunk: &[u8], made: &[u8], parts: &[Range])
-    requires lie { AllByRecursion (Lies (length chunk.now) (length made.now)) parts.now }
-    requires room { vec_len out.old + length (flat_map (range_bytes chunk.now made.now) parts.now) ≤ vec_capacity out.old }
-    ensures { out.new.items ≡ out.old.items ++ flat_map (range_bytes chunk.now made.now) parts.now }
+fn write_ranges(out: &mut Vec<u8>, chunk: &[u8], made: &[u8], ranges: &[Range])
+    requires lie { AllByRecursion (Lies (length chunk.now) (length made.now)) ranges.now }
+    requires room { vec_len out.old + length (flat_map (range_bytes chunk.now made.now) ranges.now) ≤ vec_capacity out.old }
+    ensures { out.new.items ≡ out.old.items ++ flat_map (range_bytes chunk.now made.now) ranges.now }
 {
-    for part in parts {
-        write_part(out, chunk, made, *part);
+    for range in ranges {
+        write_range(out, chunk, made, *range);
     }
 }
 
 /// Appends the bytes of a range. The vector must have the capacity.
-fn write_part(out: &mut Vec<u8>, chunk: &[u8], made: &[u8], part: Range)
-    requires lies { Lies (length chunk.now) (length made.now) part }
-    requires room { vec_len out.old + length (range_bytes chunk.now made.now part) ≤ vec_capacity out.old }
-    ensures items { out.new.items ≡ out.old.items ++ range_bytes chunk.now made.now part }
-    ensures len { vec_len out.new ≡ vec_len out.old + length (range_bytes chunk.now made.now part) }
+fn write_range(out: &mut Vec<u8>, chunk: &[u8], made: &[u8], range: Range)
+    requires lies { Lies (length chunk.now) (length made.now) range }
+    requires room { vec_len out.old + length (range_bytes chunk.now made.now range) ≤ vec_capacity out.old }
+    ensures items { out.new.items ≡ out.old.items ++ range_bytes chunk.now made.now range }
+    ensures len { vec_len out.new ≡ vec_len out.old + length (range_bytes chunk.now made.now range) }
     ensures capacity { vec_capacity out.old ≤ vec_capacity out.new }
 {
-    match out.extend_from_slice(bytes_of(chunk, made, part)) {
+    match out.extend_from_slice(bytes_of(chunk, made, range)) {
         Ok(()) => {}
         Err(_) => unreachable!(),
     }

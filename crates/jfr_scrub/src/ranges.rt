@@ -12,18 +12,18 @@ use std::alloc::Global;
 #[derive(Drop)]
 pub(crate) struct Ranges {
     pub(crate) made: Vec<u8>,
-    pub(crate) parts: Vec<Range>,
+    pub(crate) ranges: Vec<Range>,
 }
 
 impl Ranges {
     /// No ranges. It allocates nothing.
     pub(crate) fn new(alloc: Global) -> Ranges
         ensures made { result.made.items ≡ [] }
-        ensures parts { result.parts.items ≡ [] }
+        ensures ranges { result.ranges.items ≡ [] }
     {
         Ranges {
             made: Vec::new(alloc),
-            parts: Vec::new(alloc),
+            ranges: Vec::new(alloc),
         }
     }
 
@@ -36,20 +36,20 @@ impl Ranges {
         requires { LieIn (laid_in chunk.now self.now) }
         ensures { IfOk result (λ pieces. bytes_in pieces.items ≡ joined (laid_in chunk.now self.now)) }
     {
-        let mut pieces = Vec::with_capacity(alloc, self.parts.len())?;
-        for part in &self.parts {
-            pieces.push(bytes_of(chunk, &self.made, *part))?;
+        let mut pieces = Vec::with_capacity(alloc, self.ranges.len())?;
+        for range in &self.ranges {
+            pieces.push(bytes_of(chunk, &self.made, *range))?;
         }
         Ok(pieces)
     }
 }
 
 /// The bytes of a range.
-pub(crate) fn bytes_of<'c>(chunk: &'c [u8], made: &'c [u8], part: Range) -> &'c [u8]
-    requires { Lies (length chunk.now) (length made.now) part }
-    ensures { result.now ≡ range_bytes chunk.now made.now part }
+pub(crate) fn bytes_of<'c>(chunk: &'c [u8], made: &'c [u8], range: Range) -> &'c [u8]
+    requires { Lies (length chunk.now) (length made.now) range }
+    ensures { result.now ≡ range_bytes chunk.now made.now range }
 {
-    match part {
+    match range {
         Range::Copied { from, to } => &chunk[from..to],
         Range::Made { from, to, .. } => &made[from..to],
     }

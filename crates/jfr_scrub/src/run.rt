@@ -1,13 +1,13 @@
 //! Runs of kept events, which are copied as one range.
 ghost use Rattle.std.specs.Prelude.{◌≡◌, false};
 ghost use Rattle.jfr_chunk.specs.Parts.{events_of};
-ghost use Rattle.jfr_output.specs.OutputRecords.{IsCursor, is_kept_at};
+ghost use Rattle.jfr_output.specs.RemainingRecords.{IsCursor, is_kept_at};
 ghost use Rattle.jfr_scrub.specs.Runs.{IsRun, Passes, is_in_run};
 ghost use Rattle.jfr_scrub.specs.Scrubbing.{IsAccepted};
 
 use crate::galloping::events_ahead;
 use jfr_chunk::{Chunk, Kept};
-use jfr_output::Cursor;
+use jfr_output::RecordCursor;
 
 /// The range of the chunk that a run covers.
 #[derive(Clone, Copy, Debug)]
@@ -19,7 +19,7 @@ pub(crate) struct Run {
 /// The run of kept events that starts at the cursor and ends before the first other record. Moves the cursor
 /// past it. No record is read.
 #[inline(always)]
-pub(crate) fn pass_run(chunk: &Chunk, kept: &Kept, cursor: &mut Cursor) -> Run
+pub(crate) fn pass_run(chunk: &Chunk, kept: &Kept, cursor: &mut RecordCursor) -> Run
     requires { IsCursor chunk.now kept.now cursor.old }
     ensures cursor { IsCursor chunk.now kept.now cursor.new }
     ensures run { IsRun chunk.now kept.now cursor.old cursor.new result.from result.to }
@@ -34,7 +34,7 @@ pub(crate) fn pass_run(chunk: &Chunk, kept: &Kept, cursor: &mut Cursor) -> Run
 }
 
 /// Moves the cursor past the run.
-fn pass_kept(chunk: &Chunk, kept: &Kept, cursor: &mut Cursor)
+fn pass_kept(chunk: &Chunk, kept: &Kept, cursor: &mut RecordCursor)
     requires accepted { IsAccepted chunk.now }
     requires cursor { IsCursor chunk.now kept.now cursor.old }
     ensures passed { Passes chunk.now kept.now cursor.old cursor.new }
@@ -50,7 +50,7 @@ fn pass_kept(chunk: &Chunk, kept: &Kept, cursor: &mut Cursor)
 }
 
 /// Moves the cursor past the run, one record at a time.
-fn pass_each(chunk: &Chunk, kept: &Kept, cursor: &mut Cursor)
+fn pass_each(chunk: &Chunk, kept: &Kept, cursor: &mut RecordCursor)
     requires accepted { IsAccepted chunk.now }
     requires cursor { IsCursor chunk.now kept.now cursor.old }
     ensures passed { Passes chunk.now kept.now cursor.old cursor.new }
@@ -64,7 +64,7 @@ fn pass_each(chunk: &Chunk, kept: &Kept, cursor: &mut Cursor)
 
 /// Whether the cursor's record is that of the cursor's event, and the event is kept.
 #[inline(always)]
-fn is_in_run(chunk: &Chunk, kept: &Kept, cursor: &Cursor) -> bool
+fn is_in_run(chunk: &Chunk, kept: &Kept, cursor: &RecordCursor) -> bool
     ensures { result ≡ is_in_run chunk.now kept.now cursor.now }
 {
     match chunk.frames().place(cursor.frame) {

@@ -9,7 +9,7 @@ use Rattle.jfr_value.specs.Values.{Values, Nil, Cons, bytes_of}
 use Rattle.jfr_show.specs.declared.json.order.Lead.{Lead}
 use Rattle.jfr_show.specs.declared.json.order.MemberOrder.{MemberOrder}
 use Rattle.jfr_show.specs.declared.json.offsets.FieldOffsets.{FieldOffsets}
-use Rattle.jfr_show.specs.declared.json.source.Source.{Source}
+use Rattle.jfr_show.specs.declared.json.source.JsonSource.{JsonSource}
 use Rattle.jfr_show.specs.Json.{members_with}
 
 -- The value with this index, or null past the end.
@@ -48,7 +48,7 @@ pub record AreOrders (k : Classes) (os : List (Option MemberOrder)) : Type 0 whe
   pub each : (place : ℕ) (o : MemberOrder) → slice_get os place ≡ Some (Some o) → IsOrderAt k place o
 
 -- The orders of a source are those of its chunk's classes.
-abbrev pub IsSource : Source → Type 0
+abbrev pub IsSource : JsonSource → Type 0
 IsSource s = AreOrders s.chunk.now.classes s.orders.now
 
 -- The numbers of these fields as values, counted from n.

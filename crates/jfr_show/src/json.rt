@@ -36,7 +36,7 @@ use jfr_chunk::{Chunk, Event};
 use jfr_path::fields_of;
 pub(crate) use leaf::{push_flag, push_null, push_number};
 use order::{MemberOrder, orders_of};
-use source::Source;
+use source::JsonSource;
 use std::alloc::Global;
 use std::marker::Model;
 pub(crate) use string::push_string;
@@ -96,7 +96,7 @@ impl<'c, 'a> JsonWriter<'c, 'a> {
         ensures ok { OnOk result (out.new ≡ out.old ++ event_json self.old depth (node_of event.now.node)) }
         ensures same { self.new ≡ self.old }
     {
-        let source = Source {
+        let source = JsonSource {
             alloc: self.alloc,
             chunk: self.chunk,
             orders: &self.orders,
@@ -142,7 +142,7 @@ pub fn event_json(
 
 /// Adds the JSON of an event: the name of its class, and its fields.
 fn push_event(
-    source: &Source<'_, '_>,
+    source: &JsonSource<'_, '_>,
     cache: &mut JsonCache,
     event: &Event<'_>,
     out: &mut String,

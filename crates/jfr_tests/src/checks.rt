@@ -1,5 +1,5 @@
 //! Receipts and their checks, and scrubs with new keys.
-use crate::contents::Part::{Bytes, Chunk};
+use crate::contents::FilePart::{Bytes, Chunk};
 use crate::contents::{Content, OF_RINGS, ONE_PLAIN};
 use crate::outputs::{Scrub, see_scrubs};
 use crate::places::place_of;

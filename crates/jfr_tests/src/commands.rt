@@ -1,7 +1,7 @@
 //! The commands that write text, and the sample.
 ghost use Rattle.std.specs.Prelude.{◌≤◌};
 
-use crate::contents::Part::Chunk;
+use crate::contents::FilePart::Chunk;
 use crate::contents::{Content, INERT, OF_RINGS};
 use crate::places::{place_of, place_with};
 use crate::plays::{Play, see_play};

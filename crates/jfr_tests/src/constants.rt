@@ -1,6 +1,6 @@
 //! Scrubs of chunks with constants.
+use crate::contents::FilePart::Chunk;
 use crate::contents::OF_RINGS;
-use crate::contents::Part::Chunk;
 use crate::outputs::{Refused, Scrub, run_in_memory, see_refused, see_scrubs};
 use crate::runs::SCRUB;
 use jfr_fixtures::{

@@ -8,7 +8,7 @@ use std::alloc::{AllocError, Global};
 
 /// A part of a file.
 #[derive(Clone, Copy)]
-pub(crate) enum Part {
+pub(crate) enum FilePart {
     /// These bytes.
     Bytes(&'static [u8]),
     /// The plain chunk.
@@ -28,28 +28,28 @@ pub(crate) enum Part {
 }
 
 /// The chunk of rings.
-pub(crate) const OF_RINGS: Part = Part::Chunk(&[CLASSES, RINGS], 333, 68);
+pub(crate) const OF_RINGS: FilePart = FilePart::Chunk(&[CLASSES, RINGS], 333, 68);
 
 /// The plain chunk with inert records: a metadata record and a checkpoint that aren't at the positions in the header,
 /// and between these and those that are, a record whose type is no class.
-pub(crate) const INERT: Part = Part::Chunk(
+pub(crate) const INERT: FilePart = FilePart::Chunk(
     &[NO_CLASSES, NO_POOLS, UNKNOWN, NO_CLASSES, NO_POOLS],
     134,
     106,
 );
 
 /// Parts, one after another, and the places of bytes that are changed then, with what they become.
-pub(crate) type Content = (&'static [Part], &'static [(usize, u8)]);
+pub(crate) type Content = (&'static [FilePart], &'static [(usize, u8)]);
 
 /// No bytes.
 pub(crate) const EMPTY: Content = (&[], &[]);
 
 /// The plain chunk, once, twice, and three times.
-pub(crate) const ONE_PLAIN: Content = (&[Part::Plain], &[]);
+pub(crate) const ONE_PLAIN: Content = (&[FilePart::Plain], &[]);
 
-pub(crate) const TWO_PLAIN: Content = (&[Part::Plain, Part::Plain], &[]);
+pub(crate) const TWO_PLAIN: Content = (&[FilePart::Plain, FilePart::Plain], &[]);
 
-pub(crate) const THREE_PLAIN: Content = (&[Part::Plain, Part::Plain, Part::Plain], &[]);
+pub(crate) const THREE_PLAIN: Content = (&[FilePart::Plain, FilePart::Plain, FilePart::Plain], &[]);
 
 /// A chunk of pieces, by the places of its last checkpoint and of its metadata record.
 fn assembled_chunk(
@@ -63,21 +63,28 @@ fn assembled_chunk(
 }
 
 /// The bytes of a part.
-fn part_bytes(alloc: Global, part: Part) -> Result<Vec<u8>, AllocError> {
+fn part_bytes(alloc: Global, part: FilePart) -> Result<Vec<u8>, AllocError> {
     match part {
-        Part::Bytes(bytes) => Vec::from_slice(alloc, bytes),
-        Part::Plain => Vec::from_slice(alloc, &PLAIN),
-        Part::Start(size) => Vec::from_slice(alloc, &PLAIN[..size.min(103)]),
-        Part::Chunk(records, last, metadata) => chunk_of(alloc, records, last, metadata),
-        Part::Assembled(pieces, last, metadata) => assembled_chunk(alloc, pieces, last, metadata),
-        Part::JdkLike => jdk_like(alloc),
-        Part::JdkAfter(first, last, metadata) => jdk_after(alloc, source_of(first), last, metadata),
-        Part::JdkUnnamed(kind) => jdk_unnamed(alloc, kind),
+        FilePart::Bytes(bytes) => Vec::from_slice(alloc, bytes),
+        FilePart::Plain => Vec::from_slice(alloc, &PLAIN),
+        FilePart::Start(size) => Vec::from_slice(alloc, &PLAIN[..size.min(103)]),
+        FilePart::Chunk(records, last, metadata) => chunk_of(alloc, records, last, metadata),
+        FilePart::Assembled(pieces, last, metadata) => assembled_chunk(
+            alloc, pieces, last, metadata,
+        ),
+        FilePart::JdkLike => jdk_like(alloc),
+        FilePart::JdkAfter(first, last, metadata) => jdk_after(
+            alloc,
+            source_of(first),
+            last,
+            metadata,
+        ),
+        FilePart::JdkUnnamed(kind) => jdk_unnamed(alloc, kind),
     }
 }
 
 /// Adds parts.
-fn push_parts(bytes: &mut Vec<u8>, alloc: Global, parts: &[Part]) -> Result<(), AllocError> {
+fn push_parts(bytes: &mut Vec<u8>, alloc: Global, parts: &[FilePart]) -> Result<(), AllocError> {
     for part in parts {
         bytes.extend_from_slice(&part_bytes(alloc, *part)?)?;
     }

@@ -1,5 +1,5 @@
 //! Which descriptions of classes stay.
-use crate::contents::Part::Assembled;
+use crate::contents::FilePart::Assembled;
 use crate::outputs::{Scrub, see_scrubs};
 use crate::pieces::Piece::{Annotated, Bytes, Long, LongAndA, NamedByA, NamedByC};
 use crate::places::place_with;

@@ -1,5 +1,5 @@
 //! Scrubs with filters.
-use crate::contents::Part::{Assembled, Chunk, JdkAfter, JdkLike, JdkUnnamed};
+use crate::contents::FilePart::{Assembled, Chunk, JdkAfter, JdkLike, JdkUnnamed};
 use crate::contents::{Content, OF_RINGS};
 use crate::outputs::{Scrub, see_scrub, see_scrubs};
 use crate::pieces::Piece::{

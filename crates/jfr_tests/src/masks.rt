@@ -1,6 +1,6 @@
 //! Masks of the chunk of rings, and the known texts, the tables and the faults of masks.
-use crate::contents::Part::{Bytes, Chunk, Plain};
-use crate::contents::{Content, EMPTY, OF_RINGS, ONE_PLAIN, Part};
+use crate::contents::FilePart::{Bytes, Chunk, Plain};
+use crate::contents::{Content, EMPTY, FilePart, OF_RINGS, ONE_PLAIN};
 use crate::plays::{Play, see_plays};
 use crate::runs::Said;
 use jfr_fixtures::{CLASSES, CLASSES_OF_A, NO_CLASSES, TWICE};
@@ -14,7 +14,7 @@ const B: &[u8] = b"\x03\x09\x03";
 
 /// The chunk of rings, if the texts of its nodes are masked.
 #[rattlefmt::skip]
-const MASKED_RINGS: Part = Chunk(&[
+const MASKED_RINGS: FilePart = Chunk(&[
     CLASSES, A, B,
     b"\xBD\x80\x80\x80\0\x01\0\0\0\0\x01\x07\x04", // a checkpoint of 61 bytes with 4 of t.Node
     b"\x01\x02\x03\x08masked-1",                   // 1: next 2
@@ -25,7 +25,7 @@ const MASKED_RINGS: Part = Chunk(&[
 
 /// The same if q is known.
 #[rattlefmt::skip]
-const WITHOUT_Q: Part = Chunk(&[
+const WITHOUT_Q: FilePart = Chunk(&[
     CLASSES, A, B,
     b"\xB6\x80\x80\x80\0\x01\0\0\0\0\x01\x07\x04", // a checkpoint of 54 bytes with 4 of t.Node
     b"\x01\x02\x03\x08masked-1",                   // 1: next 2
@@ -36,7 +36,7 @@ const WITHOUT_Q: Part = Chunk(&[
 
 /// Its event `t.A` and what this refers to.
 #[rattlefmt::skip]
-const FIRST_RING: Part = Chunk(&[
+const FIRST_RING: FilePart = Chunk(&[
     CLASSES_OF_A, A,
     b"\xA5\x80\x80\x80\0\x01\0\0\0\0\x01\x07\x02", // a checkpoint of 37 bytes with 2 of t.Node
     b"\x01\x02\x03\x08masked-1",                   // 1: next 2
@@ -48,7 +48,7 @@ const NO_POOLS_MASKED: &[u8] = b"\x8B\x80\x80\x80\0\x01\0\0\0\0\0";
 
 /// A chunk with one node in two checkpoints, if it comes after the chunk of rings, where its text q was numbered.
 #[rattlefmt::skip]
-const MASKED_TWICE: Part = Chunk(&[
+const MASKED_TWICE: FilePart = Chunk(&[
     CLASSES_OF_A,
     NO_POOLS_MASKED,
     A,

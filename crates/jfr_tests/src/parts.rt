@@ -1,5 +1,5 @@
 //! The commands that split and join.
-use crate::contents::Part::Plain;
+use crate::contents::FilePart::Plain;
 use crate::contents::{Content, EMPTY, ONE_PLAIN, THREE_PLAIN, TWO_PLAIN};
 use crate::plays::{Play, see_play, see_plays};
 use jfr_outside::Call;

@@ -1,5 +1,5 @@
 //! Scrubs of the plain chunk.
-use crate::contents::Part::{Bytes, Chunk, Plain, Start};
+use crate::contents::FilePart::{Bytes, Chunk, Plain, Start};
 use crate::contents::{Content, EMPTY, INERT, ONE_PLAIN, TWO_PLAIN, bytes_of};
 use crate::outputs::{
     Refused, Scrub, run_in_memory, run_steadily, see_output, see_refused, see_scrubs,

@@ -1,5 +1,5 @@
 //! The folded stacks that `stacks` writes.
-use crate::contents::Part::{JdkLike, Plain};
+use crate::contents::FilePart::{JdkLike, Plain};
 use crate::contents::{Content, OF_RINGS};
 use crate::plays::{Play, see_play};
 use std::test::Fail;

@@ -4,14 +4,14 @@ ghost use Rattle.serde_json.specs.Written.{compact_text};
 ghost use Rattle.jfr_show.specs.Json.{missing_json, reference_json};
 
 use super::leaf::push_number;
-use super::source::Source;
+use super::source::JsonSource;
 use super::string::push_string;
 use crate::reference::class_name;
 use jfr_base::NoMemory;
 
 /// Adds the name of a class and a key.
 pub(crate) fn push_name(
-    source: &Source<'_, '_>,
+    source: &JsonSource<'_, '_>,
     class: u64,
     key: u64,
     out: &mut String,
@@ -28,7 +28,7 @@ pub(crate) fn push_name(
 
 /// Adds the name of a class and a key, and that no entry is in force for them.
 pub(crate) fn push_missing(
-    source: &Source<'_, '_>,
+    source: &JsonSource<'_, '_>,
     class: u64,
     key: u64,
     out: &mut String,

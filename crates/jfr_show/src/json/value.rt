@@ -17,7 +17,7 @@ use super::leaf::{push_integer, push_raw, push_text};
 use super::offsets::{FieldOffsets, field_offsets};
 use super::order::{MemberOrder, order_of};
 use super::reference::{push_missing, push_name};
-use super::source::Source;
+use super::source::JsonSource;
 use crate::reading::{bytes_at, constant, integer_at, string_at};
 use jfr_base::NoMemory;
 use jfr_layout::{FieldLayout, Form};
@@ -27,7 +27,7 @@ use jfr_value::{Node, item_layout, layout_of};
 /// Adds the value of a node of the chunk.
 #[cycle(json)]
 pub(crate) fn push_node(
-    source: &Source<'_, '_>,
+    source: &JsonSource<'_, '_>,
     cache: &mut JsonCache,
     node: &Node<'_>,
     out: &mut String,
@@ -48,7 +48,7 @@ pub(crate) fn push_node(
 /// Adds the value with this layout that starts at `at`. Returns where it ends.
 #[cycle(json)]
 fn push_value(
-    source: &Source<'_, '_>,
+    source: &JsonSource<'_, '_>,
     cache: &mut JsonCache,
     layout: &FieldLayout,
     at: usize,
@@ -99,7 +99,7 @@ fn push_value(
 /// Adds a value of the class with index `class_index`. Returns where it ends.
 #[cycle(json)]
 fn push_fields(
-    source: &Source<'_, '_>,
+    source: &JsonSource<'_, '_>,
     cache: &mut JsonCache,
     class_index: usize,
     at: usize,
@@ -123,7 +123,7 @@ fn push_fields(
 /// Adds a value whose fields are at these offsets. Returns where it ends.
 #[cycle(json)]
 fn push_object(
-    source: &Source<'_, '_>,
+    source: &JsonSource<'_, '_>,
     cache: &mut JsonCache,
     offsets: &FieldOffsets,
     out: &mut String,
@@ -152,7 +152,7 @@ fn push_object(
 /// Adds a value whose fields are at these offsets, in this order. Returns where it ends.
 #[cycle(json)]
 fn push_members(
-    source: &Source<'_, '_>,
+    source: &JsonSource<'_, '_>,
     cache: &mut JsonCache,
     order: &MemberOrder,
     offsets: &FieldOffsets,
@@ -172,7 +172,7 @@ fn push_members(
 {
     let layouts = source.chunk.classes().layouts(offsets.class_index);
     let inner = source.reach.of_fields();
-    let deeper = Source {
+    let deeper = JsonSource {
         reach: inner,
         ..*source
     };
@@ -189,7 +189,7 @@ fn push_members(
 /// Adds an array. Returns where it ends.
 #[cycle(json)]
 fn push_items(
-    source: &Source<'_, '_>,
+    source: &JsonSource<'_, '_>,
     cache: &mut JsonCache,
     layout: &FieldLayout,
     at: usize,
@@ -234,7 +234,7 @@ pub(crate) fn push_comma(later: bool, out: &mut String) -> Result<(), NoMemory>
 /// keep it.
 #[cycle(json)]
 fn push_reference(
-    source: &Source<'_, '_>,
+    source: &JsonSource<'_, '_>,
     cache: &mut JsonCache,
     class: u64,
     key: u64,
@@ -264,7 +264,7 @@ fn push_reference(
 /// Adds the JSON of the reference to a class and a key.
 #[cycle(json)]
 fn push_constant(
-    source: &Source<'_, '_>,
+    source: &JsonSource<'_, '_>,
     cache: &mut JsonCache,
     class: u64,
     key: u64,
@@ -282,5 +282,5 @@ fn push_constant(
         return push_name(source, class, key, out);
     }
     let reach = source.reach.of_constant();
-    push_node(&Source { reach, ..*source }, cache, &node, out)
+    push_node(&JsonSource { reach, ..*source }, cache, &node, out)
 }

@@ -19,7 +19,7 @@ returns-clause-exact c =
     let p = c.args.chunk.now in
     let kept = kept_by p c.args.kept.now in
     let b = c.metadata.ensures.body in
-    let s : is_in c.in_ok-stay.stay ≡ stays_in names p kept = λ i id. c.in_ok-stay.ensures.exact id i in
+    let s : is_in c.in_ok-remaining.remaining ≡ stays_in names p kept = λ i id. c.in_ok-remaining.ensures.exact id i in
     let z = frame_size p c.parts_are_valid.ensures.parts c.metadata_frame.result c.metadata_frame.ensures in
     slim_found items names p kept (metadata_size p) c.slim.result
     (subst (λ w. IfOk c.slim.result (λ found. option_map items found ≡ w)) (λ i. slim_in (b i) (s i) (z i)) c.slim.ensures.exact)

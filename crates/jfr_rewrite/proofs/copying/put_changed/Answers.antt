@@ -14,15 +14,15 @@ visit_leaves-requires-clause-admits g c =
     let p = c.args.changing.now.chunk.now in
     node_lies p c.parts_are_valid.ensures.sound c.classes.result.now c.args.node.bytes.now (node_of c.args.node) c.requires.value.0 c.classes.ensures c.requires.of_chunk c.requires.value.1
 
-pub returns-then-stays : goal.returns-then-stays
-returns-then-stays g c =
+pub returns-then-is_unchanged : goal.returns-then-is_unchanged
+returns-then-is_unchanged g c =
     let p = c.args.changing.now.chunk.now in
     let ch = (g.R.Rewriter.rewrite c.args.changing.now.rewriting.now).change in
     record {
       ok =
           c.in_ok-extend_from_slice.ensures.items
           ∙ (ap (λ z. c.args.out.now.items ++ slice_range z c.args.from c.args.to) c.bytes.ensures.exact
-          ∙ ap (λ z. c.args.out.now.items ++ z) (stays_within ch p (node_of c.args.node) c.args.from c.args.to c.requires.start c.requires.value.1.order c.requires.end (c.stays.ensures c.if-stays.true)));
+          ∙ ap (λ z. c.args.out.now.items ++ z) (stays_within ch p (node_of c.args.node) c.args.from c.args.to c.requires.start c.requires.value.1.order c.requires.end (c.is_unchanged.ensures c.if-is_unchanged.true)));
     }
 
 pub returns : goal.returns

@@ -7,7 +7,7 @@ use Rattle.jfr_chunk.specs.Parts.{metadata_at}
 use Rattle.jfr_chunk.specs.Reach.{kept_by, remain}
 use Rattle.jfr_chunk.specs.Scrub.{Whole, output_records, bytes_of, written, written_bytes}
 use Rattle.jfr_output.specs.Remaining.{NotFalling}
-use Rattle.jfr_output.specs.OutputRecords.{output_record_as}
+use Rattle.jfr_output.specs.RemainingRecords.{output_record_for}
 use Rattle.jfr_output.proofs.CursorLaws.{cursor_first}
 use Rattle.jfr_scrub.specs.Bodies.{OutputRecordFits, output_record_parts}
 use Rattle.jfr_scrub.specs.Sizes.{HasRange}
@@ -26,7 +26,7 @@ output_records-init c =
     let start = c.new.ensures.bytes ∙ ap (λ (z : List _). record { chunk = z; bytes = [] }) c.bytes.ensures.exact in
     record {
       cursor = cursor_first p c.args.kept.now a;
-      body = going_none p c.args.remaining.now (output_records (option_map (λ s. s.now) c.args.slim) p kept) _ (λ i. record { output = start i; at = 68; older = None; metadata = None })
+      body = going_none p c.args.remaining.now (output_records (option_map (λ s. s.now) c.args.slim) p kept) _ (λ i. record { output = start i; at = 68; newest = None; metadata = None })
           (subst (λ (z : List EntryAt). AllByRecursion (WrittenFits p.bytes z) (written p.bytes z 68 None (output_records (option_map (λ s. s.now) c.args.slim) p kept))) (sym c.requires.remaining) (subst (λ w. AllByRecursion (WrittenFits p.bytes (remain p kept)) (written p.bytes (remain p kept) 68 None (output_records w p kept))) (sym n.is) (all_fit n.names p a kept)))
           (subst (λ (z : List EntryAt). 68 + length (flat_map (written_bytes p.bytes z) (written p.bytes z 68 None (output_records (option_map (λ s. s.now) c.args.slim) p kept))) ≤ length p.bytes) (sym c.requires.remaining) (subst (λ w. 68 + length (flat_map (written_bytes p.bytes (remain p kept)) (written p.bytes (remain p kept) 68 None (output_records w p kept))) ≤ length p.bytes) (sym n.is) (all_within n.names p a kept)));
       copied = so_far_none _ _ _;
@@ -61,7 +61,7 @@ returns-in_default-clause-made c =
 pub lay_record-requires-clause-fits : goal.lay_record-requires-clause-fits
 lay_record-requires-clause-fits c =
     let g = going_run _ _ _ _ _ _ _ _ _ _ _ c.pass_run.ensures.run c.output_records.invariant.body c.in_ok-lay_run.ensures.ok (c.in-Some.ensures.exact _) in
-    subst (λ (z : List _). OutputRecordFits z c.args.remaining.now (output_record_as (option_map (λ s. s.now) c.args.slim) c.in-Some.output_record) c.lay_run.new.body.at c.lay_run.new.body.older) (sym g.chunk) g.fits.0
+    subst (λ (z : List _). OutputRecordFits z c.args.remaining.now (output_record_for (option_map (λ s. s.now) c.args.slim) c.in-Some.remaining_record) c.lay_run.new.body.at c.lay_run.new.body.newest) (sym g.chunk) g.fits.0
 
 pub lay_record-requires-clause-order : goal.lay_record-requires-clause-order
 lay_record-requires-clause-order c = subst (NotFalling 0) (sym c.requires.remaining) (left_order c.args.chunk.now c.bytes.ensures.parts (kept_by c.args.chunk.now c.args.kept.now))
@@ -76,14 +76,14 @@ lay_record-requires-clause-ranges c =
 pub lay_record-requires-clause-room : goal.lay_record-requires-clause-room
 lay_record-requires-clause-room c =
     let g = going_run _ _ _ _ _ _ _ _ _ _ _ c.pass_run.ensures.run c.output_records.invariant.body c.in_ok-lay_run.ensures.ok (c.in-Some.ensures.exact _) in
-    subst (λ (z : List _). c.lay_run.new.body.at + length (bytes_of z c.args.remaining.now (output_record_as (option_map (λ s. s.now) c.args.slim) c.in-Some.output_record) c.lay_run.new.body.at c.lay_run.new.body.older) ≤ length z) (sym g.chunk) (going_room _ _ _ _ _ _ g)
+    subst (λ (z : List _). c.lay_run.new.body.at + length (bytes_of z c.args.remaining.now (output_record_for (option_map (λ s. s.now) c.args.slim) c.in-Some.remaining_record) c.lay_run.new.body.at c.lay_run.new.body.newest) ≤ length z) (sym g.chunk) (going_room _ _ _ _ _ _ g)
 
 pub output_records-preserved : goal.output_records-preserved
 output_records-preserved c =
     let g = going_run _ _ _ _ _ _ _ _ _ _ _ c.pass_run.ensures.run c.output_records.invariant.body c.in_ok-lay_run.ensures.ok (c.in-Some.ensures.exact _) in
     record {
       cursor = c.in-Some.ensures.cursor;
-      body = going_next _ _ _ _ _ _ _ _ g refl (c.in_ok-lay_record.ensures.ok (metadata_at c.args.chunk.now.bytes) c.in-Some.ensures.metadata) (some_written c.args.chunk.now.bytes c.args.remaining.now (output_record_as (option_map (λ s. s.now) c.args.slim) c.in-Some.output_record) c.lay_run.new.body.at c.lay_run.new.body.older g.fits.0);
+      body = going_next _ _ _ _ _ _ _ _ g refl (c.in_ok-lay_record.ensures.ok (metadata_at c.args.chunk.now.bytes) c.in-Some.ensures.metadata) (some_written c.args.chunk.now.bytes c.args.remaining.now (output_record_for (option_map (λ s. s.now) c.args.slim) c.in-Some.remaining_record) c.lay_run.new.body.at c.lay_run.new.body.newest g.fits.0);
       copied =
           let p = c.args.chunk.now in
           let u = c.pass_run.ensures.run in

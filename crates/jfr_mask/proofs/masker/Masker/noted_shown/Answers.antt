@@ -2,7 +2,7 @@ use Rattle.std.specs.Prelude.{◌≡◌, Some}
 use Rattle.std.specs.Str.{chars}
 use Rattle.std.proofs.Common.{◌+◌, ap, arith, refl, sym, ◌∙◌}
 use Rattle.jfr_value.specs.Leaves.{leaf_of}
-use Rattle.jfr_mask.specs.Pseudonyms.{has_text, is_descriptor, stays}
+use Rattle.jfr_mask.specs.Pseudonyms.{has_text, is_descriptor, is_unmasked}
 use Rattle.jfr_mask.proofs.NotedLaws.{noted_leads, same_text}
 use Rattle.jfr_mask.proofs.ShownLaws.{pseudonym_shown}
 use Rattle.jfr_mask.proofs.masker.Masker.noted_shown.Goals as goal
@@ -22,6 +22,6 @@ returns c =
     let same : text ≡ r.0 = same_text text r.0 (c.in_ok-text.ensures.text ∙ r.2.there) in (
       text,
       r.1 ∙ ap Some (sym same),
-      ap (stays known) same ∙ r.2.hidden,
-      c.pseudonym.ensures ∙ pseudonym_shown known d text (is_descriptor text) (index + 1) c.in_ok-index.ensures.fits refl (sym c.in_ok-text.ensures.number) (ap (stays known) same ∙ r.2.hidden),
+      ap (is_unmasked known) same ∙ r.2.hidden,
+      c.pseudonym.ensures ∙ pseudonym_shown known d text (is_descriptor text) (index + 1) c.in_ok-index.ensures.fits refl (sym c.in_ok-text.ensures.number) (ap (is_unmasked known) same ∙ r.2.hidden),
     )

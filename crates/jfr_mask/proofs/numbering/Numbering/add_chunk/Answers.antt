@@ -3,7 +3,7 @@ use Rattle.std.specs.List.{AllByRecursion, flat_map}
 use Rattle.jfr_chunk.specs.Metas.{new_metadata}
 use Rattle.jfr_chunk.specs.Reach.{kept_by}
 use Rattle.jfr_chunk.specs.Scrub.{OutputRecord}
-use Rattle.jfr_output.specs.OutputRecords.{output_record_as, remaining_output_records}
+use Rattle.jfr_output.specs.RemainingRecords.{output_record_for, output_records_from}
 use Rattle.jfr_output.specs.Remaining.{NotFalling}
 use Rattle.jfr_output.proofs.CursorLaws.{cursor_first}
 use Rattle.jfr_mask.specs.Masked.{is_masked_string}
@@ -44,9 +44,9 @@ output_records-preserved c =
       texts = λ m is.
           (let slim = new_metadata m.described p (kept_by p flags) in
           let texts : OutputRecord → List (List ℕ) = λ o. origin_texts m p (origin_of p (kept_by p flags) c.args.entries.now o) in
-          let rest = flat_map texts (remaining_output_records slim p flags c.next_output_record.new.cursor) in
+          let rest = flat_map texts (output_records_from slim p flags c.next_remaining_record.new.cursor) in
           ap (λ z. with_texts z rest) (c.in_ok-add_record.ensures.ok m flags slim is c.in-Some.ensures.event c.in-Some.ensures.metadata)
-          ∙ (sym (with_append c.output_records.growing.dictionary (texts (output_record_as slim c.in-Some.output_record)) rest)
+          ∙ (sym (with_append c.output_records.growing.dictionary (texts (output_record_for slim c.in-Some.remaining_record)) rest)
           ∙ (ap (λ z. with_texts c.output_records.growing.dictionary (flat_map texts z)) (sym (c.in-Some.ensures.exact slim)) ∙ c.output_records.invariant.texts m is)));
     }
 

@@ -2,7 +2,7 @@ use Rattle.std.proofs.Common.{◌≡◌, length, None}
 use Rattle.std.specs.List.{flat_map}
 use Rattle.jfr_chunk.specs.Metas.{new_metadata}
 use Rattle.jfr_chunk.specs.Reach.{kept_by}
-use Rattle.jfr_output.specs.OutputRecords.{IsCursor, remaining_output_records}
+use Rattle.jfr_output.specs.RemainingRecords.{IsCursor, output_records_from}
 use Rattle.jfr_mask.specs.Maskers.{IsMaskingBy}
 use Rattle.jfr_mask.specs.MaskOf.{Masking, origin_of, origin_texts, records_out}
 use Rattle.jfr_mask.specs.Noted.{NotesTexts}
@@ -14,9 +14,9 @@ abbrev pub invariant-output_records : goal.invariant-output_records
 invariant-output_records l = record {
   noted : NotesTexts l.self l.growing;
   cursor : IsCursor l.self.strings.chunk.now l.kept l.cursor;
-  texts : (m : Masking) → IsMaskingBy l.self m → with_texts l.growing.dictionary (flat_map (λ o. origin_texts m l.self.strings.chunk.now (origin_of l.self.strings.chunk.now (kept_by l.self.strings.chunk.now l.kept) l.entries o)) (remaining_output_records (new_metadata m.described l.self.strings.chunk.now (kept_by l.self.strings.chunk.now l.kept)) l.self.strings.chunk.now l.kept l.cursor))
+  texts : (m : Masking) → IsMaskingBy l.self m → with_texts l.growing.dictionary (flat_map (λ o. origin_texts m l.self.strings.chunk.now (origin_of l.self.strings.chunk.now (kept_by l.self.strings.chunk.now l.kept) l.entries o)) (output_records_from (new_metadata m.described l.self.strings.chunk.now (kept_by l.self.strings.chunk.now l.kept)) l.self.strings.chunk.now l.kept l.cursor))
       ≡ with_texts l.fn.growing.dictionary (flat_map (λ o. origin_texts m l.self.strings.chunk.now (origin_of l.self.strings.chunk.now (kept_by l.self.strings.chunk.now l.kept) l.entries o)) (records_out m l.self.strings.chunk.now (kept_by l.self.strings.chunk.now l.kept)));
 }
 
 abbrev pub decreases-output_records : goal.decreases-output_records
-decreases-output_records l = length (remaining_output_records None l.self.strings.chunk.now l.kept l.cursor)
+decreases-output_records l = length (output_records_from None l.self.strings.chunk.now l.kept l.cursor)

@@ -5,7 +5,7 @@ use Rattle.jfr_pool.specs.Entries.{entry_node}
 use Rattle.jfr_chunk.specs.Parts.{metadata_at}
 use Rattle.jfr_chunk.specs.Reach.{kept_by}
 use Rattle.jfr_chunk.proofs.AllLaws.{filter_all}
-use Rattle.jfr_output.specs.OutputRecords.{ShowsMetadata, output_record_as}
+use Rattle.jfr_output.specs.RemainingRecords.{ShowsMetadata, output_record_for}
 use Rattle.jfr_mask.specs.Maskers.{IsEntryValue, node_texts_by}
 use Rattle.jfr_mask.specs.MaskOf.{origin_of, origin_texts}
 use Rattle.jfr_mask.specs.Pseudonyms.{with_texts}
@@ -23,7 +23,7 @@ returns-in-Metadata c =
     record {
       ok = λ m flags slim is event metadata.
           ap (λ z. with_texts c.args.growing.now.dictionary z)
-          (sym (ap (λ o. origin_texts m p (origin_of p (kept_by p flags) c.args.entries.now (output_record_as slim o))) c.in-Metadata.is
+          (sym (ap (λ o. origin_texts m p (origin_of p (kept_by p flags) c.args.entries.now (output_record_for slim o))) c.in-Metadata.is
           ∙ metadata_texts c.args.self.now m is flags c.args.entries.now c.parts_are_valid.ensures.parts slim c.in-Metadata.field-0 (subst (ShowsMetadata (metadata_at p.bytes)) c.in-Metadata.is metadata)));
       noted = c.requires.noted;
     }
@@ -37,7 +37,7 @@ returns-in-Chained c =
           e
           ∙ (ap (λ es. with_texts c.args.growing.now.dictionary (flat_map (λ e. node_texts_by c.args.self.now (entry_node e)) es)) c.entries_of.ensures
           ∙ ap (λ z. with_texts c.args.growing.now.dictionary z)
-          (sym (ap (λ o. origin_texts m p (origin_of p (kept_by p flags) c.args.entries.now (output_record_as slim o))) c.in-Chained.is
+          (sym (ap (λ o. origin_texts m p (origin_of p (kept_by p flags) c.args.entries.now (output_record_for slim o))) c.in-Chained.is
           ∙ chained_texts c.args.self.now m is flags c.args.entries.now c.in-Chained.number c.in-Chained.field-1)))) c.add_entries.ensures.ok;
       noted = c.add_entries.ensures.noted;
     }

@@ -3,7 +3,7 @@ use Rattle.jfr_scrub.specs.declared.piece.Range.TheVariants.{Copied}
 use Rattle.jfr_scrub.specs.Pieces.{Grows, PieceList}
 use Rattle.jfr_scrub.proofs.CopiedLaws.{copied_last, grows_left, grows_longer, grows_settled, grows_then, narrower}
 use Rattle.jfr_scrub.proofs.PieceLaws.{longer_laid, next_laid}
-use Rattle.jfr_scrub.proofs.output.Output.copy.Goals as goal
+use Rattle.jfr_scrub.proofs.piece_builder.PieceBuilder.copy.Goals as goal
 
 pub returns-then-from-self : goal.returns-then-from-self
 returns-then-from-self c =

@@ -20,7 +20,7 @@ pub enum ValueFault {
 }
 
 impl From<AllocError> for ValueFault {
-    ghost use Rattle.jfr_build.specs.declared.output.ValueFault.TheVariants.{Memory};
+    ghost use Rattle.jfr_build.specs.declared.value_bytes.ValueFault.TheVariants.{Memory};
 
     ghost from_gives = { λ _ fault. fault ≡ Memory };
 
@@ -30,7 +30,7 @@ impl From<AllocError> for ValueFault {
 }
 
 impl From<NoMemory> for ValueFault {
-    ghost use Rattle.jfr_build.specs.declared.output.ValueFault.TheVariants.{Memory};
+    ghost use Rattle.jfr_build.specs.declared.value_bytes.ValueFault.TheVariants.{Memory};
 
     ghost from_gives = { λ _ fault. fault ≡ Memory };
 
@@ -40,7 +40,7 @@ impl From<NoMemory> for ValueFault {
 }
 
 impl<T: Drop> From<AllocFailed<T>> for ValueFault {
-    ghost use Rattle.jfr_build.specs.declared.output.ValueFault.TheVariants.{Memory};
+    ghost use Rattle.jfr_build.specs.declared.value_bytes.ValueFault.TheVariants.{Memory};
 
     ghost from_gives = { λ _ fault. fault ≡ Memory };
 
@@ -51,13 +51,13 @@ impl<T: Drop> From<AllocFailed<T>> for ValueFault {
 
 /// The bytes written so far. Contracts see them.
 #[derive(Drop)]
-pub struct Output {
+pub struct ValueBytes {
     bytes: Vec<u8>,
     // The text of a quoted word, while it is read.
     text: Vec<u8>,
 }
 
-impl Model for Output {
+impl Model for ValueBytes {
     ghost use Rattle.std.specs.Prelude.{List, ℕ};
 
     ghost Value = { List ℕ };
@@ -65,12 +65,12 @@ impl Model for Output {
     ghost view = { λ out. out.bytes.items };
 }
 
-impl Output {
-    /// An output without bytes. It allocates nothing.
-    pub fn new(alloc: Global) -> Output
+impl ValueBytes {
+    /// No bytes. It allocates nothing.
+    pub fn new(alloc: Global) -> ValueBytes
         ensures { result ≡ [] }
     {
-        Output {
+        ValueBytes {
             bytes: Vec::new(alloc),
             text: Vec::new(alloc),
         }

@@ -3,7 +3,7 @@ use Rattle.jfr_scrub.specs.declared.piece.Range.TheVariants.{Copied}
 use Rattle.jfr_scrub.specs.Pieces.{Grows, PieceList}
 use Rattle.jfr_scrub.proofs.CopiedLaws.{grows_left, grows_settled, grows_then}
 use Rattle.jfr_scrub.proofs.PieceLaws.{made_laid}
-use Rattle.jfr_scrub.proofs.output.Output.put.Goals as goal
+use Rattle.jfr_scrub.proofs.piece_builder.PieceBuilder.put.Goals as goal
 
 pub returns : goal.returns
 returns c =

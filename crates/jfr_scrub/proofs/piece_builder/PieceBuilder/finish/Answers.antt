@@ -3,7 +3,7 @@ use Rattle.jfr_scrub.specs.declared.piece.MadePart.TheVariants.{ChunkHeader}
 use Rattle.jfr_scrub.specs.Pieces.{Keeps, PieceList, joined}
 use Rattle.jfr_scrub.proofs.CopiedLaws.{keeps_settled, keeps_then, settled_parts}
 use Rattle.jfr_scrub.proofs.PieceLaws.{finished}
-use Rattle.jfr_scrub.proofs.output.Output.finish.Goals as goal
+use Rattle.jfr_scrub.proofs.piece_builder.PieceBuilder.finish.Goals as goal
 
 pub returns-clause-ok : goal.returns-clause-ok
 returns-clause-ok c =

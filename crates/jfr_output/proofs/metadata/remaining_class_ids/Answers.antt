@@ -6,7 +6,7 @@ use Rattle.jfr_chunk.specs.Parts.{events_of}
 use Rattle.jfr_chunk.specs.Reach.{kept_by}
 use Rattle.jfr_output.proofs.NewLaws.{stays_ok}
 use Rattle.jfr_output.proofs.UsedLaws.{all_kept, all_used, no_patterns}
-use Rattle.jfr_output.proofs.metadata.staying_classes.Goals as goal
+use Rattle.jfr_output.proofs.metadata.remaining_class_ids.Goals as goal
 
 pub returns-then-are_all : goal.returns-then-are_all
 returns-then-are_all c =

@@ -1,4 +1,4 @@
-//! The output of a chunk while it is laid out.
+//! Building the pieces of an output.
 ghost use Rattle.std.specs.Prelude.{◌≡◌, ◌≤◌, ◌<◌, ◌++◌, [], ◌∷◌, length, slice_range, IfOk, OnOk};
 ghost use Rattle.jfr_base.specs.Integer.{FitsIn, spell, spell_in};
 ghost use Rattle.jfr_output.specs.Metadata.{IsMetadataRecord};
@@ -12,16 +12,16 @@ use jfr_outside::NoMemory;
 use std::alloc::Global;
 use std::marker::Model;
 
-/// The output so far. Adjacent ranges of the chunk are one piece.
+/// The pieces of an output so far. Adjacent ranges of the chunk become one piece.
 #[derive(Drop)]
-pub(crate) struct Output<'a> {
+pub(crate) struct PieceBuilder<'a> {
     pieces: Pieces<'a>,
     // The range of the chunk that follows the pieces.
     from: usize,
     to: usize,
 }
 
-impl<'a> Model for Output<'a> {
+impl<'a> Model for PieceBuilder<'a> {
     ghost use Rattle.std.specs.Prelude.{length, ◌∷◌, [], ◌++◌, ◌≤◌, ◌≡◌};
     ghost use Rattle.jfr_scrub.specs.declared.piece.Range.TheVariants.{Copied};
     ghost use Rattle.jfr_scrub.specs.Pieces.{AreMadeBytes, PieceList};
@@ -33,13 +33,13 @@ impl<'a> Model for Output<'a> {
     ghost invariant = { λ o. (o.from ≤ o.to) × (o.to ≤ length o.pieces.chunk) × AreMadeBytes o.pieces };
 }
 
-impl<'a> Output<'a> {
-    /// An output with nothing laid out yet.
-    pub(crate) fn new(alloc: Global, chunk: &'a [u8]) -> Output<'a>
+impl<'a> PieceBuilder<'a> {
+    /// No pieces.
+    pub(crate) fn new(alloc: Global, chunk: &'a [u8]) -> PieceBuilder<'a>
         ensures bytes { output_so_far result ≡ record { chunk = chunk.now; bytes = [] } }
         ensures made { made_parts result.pieces ≡ [] }
     {
-        Output {
+        PieceBuilder {
             pieces: Pieces::new(alloc, chunk),
             from: 0,
             to: 0,

@@ -1,11 +1,11 @@
 use Rattle.std.proofs.Common.{◌≡◌, ◌-◌, ℕ, length, List, Option}
-use Rattle.jfr_output.specs.OutputRecords.{IsCursor, remaining_output_records}
-use Rattle.jfr_output.proofs.output_records.next_output_record.Given as goal
+use Rattle.jfr_output.specs.RemainingRecords.{IsCursor, output_records_from}
+use Rattle.jfr_output.proofs.remaining_records.next_remaining_record.Given as goal
 
 abbrev pub invariant-records : goal.invariant-records
 invariant-records l = record {
   cursor : IsCursor l.chunk l.kept l.cursor;
-  same : (new : Option (List ℕ)) → remaining_output_records new l.chunk l.kept l.fn.cursor ≡ remaining_output_records new l.chunk l.kept l.cursor;
+  same : (new : Option (List ℕ)) → output_records_from new l.chunk l.kept l.fn.cursor ≡ output_records_from new l.chunk l.kept l.cursor;
 }
 
 abbrev pub decreases-records : goal.decreases-records

@@ -5,7 +5,7 @@ use Rattle.jfr_chunk.specs.Parts.{Parts}
 use Rattle.jfr_rewrite.specs.Rewrite.{changed_bytes}
 use Rattle.jfr_mask.specs.Maskers.{change_by, held_by, shown_by}
 use Rattle.jfr_mask.proofs.PlainLaws.{node_unchanged}
-use Rattle.jfr_mask.proofs.masker.MaskerRewriter.stays.Goals as goal
+use Rattle.jfr_mask.proofs.masker.MaskerRewriter.is_unchanged.Goals as goal
 
 pub returns : goal.returns
 returns c = λ none.
