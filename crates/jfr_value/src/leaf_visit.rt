@@ -34,7 +34,7 @@ pub trait VisitLeaf<C> {
 
     /// Numbers, and truth values, leave a visitor as it is, so they aren't passed to it.
     fn passes_numbers()
-        ensures same { (with : C) (leaf : LeafAt) (visitor : Self) → IsNumber leaf → takes with leaf visitor visitor }
+        ensures same { (with : C) (leaf : LeafAt) (visitor : Self) → IsNumber leaf → admits with leaf → ready visitor with leaf.at → takes with leaf visitor visitor }
         ensures ready { (with : C) (visitor : Self) (at to : ℕ) → ready visitor with at → at ≤ to → ready visitor with to };
 
     /// Takes a leaf that is no number.

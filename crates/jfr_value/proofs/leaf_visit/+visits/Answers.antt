@@ -200,7 +200,7 @@ visit_fused-returns-in-Some-clause-visited g t c =
     let numbers : AreNumbers next.layouts.now = c.numbers_end.ensures.numbers next.layouts.now c.requires.fused (subst IsSome (sym c.in-Some.is) refl) in
     let ends : Ok c.in-Some.to ≡ end_or_flaw (run (values_format (0 + 1) walk.classes.now next.layouts.now) walk.bytes.now walk.end next.at) = rw c.in-Some.is at c.numbers_end.ensures.exact walk.classes.now 0 next.layouts.now c.requires.layouts c.requires.fused in
     subst (λ n. Visits (g.V.VisitLeaf.takes walk.with.now) walk.classes.now walk.bytes.now walk.end (fields_from next.class next.number (shapes_of_layouts next.layouts.now)) (shapes_of_layouts next.layouts.now) next.at c.args.visitor.now c.args.steps.now [] [] c.in-Some.to c.args.visitor.now n) (sym c.take.ensures)
-    (numbers_visited (g.V.VisitLeaf.takes walk.with.now) walk.classes.now 0 walk.bytes.now walk.end (c.passes_numbers.ensures.same walk.with.now) next.layouts.now next.class next.number next.at c.in-Some.to c.args.steps.now c.args.visitor.now c.requires.layouts numbers ends)
+    (numbers_visited (g.V.VisitLeaf.takes walk.with.now) (g.V.VisitLeaf.admits walk.with.now) (λ visitor at. g.V.VisitLeaf.ready visitor walk.with.now at) walk.classes.now 0 walk.bytes.now walk.end (c.passes_numbers.ensures.same walk.with.now) (c.passes_numbers.ensures.ready walk.with.now) next.layouts.now next.class next.number next.at c.in-Some.to c.args.steps.now c.args.visitor.now c.requires.layouts numbers ends c.requires.values c.requires.ready)
 
 pub visit_fields-loop-fused-init : goal.visit_fields-loop-fused-init
 visit_fields-loop-fused-init g t c = record {

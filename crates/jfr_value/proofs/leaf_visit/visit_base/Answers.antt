@@ -57,6 +57,12 @@ returns-in_default-kind g c = record {
       (λ is us vs r. (let t = base_found walk.classes.now walk.bytes.now c.args.start.at walk.end layout.shape us c.args.start.holder is vs d.class layout.kind r c.requires.array c.requires.constant d.found d.kind_is c.requires.base in
       let e : t.0 ≡ c.in-Ok.to = cc (sym c.in-Ok.is ∙ (c.base_end.ensures.exact ∙ t.1)) in
       subst (λ z. Taken walk.classes.now walk.bytes.now c.args.start.at walk.end z (leaf_kinds.Base layout.kind) layout.shape.class us vs c.args.start.holder is is) e t.2))
-      (c.passes_numbers.ensures.same walk.with.now leaf c.args.visitor.now (layout.kind, refl, c.in_default-kind.not-Text)) c.tick.ensures;
+      (c.passes_numbers.ensures.same walk.with.now leaf c.args.visitor.now (layout.kind, refl, c.in_default-kind.not-Text)
+      (leaf_admitted (g.V.VisitLeaf.admits walk.with.now) walk.classes.now walk.bytes.now walk.end c.args.start.holder layout.shape c.args.start.at c.in-Ok.to layout.shape.class (leaf_kinds.Base layout.kind) c.requires.values.other_holders c.requires.values.other_shapes c.requires.values
+      (let values = c.requires.values in
+      let t = base_found walk.classes.now walk.bytes.now c.args.start.at walk.end layout.shape values.other_shapes c.args.start.holder values.other_holders values.values d.class layout.kind values.row c.requires.array c.requires.constant d.found d.kind_is c.requires.base in
+      let e : t.0 ≡ c.in-Ok.to = cc (sym c.in-Ok.is ∙ (c.base_end.ensures.exact ∙ t.1)) in
+      subst (λ z. Taken walk.classes.now walk.bytes.now c.args.start.at walk.end z (leaf_kinds.Base layout.kind) layout.shape.class values.other_shapes values.values c.args.start.holder values.other_holders values.other_holders) e t.2))
+      c.requires.ready) c.tick.ensures;
   ready = c.passes_numbers.ensures.ready c.args.walk.now.with.now c.args.visitor.now c.args.start.at c.in-Ok.to c.requires.ready c.in-Ok.ensures.range.0;
 }
