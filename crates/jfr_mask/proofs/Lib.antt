@@ -15,6 +15,7 @@ mod MarkedRest
 mod MaskLaws
 mod NotedLaws
 mod NumberLaws
+mod NumberLeaves
 mod NumberedRecords
 mod OneToOnes
 mod PlainLaws

@@ -49,6 +49,8 @@ impl Rewriter for Masker<'_, '_> {
         self.strings.are_none_in(node)
     }
 
+    fn keeps_numbers() {}
+
     fn may_change(&self, _chunk: &Chunk<'_>, leaf: &Leaf<'_>) -> bool {
         self.strings.has(leaf)
     }

@@ -268,6 +268,8 @@ impl VisitLeaf<Numbering<'_>> for GrowingDictionary {
 
     ghost takes = { λ numbering leaf old new. AddsTexts (leaf_texts_by numbering leaf) old new };
 
+    fn passes_numbers() {}
+
     fn visit_leaf(&mut self, numbering: &Numbering<'_>, leaf: Leaf<'_>) {
         if self.failed {
             return;

@@ -113,6 +113,8 @@ impl VisitLeaf<MaskedStrings<'_>> for Worklist {
 
     ghost takes = { λ strings leaf old new. TakesAll (λ t a b. Puts (those (number_in_force strings.chunk.now.entries) (t ∷ [])) a b) (option_to_list (target_left (held_by strings) leaf)) old new };
 
+    fn passes_numbers() {}
+
     /// Marks the entry in force to which a leaf refers, if it does and isn't a masked string.
     fn visit_leaf(&mut self, strings: &MaskedStrings<'_>, leaf: Leaf<'_>) {
         if strings.has(&leaf) {

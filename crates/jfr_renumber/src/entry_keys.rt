@@ -86,6 +86,8 @@ impl<'k> Rewriter for EntryKeys<'k> {
         false
     }
 
+    fn keeps_numbers() {}
+
     #[inline(always)]
     fn may_change(&self, _chunk: &Chunk<'_>, leaf: &Leaf<'_>) -> bool {
         self.zero_is_kept();

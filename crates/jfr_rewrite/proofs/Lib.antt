@@ -10,6 +10,7 @@ mod InForce
 mod Made
 pub mod LaidLeaves
 pub mod MeaningLaws
+pub mod NumberLeaves
 pub mod OneToOneLaws
 pub mod Output
 pub mod PathLaws

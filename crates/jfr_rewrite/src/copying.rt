@@ -74,6 +74,10 @@ impl<R: Rewriter> VisitLeaf<Changing<'_, '_, R>> for ValueCopy {
 
     ghost takes = { λ changing leaf old new. CopiesLeaf (R.Rewriter.rewrite changing.rewriting.now).change changing.chunk.now leaf old new };
 
+    fn passes_numbers() {
+        R::keeps_numbers();
+    }
+
     #[inline(always)]
     fn visit_leaf(&mut self, changing: &Changing<'_, '_, R>, leaf: Leaf<'_>) {
         if changing.rewriting.may_change(changing.chunk, &leaf) {

@@ -2,7 +2,8 @@
 ghost use Rattle.std.specs.Prelude.{◌≡◌, ◌≤◌, ◌-◌, ◌++◌, false, slice_range, IsTrue, OnOk};
 ghost use Rattle.jfr_chunk.specs.Parts.{Parts};
 ghost use Rattle.jfr_value.specs.Nodes.{IsValue, node_of};
-ghost use Rattle.jfr_value.specs.Leaves.{leaf_of};
+ghost use Rattle.jfr_value.specs.Leaves.{LeafAt, leaf_of};
+ghost use Rattle.jfr_value.specs.Visits.{IsNumber};
 ghost use Rattle.jfr_rewrite.specs.Copying.{LiesIn, leaf_becomes};
 ghost use Rattle.jfr_rewrite.specs.Rewrite.{Rewrite, changed_bytes};
 
@@ -25,6 +26,10 @@ pub trait Rewriter {
         requires of_chunk { node.bytes.now ≡ chunk.now.bytes }
         requires value { IsValue chunk.now.classes node }
         ensures { IsTrue result → changed_bytes (rewrite self.now).change chunk.now.classes chunk.now.bytes (node_of node.entry) ≡ slice_range chunk.now.bytes node.entry.at node.entry.end };
+
+    /// Numbers and truth values stay the same, so `may_change` isn't asked of them.
+    fn keeps_numbers()
+        ensures { (rewriter : Self) (leaf : LeafAt) → IsNumber leaf → leaf_becomes (rewrite rewriter).change leaf ≡ leaf.spelled };
 
     /// Whether a leaf may become other bytes. If not, it stays the same.
     fn may_change(&self, chunk: &Chunk<'_>, leaf: &Leaf<'_>) -> bool
