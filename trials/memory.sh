@@ -70,10 +70,14 @@ try 'print --json' - print --json "$file"
 try scrub out.jfr scrub "$file" out.jfr
 try 'scrub by threads' out.jfr scrub --include-threads 'main*' "$file" out.jfr
 try 'scrub --renumber yes' out.jfr scrub --renumber yes "$file" out.jfr
+try mask out.jfr mask --strings '*' "$file" out.jfr
 try receipt out.receipt receipt "$file" out.receipt
 try verify - verify "$file" scrubbed.jfr scrubbed.receipt
 try stacks - stacks "$file"
 try build out.jfr build text out.jfr
+mkdir part
+stem=$(basename "$file" .jfr)
+try disassemble "part/${stem}_000001.jfr" disassemble --output part --max-chunks 1000000 "$file"
 try assemble out.jfr assemble parts out.jfr
 try sample - sample 1 20000
 [ "$wrong" = 0 ]
