@@ -101,6 +101,46 @@ fn counts_what_a_chunk_has(rt: HostRuntime) -> Result<(), Fail> {
     compare_counts(&rt, rt.alloc(), &inert(rt.alloc())?, (0, 1, 0, 3))
 }
 
+/// The class, the key and the event of a reference without an entry.
+type Missing = (u64, u64, usize);
+
+/// The nodes to which the events refer, of which none is there.
+const NODES: &[Missing] = &[(7, 1, 0), (7, 3, 1)];
+
+/// Whether these are the references of the events that have no entry.
+fn has_missing(chunk: &Chunk<'_>, missing: &[Missing]) -> bool {
+    let Some(found) = chunk.missing_refs() else {
+        return false;
+    };
+    for (number, wanted) in missing.iter().enumerate() {
+        match found.get(number) {
+            Some(noted) if (noted.class, noted.key, noted.event) == *wanted => {}
+            _ => return false,
+        }
+    }
+    found.len() == missing.len()
+}
+
+/// Compares what the events of the chunk of these records refer to without an entry.
+fn compare_missing(
+    rt: &impl Abort,
+    alloc: Global,
+    (records, last): Records,
+    missing: &[Missing],
+) -> Result<(), Fail> {
+    let bytes = chunk_of(alloc, records, last, 68)?;
+    with_chunk(alloc, &bytes, |chunk| {
+        assert!(rt; has_missing(chunk, missing));
+        Ok(())
+    })
+}
+
+#[test]
+fn references_without_entries_are_noted(rt: HostRuntime) -> Result<(), Fail> {
+    compare_missing(&rt, rt.alloc(), EVENTS_AND_NODES, &[])?;
+    compare_missing(&rt, rt.alloc(), EVENTS, NODES)
+}
+
 /// Compares the second of two events, whose last field isn't the end of its record.
 fn compare_last_event(rt: &impl Abort, chunk: &Chunk<'_>) -> Result<(), Fail> {
     assert_eq!(rt; chunk.event_count(), 2);
