@@ -200,9 +200,9 @@ module _ (k : Classes) (bytes : OutputRecord → ℕ → Option ℕ → List ℕ
       pub offset : ℕ
       pub newest : Option ℕ
       pub from : at ≤ offset
-      pub held : Holds b (length b) offset (bytes (shown w f) offset older)
+      pub held : Holds b (length b) offset (bytes (shown w f) offset newest)
       pub leads : moved ws f.at ≡ offset
-      pub listed : In (map frame_of ws) (frame_at (shown w f) offset older)
+      pub listed : In (map frame_of ws) (frame_at (shown w f) offset newest)
 
     module _ (c : List ℕ) (all : List Numbered) (whole : Framed → Bool) (new : Framed → Option (List ℕ)) (f : Framed) (f_is : IsRecord c f) (no_link : numbered_at all f.at ≡ None) (chosen : whole f ≡ true) where
       abbrev RecordsAfter : List Framed → List OutputRecord
