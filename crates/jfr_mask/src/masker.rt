@@ -37,6 +37,10 @@ pub(crate) struct Masker<'m, 'd> {
 
 impl Rewriter for Masker<'_, '_> {
     ghost use Rattle.std.specs.Prelude.{◌≡◌};
+    ghost use Rattle.jfr_value.specs.Leaves.{LeafAt};
+    ghost use Rattle.jfr_value.specs.Visits.{IsNumber};
+    ghost use Rattle.jfr_rewrite.specs.Copying.{leaf_becomes};
+    ghost use Rattle.jfr_mask.specs.declared.masker.Masker.{Masker};
     ghost use Rattle.jfr_mask.specs.Maskers.{KnowsPlain, rewrite_by};
     ghost use Rattle.jfr_mask.specs.Noted.{HasNoted};
 
@@ -49,7 +53,9 @@ impl Rewriter for Masker<'_, '_> {
         self.strings.are_none_in(node)
     }
 
-    fn keeps_numbers() {}
+    fn keeps_numbers()
+        ensures { (masker : Masker) (leaf : LeafAt) → IsNumber leaf → leaf_becomes (rewrite_by masker).change leaf ≡ leaf.spelled }
+    {}
 
     fn may_change(&self, _chunk: &Chunk<'_>, leaf: &Leaf<'_>) -> bool {
         self.strings.has(leaf)

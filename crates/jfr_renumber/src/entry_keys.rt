@@ -74,8 +74,11 @@ impl<'k> NewKeys for EntryKeys<'k> {
 
 /// Any chunk can be rewritten with these keys. Its sizes keep their widths.
 impl<'k> Rewriter for EntryKeys<'k> {
-    ghost use Rattle.std.specs.Prelude.{None, ⊤};
-    ghost use Rattle.jfr_renumber.specs.Numbers.{number_or_zero};
+    ghost use Rattle.std.specs.Prelude.{◌≡◌, None, ⊤};
+    ghost use Rattle.jfr_value.specs.Leaves.{LeafAt};
+    ghost use Rattle.jfr_value.specs.Visits.{IsNumber};
+    ghost use Rattle.jfr_rewrite.specs.Copying.{leaf_becomes};
+    ghost use Rattle.jfr_renumber.specs.Numbers.{NumberedPairs, number_or_zero};
     ghost use Rattle.jfr_renumber.specs.Renumber.{with_keys};
 
     ghost rewrite = { λ keys. with_keys (number_or_zero keys) None };
@@ -86,7 +89,9 @@ impl<'k> Rewriter for EntryKeys<'k> {
         false
     }
 
-    fn keeps_numbers() {}
+    fn keeps_numbers()
+        ensures { (pairs : NumberedPairs) (leaf : LeafAt) → IsNumber leaf → leaf_becomes (with_keys (number_or_zero pairs) None).change leaf ≡ leaf.spelled }
+    {}
 
     #[inline(always)]
     fn may_change(&self, _chunk: &Chunk<'_>, leaf: &Leaf<'_>) -> bool {
