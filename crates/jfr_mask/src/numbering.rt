@@ -257,6 +257,11 @@ pub(crate) struct GrowingDictionary {
 }
 
 impl VisitLeaf<Numbering<'_>> for GrowingDictionary {
+    ghost use Rattle.std.specs.Prelude.{ℕ, ◌≤◌};
+    ghost use Rattle.jfr_value.specs.Leaves.{LeafAt};
+    ghost use Rattle.jfr_value.specs.Visits.{IsNumber};
+    ghost use Rattle.jfr_mask.specs.declared.numbering.GrowingDictionary.{GrowingDictionary};
+    ghost use Rattle.jfr_mask.specs.declared.numbering.Numbering.{Numbering};
     ghost use Rattle.jfr_mask.specs.Maskers.{leaf_texts_by};
     ghost use Rattle.jfr_mask.specs.Noted.{NotesTexts};
     ghost use Rattle.jfr_mask.specs.Visitors.{AddsTexts};
@@ -268,7 +273,10 @@ impl VisitLeaf<Numbering<'_>> for GrowingDictionary {
 
     ghost takes = { λ numbering leaf old new. AddsTexts (leaf_texts_by numbering leaf) old new };
 
-    fn passes_numbers() {}
+    fn passes_numbers()
+        ensures same { (numbering : Numbering) (leaf : LeafAt) (growing : GrowingDictionary) → IsNumber leaf → LiesIn numbering.strings.chunk.now leaf → NotesTexts numbering growing → AddsTexts (leaf_texts_by numbering leaf) growing growing }
+        ensures ready { (numbering : Numbering) (growing : GrowingDictionary) (at to : ℕ) → NotesTexts numbering growing → at ≤ to → NotesTexts numbering growing }
+    {}
 
     fn visit_leaf(&mut self, numbering: &Numbering<'_>, leaf: Leaf<'_>) {
         if self.failed {

@@ -98,9 +98,11 @@ fn put_leaves(list: &mut Worklist, strings: MaskedStrings<'_>, node: Node<'_>)
 }
 
 impl VisitLeaf<MaskedStrings<'_>> for Worklist {
-    ghost use Rattle.std.specs.Prelude.{◌≡◌, ◌∷◌, [], length, option_to_list};
-    ghost use Rattle.jfr_value.specs.Leaves.{KeyIsSpelled};
-    ghost use Rattle.jfr_value.specs.Visits.{TakesAll};
+    ghost use Rattle.std.specs.Prelude.{◌≡◌, ◌≤◌, ℕ, ◌∷◌, [], length, option_to_list};
+    ghost use Rattle.jfr_value.specs.Leaves.{KeyIsSpelled, LeafAt};
+    ghost use Rattle.jfr_value.specs.Visits.{IsNumber, TakesAll};
+    ghost use Rattle.jfr_worklist.specs.declared.worklist.Worklist.{Worklist};
+    ghost use Rattle.jfr_mask.specs.declared.texts.MaskedStrings.{MaskedStrings};
     ghost use Rattle.jfr_pool.specs.Entries.{number_in_force};
     ghost use Rattle.jfr_worklist.specs.Marks.{those};
     ghost use Rattle.jfr_worklist.specs.Putting.{Puts};
@@ -113,7 +115,10 @@ impl VisitLeaf<MaskedStrings<'_>> for Worklist {
 
     ghost takes = { λ strings leaf old new. TakesAll (λ t a b. Puts (those (number_in_force strings.chunk.now.entries) (t ∷ [])) a b) (option_to_list (target_left (held_by strings) leaf)) old new };
 
-    fn passes_numbers() {}
+    fn passes_numbers()
+        ensures same { (strings : MaskedStrings) (leaf : LeafAt) (list : Worklist) → IsNumber leaf → KeyIsSpelled leaf → length list.flags.items ≡ length strings.chunk.now.entries → TakesAll (λ t a b. Puts (those (number_in_force strings.chunk.now.entries) (t ∷ [])) a b) (option_to_list (target_left (held_by strings) leaf)) list list }
+        ensures ready { (strings : MaskedStrings) (list : Worklist) (at to : ℕ) → length list.flags.items ≡ length strings.chunk.now.entries → at ≤ to → length list.flags.items ≡ length strings.chunk.now.entries }
+    {}
 
     /// Marks the entry in force to which a leaf refers, if it does and isn't a masked string.
     fn visit_leaf(&mut self, strings: &MaskedStrings<'_>, leaf: Leaf<'_>) {
