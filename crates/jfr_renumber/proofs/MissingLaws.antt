@@ -16,7 +16,8 @@ use Rattle.jfr_worklist.specs.Members.{In}
 use Rattle.jfr_worklist.proofs.Members.{contains_in, in_contains, in_left, in_right, in_cases}
 use Rattle.jfr_chunk.specs.Reach.{all_targets, kept_by, marked, nodes_of, reached_marks, remain}
 use Rattle.jfr_renumber.specs.declared.missing.Missing.{Missing}
-use Rattle.jfr_renumber.specs.Missing.{Lists, flagged, is_missing}
+use Rattle.jfr_chunk.specs.Missing.{is_missing}
+use Rattle.jfr_renumber.specs.Missing.{HoldsMissing, Lists, flagged}
 use Rattle.jfr_renumber.proofs.Fewer.{marked_none}
 use Rattle.jfr_renumber.specs.Renumber.{used_keys}
 
@@ -107,23 +108,26 @@ nodes_append (e ∷ es) fs = ap (λ z. e.node ∷ z) (nodes_append es fs)
 
 -- Unless it failed, the list holds what is missing of these, and nothing else.
 abbrev pub Holds : Parts → List (ℕ × ℕ) → Missing → Type 0
-Holds p ts list = list.failed ≡ false → ((t : ℕ × ℕ) → Contains (filter (is_missing p.entries) ts) t → Contains list.keys.items t) × ((t : ℕ × ℕ) → Contains list.keys.items t → Contains (filter (is_missing p.entries) ts) t)
+Holds p ts list = list.failed ≡ false → HoldsMissing p.entries ts list.keys.items
 
 holds_more : (p : Parts) (ts us : List (ℕ × ℕ)) (a b : Missing) → Holds p ts a → Lists p.entries us a b → Holds p (ts ++ us) b
-holds_more p ts us a b h l = λ e. ((λ t c. all_by e t (in_cases (filter (is_missing p.entries) ts) (filter (is_missing p.entries) us) t (subst (λ z. In z t) both (contains_in (filter (is_missing p.entries) (ts ++ us)) t c)))), (λ t c. only_by e t (l.only e t c)))
+holds_more p ts us a b h l = λ e. record {
+  all = λ t c. all_by e t (in_cases (filter (is_missing p.entries) ts) (filter (is_missing p.entries) us) t (subst (λ z. In z t) both (contains_in (filter (is_missing p.entries) (ts ++ us)) t c)));
+  only = λ t c. only_by e t (l.only e t c);
+}
   where
     both : filter (is_missing p.entries) (ts ++ us) ≡ (filter (is_missing p.entries) ts) ++ (filter (is_missing p.entries) us)
     both = filter-append (is_missing p.entries) ts us
 
     all_by : b.failed ≡ false → (t : ℕ × ℕ) → In (filter (is_missing p.entries) ts) t ⊎ In (filter (is_missing p.entries) us) t → Contains b.keys.items t
-    all_by e t (inl i) = l.grows e t ((h (l.memory e)).0 t (in_contains (filter (is_missing p.entries) ts) t i))
+    all_by e t (inl i) = l.grows e t ((h (l.memory e)).all t (in_contains (filter (is_missing p.entries) ts) t i))
     all_by e t (inr i) = l.added e t (in_contains (filter (is_missing p.entries) us) t i)
 
     there : (t : ℕ × ℕ) → In ((filter (is_missing p.entries) ts) ++ (filter (is_missing p.entries) us)) t → Contains (filter (is_missing p.entries) (ts ++ us)) t
     there t i = subst (λ z. Contains z t) (sym both) (in_contains ((filter (is_missing p.entries) ts) ++ (filter (is_missing p.entries) us)) t i)
 
     only_by : b.failed ≡ false → (t : ℕ × ℕ) → Contains a.keys.items t ⊎ Contains (filter (is_missing p.entries) us) t → Contains (filter (is_missing p.entries) (ts ++ us)) t
-    only_by e t (inl i) = there t (in_left (filter (is_missing p.entries) ts) (filter (is_missing p.entries) us) t (contains_in (filter (is_missing p.entries) ts) t ((h (l.memory e)).1 t i)))
+    only_by e t (inl i) = there t (in_left (filter (is_missing p.entries) ts) (filter (is_missing p.entries) us) t (contains_in (filter (is_missing p.entries) ts) t ((h (l.memory e)).only t i)))
     only_by e t (inr i) = there t (in_right (filter (is_missing p.entries) ts) (filter (is_missing p.entries) us) t (contains_in (filter (is_missing p.entries) us) t i))
 
 pub event_next : (p : Parts) (flags : List Bool) (n : ℕ) (a b : Missing) → n < length flags → Holds p (all_targets p (nodes_of (marked (take n flags) (events_of p)))) a
@@ -135,8 +139,13 @@ event_next p flags n a b w h l =
     ap (λ z. all_targets p (nodes_of z)) (marked_up flags (events_of p) n w) ∙ (ap (all_targets p) (nodes_append these next) ∙ targets_append p (nodes_of these) (nodes_of next)) in
     subst (λ z. Holds p z b) (sym e) (holds_more p (all_targets p (nodes_of these)) (all_targets p (nodes_of next)) a b h l)
 
-pub entries_begun : (p : Parts) (flags : List Bool) (n : ℕ) (list : Missing) → length flags ≤ n → Holds p (all_targets p (nodes_of (marked (take n flags) (events_of p)))) list → Holds p (all_targets p (nodes_of (kept_by p flags) ++ [])) list
-entries_begun p flags n list w h = subst (λ z. Holds p (all_targets p z) list) (ap (λ z. nodes_of (marked z (events_of p))) (take_all n flags w) ∙ sym (append-nil (nodes_of (kept_by p flags)))) h
+-- When all events were seen.
+pub events_listed : (p : Parts) (flags : List Bool) (n : ℕ) (list : Missing) → length flags ≤ n → Holds p (all_targets p (nodes_of (marked (take n flags) (events_of p)))) list → Holds p (all_targets p (nodes_of (kept_by p flags))) list
+events_listed p flags n list w h = subst (λ z. Holds p (all_targets p (nodes_of (marked z (events_of p)))) list) (take_all n flags w) h
+
+-- Before the entries are seen.
+pub entries_begun : (p : Parts) (ns : List NodeAt) (keys : List (ℕ × ℕ)) → HoldsMissing p.entries (all_targets p ns) keys → HoldsMissing p.entries (all_targets p (ns ++ [])) keys
+entries_begun p ns keys h = subst (λ z. HoldsMissing p.entries (all_targets p z) keys) (sym (append-nil ns)) h
 
 pub entry_next : (p : Parts) (ns : List NodeAt) (flags : List Bool) (n : ℕ) (a b : Missing) → n < length flags → Holds p (all_targets p (ns ++ map entry_node (marked (take n flags) p.entries))) a
     → Lists p.entries (all_targets p (map entry_node (option_to_list (flagged flags p.entries n)))) a b → Holds p (all_targets p (ns ++ map entry_node (marked (take (n + 1) flags) p.entries))) b

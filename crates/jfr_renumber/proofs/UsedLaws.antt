@@ -24,19 +24,19 @@ use Rattle.jfr_renumber.proofs.KeyLaws.{number_most, number_same, number_apart, 
 use Rattle.jfr_renumber.proofs.TogetherLaws.{together_is}
 
 -- A marked member is a member that is marked.
-record Marked {X : Type 0} (ms : List Bool) (xs : List X) (x : X) : Type 0 where
-  place : ℕ
-  is_so : IsMarked ms place
-  holds : slice_get xs place ≡ Some x
+pub record Marked {X : Type 0} (ms : List Bool) (xs : List X) (x : X) : Type 0 where
+  pub place : ℕ
+  pub is_so : IsMarked ms place
+  pub holds : slice_get xs place ≡ Some x
 
-in_marked : {X : Type 0} (ms : List Bool) (xs : List X) (x : X) → In (marked ms xs) x → Marked ms xs x
+pub in_marked : {X : Type 0} (ms : List Bool) (xs : List X) (x : X) → In (marked ms xs) x → Marked ms xs x
 in_marked [] xs x i = absurd i
 in_marked (m ∷ ms) [] x i = absurd i
 in_marked (true ∷ ms) (y ∷ xs) x (inl e) = record { place = 0; is_so = refl; holds = ap (λ z. Some z) e }
 in_marked (true ∷ ms) (y ∷ xs) x (inr i) = let r = in_marked ms xs x i in record { place = suc r.place; is_so = r.is_so; holds = r.holds }
 in_marked (false ∷ ms) (y ∷ xs) x i = let r = in_marked ms xs x i in record { place = suc r.place; is_so = r.is_so; holds = r.holds }
 
-marked_in : {X : Type 0} (ms : List Bool) (xs : List X) (x : X) (i : ℕ) → IsMarked ms i → slice_get xs i ≡ Some x → In (marked ms xs) x
+pub marked_in : {X : Type 0} (ms : List Bool) (xs : List X) (x : X) (i : ℕ) → IsMarked ms i → slice_get xs i ≡ Some x → In (marked ms xs) x
 marked_in [] xs x i m e = let z : false ≡ true = m in cc
 marked_in (m ∷ ms) [] x i k e = cc
 marked_in (true ∷ ms) (y ∷ xs) x zero k e = inl (let h : Some y ≡ Some x = e in cc)
@@ -46,12 +46,12 @@ marked_in (false ∷ ms) (y ∷ xs) x (suc i) k e = marked_in ms xs x i k e
 
 -- Nodes refer to exactly the targets that one of them refers to.
 module _ (p : Parts) where
-  node_in : (ns : List NodeAt) (n : NodeAt) (t : ℕ × ℕ) → In ns n → In (targets p.classes p.bytes n) t → In (all_targets p ns) t
+  pub node_in : (ns : List NodeAt) (n : NodeAt) (t : ℕ × ℕ) → In ns n → In (targets p.classes p.bytes n) t → In (all_targets p ns) t
   node_in [] n t i j = absurd i
   node_in (m ∷ ns) n t (inl q) j = in_left (targets p.classes p.bytes m) (all_targets p ns) t (subst (λ z. In (targets p.classes p.bytes z) t) (sym q) j)
   node_in (m ∷ ns) n t (inr i) j = in_right (targets p.classes p.bytes m) (all_targets p ns) t (node_in ns n t i j)
 
-  in_nodes : (ns : List NodeAt) (t : ℕ × ℕ) → In (all_targets p ns) t → (n : NodeAt) × In ns n × In (targets p.classes p.bytes n) t
+  pub in_nodes : (ns : List NodeAt) (t : ℕ × ℕ) → In (all_targets p ns) t → (n : NodeAt) × In ns n × In (targets p.classes p.bytes n) t
   in_nodes [] t i = absurd i
   in_nodes (m ∷ ns) t i = by_case (in_cases (targets p.classes p.bytes m) (all_targets p ns) t i) (λ j. in_nodes ns t j)
     where
@@ -59,12 +59,12 @@ module _ (p : Parts) where
       by_case (inl j) g = (m, inl refl, j)
       by_case (inr j) g = let r = g j in (r.0, inr r.1, r.2)
 
-in_events : (es : List EventAt) (n : NodeAt) → In (nodes_of es) n → (e : EventAt) × In es e × (e.node ≡ n)
+pub in_events : (es : List EventAt) (n : NodeAt) → In (nodes_of es) n → (e : EventAt) × In es e × (e.node ≡ n)
 in_events [] n i = absurd i
 in_events (e ∷ es) n (inl q) = (e, inl refl, q)
 in_events (e ∷ es) n (inr i) = let r = in_events es n i in (r.0, inr r.1, r.2)
 
-event_in : (es : List EventAt) (e : EventAt) → In es e → In (nodes_of es) e.node
+pub event_in : (es : List EventAt) (e : EventAt) → In es e → In (nodes_of es) e.node
 event_in [] e i = absurd i
 event_in (f ∷ es) e (inl q) = inl (ap (λ (z : EventAt). z.node) q)
 event_in (f ∷ es) e (inr i) = inr (event_in es e i)

@@ -20,7 +20,8 @@ use Rattle.jfr_worklist.specs.Members.{In}
 use Rattle.jfr_worklist.proofs.Members.{contains_in, in_contains, in_left, in_right, in_cases}
 use Rattle.jfr_chunk.proofs.PathLaws.{HasNodes}
 use Rattle.jfr_renumber.specs.declared.numbering.UsedKey.{UsedKey}
-use Rattle.jfr_renumber.specs.Missing.{IsRising, flagged, is_missing}
+use Rattle.jfr_chunk.specs.Missing.{is_missing}
+use Rattle.jfr_renumber.specs.Missing.{IsRising, flagged}
 use Rattle.jfr_renumber.specs.Numbering.{ArePairsOf, HasValue, SameValue, pair_at, pair_numbers}
 use Rattle.jfr_renumber.specs.Keys.{Together}
 use Rattle.jfr_renumber.specs.Numbers.{number_at, number_of}

@@ -6,11 +6,12 @@ ghost use Rattle.jfr_value.specs.Visits.{TakesAll};
 ghost use Rattle.jfr_pool.specs.Entries.{entry_node};
 ghost use Rattle.jfr_chunk.specs.Parts.{events_of};
 ghost use Rattle.jfr_chunk.specs.Reach.{all_targets, kept_by, nodes_of, reached_marks};
-ghost use Rattle.jfr_renumber.specs.Missing.{IsRising, Lists, flagged, is_missing};
+ghost use Rattle.jfr_chunk.specs.Missing.{is_missing, pair_of};
+ghost use Rattle.jfr_renumber.specs.Missing.{HoldsMissing, IsRising, Lists, are_kept, flagged};
 ghost use Rattle.jfr_renumber.specs.Renumber.{used_keys};
 
 use jfr_base::NoMemory;
-use jfr_chunk::{Chunk, Kept};
+use jfr_chunk::{Chunk, Kept, MissingRef};
 use jfr_layout::{Classes, Form, Shape};
 use jfr_pool::Pools;
 use jfr_reach::Marks;
@@ -75,14 +76,66 @@ pub(crate) fn missing_keys(
     ensures only { IfOk result (λ keys. (t : ℕ × ℕ) → Contains keys.items t → Contains (filter (is_missing chunk.now.entries) (used_keys chunk.now (kept_by chunk.now kept.now))) t) }
 {
     let mut list = Missing {
+        keys: keys_of_events(alloc, chunk, kept)?,
+        failed: false,
+    };
+    for entry in 0..chunk.pools().len() {
+        list_entry(&mut list, chunk, marks, entry);
+    }
+    if list.failed {
+        return Err(NoMemory);
+    }
+    Ok(list.keys)
+}
+
+/// The classes and keys without an entry in force to which the kept events refer. Those that the chunk has noted
+/// are used if the event of each is kept, which saves a visit of all events. Otherwise a pair may also be one of
+/// another event that is kept, so the kept events are visited.
+fn keys_of_events(
+    alloc: Global,
+    chunk: &Chunk<'_>,
+    kept: &Kept,
+) -> Result<Vec<(u64, u64)>, NoMemory>
+    requires { length kept.now ≡ length (events_of chunk.now) }
+    ensures { IfOk result (λ keys. HoldsMissing chunk.now.entries (all_targets chunk.now (nodes_of (kept_by chunk.now kept.now))) keys.items) }
+{
+    if let Some(refs) = chunk.missing_refs() {
+        if are_kept(kept, refs) {
+            return keys_of(alloc, refs);
+        }
+    }
+    visited_keys(alloc, chunk, kept)
+}
+
+/// Whether the event of each of these references is kept.
+fn are_kept(kept: &Kept, refs: &[MissingRef]) -> bool
+    ensures { result ≡ are_kept kept.now refs.now }
+{
+    refs.iter().all(|noted| kept.is_kept(noted.event))
+}
+
+/// The classes and keys of these references.
+fn keys_of(alloc: Global, refs: &[MissingRef]) -> Result<Vec<(u64, u64)>, NoMemory>
+    ensures { IfOk result (λ keys. keys.items ≡ map pair_of refs.now) }
+{
+    let keys = refs
+        .iter()
+        .map(|noted| (noted.class, noted.key))
+        .collect(alloc)?;
+    Ok(keys)
+}
+
+/// As `keys_of_events`, but always visits the kept events.
+fn visited_keys(alloc: Global, chunk: &Chunk<'_>, kept: &Kept) -> Result<Vec<(u64, u64)>, NoMemory>
+    requires { length kept.now ≡ length (events_of chunk.now) }
+    ensures { IfOk result (λ keys. HoldsMissing chunk.now.entries (all_targets chunk.now (nodes_of (kept_by chunk.now kept.now))) keys.items) }
+{
+    let mut list = Missing {
         keys: Vec::new(alloc),
         failed: false,
     };
     for number in 0..kept.len() {
         list_event(&mut list, chunk, kept, number);
-    }
-    for entry in 0..chunk.pools().len() {
-        list_entry(&mut list, chunk, marks, entry);
     }
     if list.failed {
         return Err(NoMemory);
