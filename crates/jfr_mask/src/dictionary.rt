@@ -60,6 +60,29 @@ impl Dictionary {
         }
     }
 
+    /// As `number_or_next`. If the hint is the text's number, the text isn't looked up.
+    pub(crate) fn number_by_hint(&self, text: &str, hint: u64) -> u64
+        ensures { result ≡ number_of self.now (chars text.now) }
+    {
+        if self.has_number(text, hint) {
+            return hint;
+        }
+        self.number_or_next(text)
+    }
+
+    /// Whether the dictionary has the text with this number.
+    fn has_number(&self, text: &str, number: u64) -> bool
+        ensures { IsTrue result → number ≡ number_of self.now (chars text.now) }
+    {
+        let Some(at) = number.checked_sub(1) else {
+            return false;
+        };
+        match self.get(at as usize) {
+            Some(found) => found == text,
+            None => false,
+        }
+    }
+
     /// The number of a text, which is added at the end if the dictionary doesn't have it. If memory runs out, nothing is
     /// added.
     pub fn add(&mut self, text: &str) -> Result<u64, NoMemory>

@@ -1,5 +1,5 @@
 //! Masked values.
-ghost use Rattle.std.specs.Prelude.{◌≡◌, ◌++◌, true, IfSome, OnOk};
+ghost use Rattle.std.specs.Prelude.{◌≡◌, ◌++◌, encode_utf8_all, true, IfSome, OnOk};
 ghost use Rattle.std.specs.Option.{option_map};
 ghost use Rattle.std.specs.Str.{chars};
 ghost use Rattle.jfr_meta.specs.Written.{text_bytes};
@@ -12,6 +12,7 @@ ghost use Rattle.jfr_mask.specs.Noted.{HasNoted, IsShownBy};
 ghost use Rattle.jfr_mask.specs.Written.{shown_bytes, utf8_string};
 
 use crate::noted::NotedTexts;
+use crate::shown::is_unmasked;
 use crate::texts::{MaskedStrings, leaf_text};
 use crate::widths::width_of;
 use crate::{Dictionary, Known, MaskedFields, Shown};
@@ -31,7 +32,7 @@ pub(crate) struct Masker<'m, 'd> {
     pub(crate) strings: MaskedStrings<'m>,
     pub(crate) known: &'m Known,
     pub(crate) dictionary: &'d Dictionary,
-    /// The numbers of the texts to which the chunk's entries lead.
+    /// The numbers of the chunk's texts. A hint is taken for each text that is looked up.
     pub(crate) noted: &'d NotedTexts,
 }
 
@@ -128,7 +129,18 @@ impl Masker<'_, '_> {
             out.push(EMPTY_BYTE)?;
             return Ok(());
         }
-        put_shown(out, Shown::of(self.known, self.dictionary, text))
+        put_shown(out, self.shown(text))
+    }
+
+    /// What is shown for a text. It is `Shown::of`, but takes a hint to the text's number.
+    fn shown<'t>(&self, text: &'t str) -> Shown<'t>
+        ensures { shown_bytes result ≡ encode_utf8_all (shown_by self.now (chars text.now)) }
+    {
+        if is_unmasked(self.known, text) {
+            return Shown::Text(text);
+        }
+        let hint = self.noted.next_hint();
+        Shown::pseudonym(text, self.dictionary.number_by_hint(text, hint))
     }
 }
 

@@ -1,13 +1,19 @@
-//! The numbers of the texts to which constants lead, so that each of these texts is made only once.
+//! The numbers of a chunk's texts, so that each text to which a constant leads is made only once, and each other text is
+//! looked up only once.
 ghost use Rattle.std.specs.Prelude.{◌≡◌, ◌+◌, ◌<◌, ◌^◌, ℕ, suc, get_or, length, replicate, slice_set, Some, IfOk, IfSome};
 
 use jfr_base::NoMemory;
 use std::alloc::Global;
+use std::cell::Cell;
 
-/// For each entry of a chunk, the number of the text to which it leads, or 0 if none is noted.
+/// For each entry of a chunk, the number of the text to which it leads, or 0 if none is noted. Also hints for the texts
+/// to which no entry leads: their numbers, in the order in which the texts were met.
 #[derive(Drop)]
 pub(crate) struct NotedTexts {
     numbers: Vec<u64>,
+    hints: Vec<u32>,
+    /// The index of the next hint that is taken.
+    next: Cell<usize>,
 }
 
 impl NotedTexts {
@@ -16,7 +22,11 @@ impl NotedTexts {
         ensures ok { IfOk result (λ noted. noted.numbers.items ≡ replicate entries 0) }
     {
         let numbers = vec![in alloc; 0; entries]?;
-        Ok(NotedTexts { numbers })
+        Ok(NotedTexts {
+            numbers,
+            hints: Vec::new(alloc),
+            next: Cell::new(0),
+        })
     }
 
     /// The index in the dictionary, from 0, of the text to which an entry leads, if it is noted.
@@ -35,5 +45,26 @@ impl NotedTexts {
         ensures { self.new.numbers.items ≡ slice_set self.old.numbers.items entry number }
     {
         self.numbers[entry] = number;
+    }
+
+    /// Adds a hint: the number of the next text, unless it is 0. A number of more than 32 bits is kept as 0.
+    pub(crate) fn add_hint(&mut self, number: u64) -> Result<(), NoMemory>
+        ensures { self.new.numbers.items ≡ self.old.numbers.items }
+    {
+        if number != 0 {
+            self.hints.push(u32::try_from(number).unwrap_or(0))?;
+        }
+        Ok(())
+    }
+
+    /// Takes the next hint, in the order in which they were added, or 0 if none is left. It may be the number of another
+    /// text.
+    pub(crate) fn next_hint(&self) -> u64 {
+        let at = self.next.get();
+        let Some(hint) = self.hints.get(at) else {
+            return 0;
+        };
+        self.next.set(at + 1);
+        u64::from(*hint)
     }
 }

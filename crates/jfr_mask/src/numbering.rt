@@ -200,8 +200,8 @@ impl Numbering<'_> {
         match self.strings.entry_of(leaf) {
             Some(entry) => self.add_constant(growing, leaf, entry),
             None => {
-                self.add_text(growing, leaf)?;
-                Ok(())
+                let number = self.add_text(growing, leaf)?;
+                growing.noted.add_hint(number)
             }
         }
     }
@@ -251,7 +251,7 @@ impl Numbering<'_> {
 #[derive(Drop)]
 pub(crate) struct GrowingDictionary {
     pub(crate) dictionary: Dictionary,
-    /// The numbers of the texts to which the chunk's entries lead.
+    /// The numbers of the chunk's texts.
     pub(crate) noted: NotedTexts,
     pub(crate) failed: bool,
 }
