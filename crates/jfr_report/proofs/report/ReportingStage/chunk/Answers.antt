@@ -5,7 +5,7 @@ use Rattle.jfr_plan.proofs.Failing.{chunk_refused, chunk_tallied}
 use Rattle.jfr_chunk.specs.Refusal.{read_parts}
 use Rattle.jfr_report.proofs.PlanLaws.{chunk_told}
 use Rattle.jfr_report.proofs.PartsLaws.{seen_more}
-use Rattle.jfr_report.specs.Reports.{all_parts, asks_texts}
+use Rattle.jfr_report.specs.Reports.{all_parts, asks_texts, texting}
 use Rattle.jfr_report.proofs.report.ReportingStage.chunk.Goals as goal
 
 pub returns-in-Err-clause-contents : goal.returns-in-Err-clause-contents
@@ -25,3 +25,6 @@ pub returns-clause-contents : goal.returns-clause-contents
 returns-clause-contents g c = λ before s number.
     chunk_told (g.P.Place.state c.args._place.now).steady c.args.number (length before + 1) (g.R.Report.texts c.args.self.now.report) c.args.chunk.now c.in-Ok.chunk c.chunk-written.result (g.P.Place.state c.args._place.now).contents (g.O.Sink.state c.args.out.now).written (g.O.Sink.state c.chunk-written.new.out).written
     c.in-Ok.ensures.exact number c.chunk-written.ensures.texts
+
+pub returns-clause-rule : goal.returns-clause-rule
+returns-clause-rule g c = let s = c.chunk-written.ensures.same in λ i. texting (s.0 i) (λ before. s.1 i (all_parts before))
