@@ -26,7 +26,7 @@ struct Row {
 }
 
 #[rattlefmt::skip]
-static ROWS: [Row; 10] = [
+static ROWS: [Row; 11] = [
     // Of two events one is kept.
     Row {
         records: &[5, 8, 0xAC, 2, 1, 3, 9, 3, 0x1D, 1, 0, 0, 0, 0, 1, 7, 4, 1, 2, 3, 1, 0x70, 2, 1, 3, 1, 0x71, 3, 4, 3, 1, 0x72, 4, 3, 3, 1, 0x73],
@@ -76,6 +76,16 @@ static ROWS: [Row; 10] = [
         renumbered: &[3, 9, 0, 5, 8, 0xAC, 2, 1, 3, 9, 2, 0x0C, 1, 0, 0, 0, 0, 1, 7, 1, 1, 2, 1],
         renumbered_last: 336,
         keys: &[(7, 4, 0), (7, 7, 1), (7, 9, 2)],
+    },
+    // A key without an entry, to which the event that isn't kept refers first.
+    Row {
+        records: &[5, 8, 0xAC, 2, 9, 3, 9, 9, 7, 1, 0, 0, 0, 0, 0],
+        last: 333,
+        events: Some("t.B"),
+        metadata: CLASSES_OF_B,
+        renumbered: &[3, 9, 0, 7, 1, 0, 0, 0, 0, 0],
+        renumbered_last: 295,
+        keys: &[(7, 9, 0)],
     },
     // Strings that are keys, in a ring.
     Row {
