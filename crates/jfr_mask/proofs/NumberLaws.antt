@@ -189,6 +189,14 @@ number_most (u ∷ us) t = by_eq (bytes_eq u t) (number_most us t)
     by_eq true h = omega arith
     by_eq false h = omega arith
 
+pub number_within : (d : List (List ℕ)) (t : List ℕ) → has_text d t ≡ true → number_of d t ≤ length d
+number_within [] t h = cc
+number_within (u ∷ us) t h = by_eq (bytes_eq u t) h (number_within us t)
+  where
+    by_eq : (b : Bool) → (b || has_text us t) ≡ true → (has_text us t ≡ true → index_of us t + 1 ≤ length us) → cond (not b) (1 + index_of us t) 0 + 1 ≤ length (u ∷ us)
+    by_eq true h rest = omega arith
+    by_eq false h rest = let r : index_of us t + 1 ≤ length us = rest h in omega arith
+
 -- Texts are added one after another.
 pub with_append : (d ts us : List (List ℕ)) → with_texts d (ts ++ us) ≡ with_texts (with_texts d ts) us
 with_append d [] us = refl

@@ -1,10 +1,14 @@
 //! The dictionary of masked texts.
-ghost use Rattle.std.specs.Prelude.{◌≡◌, ◌+◌, ◌-◌, ◌∷◌, ◌++◌, ◌↔◌, ◌<◌, [], length, IfOk, IfSome, IsTrue, OnErr, OnOk, None, Some, false, slice_get, if◌then◌else◌};
+ghost use Rattle.std.specs.Prelude.{◌≡◌, ◌+◌, ◌-◌, ◌∷◌, ◌++◌, ◌↔◌, ◌<◌, [], length, IfOk, IfSome, IsTrue, OnErr, OnOk, None, Some, false, true, slice_get, if◌then◌else◌};
+ghost use Rattle.std.specs.BTreeMap.{IsUnchanged};
+ghost use Rattle.std.specs.Option.{unwrap_or};
+ghost use Rattle.std.specs.Rc.{rc_str_bytes};
 ghost use Rattle.std.specs.Str.{chars};
 ghost use Rattle.jfr_base.specs.Texts.{text_in};
-ghost use Rattle.jfr_mask.specs.Held.{AreNumbersOf, texts_in};
+ghost use Rattle.jfr_mask.specs.Held.{AreNumbersOf, HasNumber, number_under, texts_in};
 ghost use Rattle.jfr_mask.specs.Pseudonyms.{has_text, number_of, with_text};
 
+use crate::slots::Slots;
 use jfr_base::NoMemory;
 use std::alloc::Global;
 use std::collections::BTreeMap;
@@ -18,6 +22,8 @@ pub struct Dictionary {
     alloc: Global,
     texts: Vec<RcStr>,
     numbers: BTreeMap<RcStr, u64>,
+    /// Hints to the numbers, so that few texts are looked up in the map.
+    slots: Slots,
 }
 
 impl Model for Dictionary {
@@ -40,6 +46,7 @@ impl Dictionary {
             alloc,
             texts: Vec::new(alloc),
             numbers: BTreeMap::new(alloc),
+            slots: Slots::new(alloc),
         }
     }
 
@@ -47,6 +54,10 @@ impl Dictionary {
     pub fn number(&self, text: &str) -> Option<u64>
         ensures { result ≡ (if has_text self.now (chars text.now) then Some (number_of self.now (chars text.now)) else None) }
     {
+        let hint = self.slots.hint(self.slots.slot_of(text));
+        if self.has_number(text, hint) {
+            return Some(hint);
+        }
         self.numbers.get(text).copied()
     }
 
@@ -72,7 +83,8 @@ impl Dictionary {
 
     /// Whether the dictionary has the text with this number.
     fn has_number(&self, text: &str, number: u64) -> bool
-        ensures { IsTrue result → number ≡ number_of self.now (chars text.now) }
+        ensures there { IsTrue result → has_text self.now (chars text.now) ≡ true }
+        ensures number { IsTrue result → number ≡ number_of self.now (chars text.now) }
     {
         let Some(at) = number.checked_sub(1) else {
             return false;
@@ -90,10 +102,41 @@ impl Dictionary {
         ensures number { IfOk result (λ number. number ≡ number_of self.new (chars text.now)) }
         ensures unchanged { OnErr result (self.new ≡ self.old) }
     {
-        if let Some(number) = self.number(text) {
-            return Ok(number);
+        let slot = self.slots.slot_of(text);
+        let hint = self.slots.hint(slot);
+        if self.has_number(text, hint) {
+            return Ok(hint);
+        }
+        let number = self.add_by_map(text, hint != 0)?;
+        self.slots.put(slot, number);
+        self.widen();
+        Ok(number)
+    }
+
+    /// As `add`, without a hint. If the text may be there, it is looked up before it is copied.
+    fn add_by_map(&mut self, text: &str, may_be_there: bool) -> Result<u64, NoMemory>
+        ensures ok { OnOk result (self.new ≡ with_text self.old (chars text.now)) }
+        ensures number { IfOk result (λ number. number ≡ number_of self.new (chars text.now)) }
+        ensures unchanged { OnErr result (self.new ≡ self.old) }
+    {
+        if may_be_there {
+            if let Some(number) = self.numbers.get(text) {
+                return Ok(*number);
+            }
         }
         append(self.alloc, &mut self.texts, &mut self.numbers, text)
+    }
+
+    /// Makes more slots if there are too few. If memory runs out, they stay too few.
+    fn widen(&mut self)
+        ensures { self.new ≡ self.old }
+    {
+        if self.slots.suffice(self.texts.len()) {
+            return;
+        }
+        if let Ok(slots) = Slots::of(self.alloc, &self.texts) {
+            self.slots = slots;
+        }
     }
 
     /// The number of texts, which is also the greatest number of a text.
@@ -130,8 +173,8 @@ impl Dictionary {
     }
 }
 
-/// Adds a text that isn't there, with the next number, which it returns.
-#[tactic(auto, using(crate::proofs::NumberLaws::number_last))]
+/// Adds a text, unless it is there, and returns its number. The map is searched only once. If memory runs out, nothing
+/// is added.
 fn append(
     alloc: Global,
     texts: &mut Vec<RcStr>,
@@ -139,19 +182,34 @@ fn append(
     text: &str,
 ) -> Result<u64, NoMemory>
     requires numbers { AreNumbersOf (texts_in texts.old.items) numbers.old }
-    requires absent { has_text (texts_in texts.old.items) (chars text.now) ≡ false }
     ensures numbers { AreNumbersOf (texts_in texts.new.items) numbers.new }
-    ensures ok { OnOk result (texts_in texts.new.items ≡ texts_in texts.old.items ++ chars text.now ∷ []) }
+    ensures ok { OnOk result (texts_in texts.new.items ≡ with_text (texts_in texts.old.items) (chars text.now)) }
     ensures number { IfOk result (λ number. number ≡ number_of (texts_in texts.new.items) (chars text.now)) }
     ensures unchanged { OnErr result (texts_in texts.new.items ≡ texts_in texts.old.items) }
 {
-    let number = texts.len() as u64 + 1;
+    let next = texts.len() as u64 + 1;
     let key = RcStr::from_str(alloc, text)?;
-    let shared = key.clone()?;
-    texts.push(shared)?;
-    if let Err(_) = numbers.insert(key, number) {
-        let _ = texts.pop();
-        return Err(NoMemory);
+    texts.push(key.clone()?)?;
+    let number = match number_of_key(numbers, key, next) {
+        Ok(number) => number,
+        Err(NoMemory) => {
+            let _ = texts.pop();
+            return Err(NoMemory);
+        }
+    };
+    if number == next {
+        return Ok(number);
     }
+    let _ = texts.pop();
     Ok(number)
+}
+
+/// The number of a key in the map. If it has none, it gets the next one.
+fn number_of_key(numbers: &mut BTreeMap<RcStr, u64>, key: RcStr, next: u64) -> Result<u64, NoMemory>
+    ensures number { IfOk result (λ number. number ≡ unwrap_or (number_under numbers.old (rc_str_bytes key)) next) }
+    ensures has { IfOk result (HasNumber numbers.old numbers.new (rc_str_bytes key)) }
+    ensures unchanged { OnErr result (IsUnchanged numbers.old numbers.new) }
+{
+    let number = numbers.entry(key)?.or_insert(next);
+    Ok(*number)
 }

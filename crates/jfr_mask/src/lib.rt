@@ -50,6 +50,7 @@ mod recording;
 mod recording_laws;
 mod references;
 mod shown;
+mod slots;
 mod stream;
 mod table;
 mod texts;
