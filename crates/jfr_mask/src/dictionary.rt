@@ -54,7 +54,7 @@ impl Dictionary {
     pub fn number(&self, text: &str) -> Option<u64>
         ensures { result ≡ (if has_text self.now (chars text.now) then Some (number_of self.now (chars text.now)) else None) }
     {
-        let hint = self.slots.hint(self.slots.slot_of(text));
+        let hint = self.slots.find(text).hint;
         if self.has_number(text, hint) {
             return Some(hint);
         }
@@ -102,13 +102,12 @@ impl Dictionary {
         ensures number { IfOk result (λ number. number ≡ number_of self.new (chars text.now)) }
         ensures unchanged { OnErr result (self.new ≡ self.old) }
     {
-        let slot = self.slots.slot_of(text);
-        let hint = self.slots.hint(slot);
-        if self.has_number(text, hint) {
-            return Ok(hint);
+        let spot = self.slots.find(text);
+        if self.has_number(text, spot.hint) {
+            return Ok(spot.hint);
         }
-        let number = self.add_by_map(text, hint != 0)?;
-        self.slots.put(slot, number);
+        let number = self.add_by_map(text, spot.hint != 0)?;
+        self.slots.put(spot, number);
         self.widen();
         Ok(number)
     }

@@ -5,24 +5,59 @@ use std::alloc::Global;
 use std::hash::{FoldHasher, Hash, Hasher};
 use std::rc::RcStr;
 
-/// There are at least this many slots for each text, so that few texts have the same slot.
-const SLOTS_PER_TEXT: usize = 4;
+/// There are at least this many slots for each text.
+const SLOTS_PER_TEXT: usize = 2;
 
 /// The fewest slots, if there are any.
 const FEWEST_SLOTS: usize = 1 << 10;
 
-/// Slots, each with the number of a text, or 0. A text's slot is chosen by its hash, and has the number of the last text
-/// that was put there. That may be another text, so the number is only a hint, which is checked by its user.
+/// A text is in one of this many slots, from the one that its hash chooses.
+const PROBES: usize = 8;
+
+/// A slot of the hash table.
+#[derive(Clone, Copy)]
+struct Slot {
+    /// A part of the text's hash.
+    tag: u32,
+    /// The number of the text, or 0 if the slot is empty.
+    number: u32,
+}
+
+/// A slot without a text.
+const EMPTY: Slot = Slot { tag: 0, number: 0 };
+
+/// Where a text may be, or may be put.
+#[derive(Clone, Copy)]
+pub(crate) struct Spot {
+    slot: usize,
+    tag: u32,
+    /// The number in the slot, or 0.
+    pub(crate) hint: u64,
+}
+
+impl Spot {
+    /// The spot of a text with this tag, in a slot that holds this.
+    fn new(slot: usize, tag: u32, held: Slot) -> Spot {
+        Spot {
+            slot,
+            tag,
+            hint: u64::from(held.number),
+        }
+    }
+}
+
+/// A hash table of the numbers of texts. It doesn't have the texts, and may lack some or mistake one for another, so a
+/// number is only a hint, which is checked by its user.
 #[derive(Drop)]
 pub(crate) struct Slots {
-    numbers: Vec<u32>,
+    slots: Vec<Slot>,
 }
 
 impl Slots {
     /// No slots. It allocates nothing.
     pub(crate) fn new(alloc: Global) -> Slots {
         Slots {
-            numbers: Vec::new(alloc),
+            slots: Vec::new(alloc),
         }
     }
 
@@ -32,40 +67,57 @@ impl Slots {
             .len()
             .saturating_mul(2 * SLOTS_PER_TEXT)
             .max(FEWEST_SLOTS);
-        let mut slots = Slots {
-            numbers: vec![in alloc; 0; size]?,
+        let mut table = Slots {
+            slots: vec![in alloc; EMPTY; size]?,
         };
         for (at, text) in texts.iter().enumerate() {
-            slots.put(slots.slot_of(text.as_str()), at as u64 + 1);
+            table.put(table.find(text.as_str()), at as u64 + 1);
         }
-        Ok(slots)
+        Ok(table)
     }
 
     /// Whether there are enough slots for this many texts.
     pub(crate) fn suffice(&self, texts: usize) -> bool {
-        texts <= self.numbers.len() / SLOTS_PER_TEXT
+        texts <= self.slots.len() / SLOTS_PER_TEXT
     }
 
-    /// The index of a text's slot.
-    pub(crate) fn slot_of(&self, text: &str) -> usize {
+    /// The first spot for a text that is empty or has the tag of its hash, or else the first one.
+    pub(crate) fn find(&self, text: &str) -> Spot {
         let mut hasher = FoldHasher::default();
         text.hash(&mut hasher);
-        let slots = self.numbers.len() as u64;
-        hasher.finish().checked_rem(slots).unwrap_or(0) as usize
+        let hash = hasher.finish();
+        let tag = (hash >> 32) as u32;
+        // All slots in which the text may be are in the table.
+        let firsts = self.slots.len().saturating_sub(PROBES) as u64;
+        let first = hash.checked_rem(firsts).unwrap_or(0) as usize;
+        for step in 0..PROBES {
+            let slot = first.wrapping_add(step);
+            let held = self.held(slot);
+            if held.number == 0 || held.tag == tag {
+                return Spot::new(slot, tag, held);
+            }
+        }
+        Spot::new(first, tag, self.held(first))
     }
 
-    /// The number in a slot, or 0 if there is none.
-    pub(crate) fn hint(&self, slot: usize) -> u64 {
-        match self.numbers.get(slot) {
-            Some(number) => u64::from(*number),
-            None => 0,
+    /// What is in a slot.
+    fn held(&self, slot: usize) -> Slot {
+        match self.slots.get(slot) {
+            Some(held) => *held,
+            None => EMPTY,
         }
     }
 
-    /// Puts a number into a slot. One of more than 32 bits is put as 0.
-    pub(crate) fn put(&mut self, slot: usize, number: u64) {
-        if let Some(held) = self.numbers.get_mut(slot) {
-            *held = u32::try_from(number).unwrap_or(0);
+    /// Puts the number of a text where it was looked for. One of more than 32 bits isn't put.
+    pub(crate) fn put(&mut self, spot: Spot, number: u64) {
+        let Ok(number) = u32::try_from(number) else {
+            return;
+        };
+        if let Some(slot) = self.slots.get_mut(spot.slot) {
+            *slot = Slot {
+                tag: spot.tag,
+                number,
+            };
         }
     }
 }
