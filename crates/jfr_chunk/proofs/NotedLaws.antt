@@ -20,7 +20,7 @@ use Rattle.jfr_chunk.specs.declared.missing.MissingRef.{MissingRef}
 use Rattle.jfr_chunk.specs.declared.missing.MissingRefs.{MissingRefs}
 use Rattle.jfr_chunk.specs.declared.refs.ConstantRefs.{ConstantRefs}
 use Rattle.jfr_chunk.specs.Refs.{TakesRefs}
-use Rattle.jfr_chunk.specs.Missing.{AreNoted, AreNotedIn, IsNoted, Notes, is_missing, missing_by_event, node_missing, pair_of}
+use Rattle.jfr_chunk.specs.Missing.{AreMissing, AreNotedIn, IsNoted, Notes, is_missing, missing_by_event, node_missing, pair_of}
 use Rattle.jfr_chunk.specs.Parts.{EventAt, Parts, events_of}
 use Rattle.jfr_chunk.specs.Indexed.{indexed_event, indexed_missing}
 use Rattle.jfr_chunk.proofs.EndLaws.{EndIs, same_event, this_event}
@@ -159,8 +159,8 @@ missing_events p early fs e = each fs (events_of p) e
 
 -- If all are noted, the list is that of the events.
 pub all_noted : (p q : Parts) (early : BTreeMap ℕ ℕ) (fs : List EventIndexEntry) (list : MissingRefs) (o : Option (Bor (List MissingRef))) → p ≡ q → map (indexed_event p.records early) fs ≡ map Some (events_of p) → AreNotedIn (map (indexed_missing p.entries p.classes p.bytes p.records early) fs) list
-    → IfSome o (λ refs. (refs.now ≡ list.refs.items) × (list.lacks ≡ false)) → IfSome o (λ refs. AreNoted (missing_by_event q) refs.now)
+    → IfSome o (λ refs. (refs.now ≡ list.refs.items) × (list.lacks ≡ false)) → IfSome o (λ refs. AreMissing (missing_by_event q) refs.now)
 all_noted p q early fs list None e m a h = tt
 all_noted p q early fs list (Some refs) e m a h =
-    let n : AreNoted (missing_by_event p) list.refs.items = subst (λ z. AreNoted z list.refs.items) (missing_events p early fs m) (a h.1) in
-    subst (λ z. AreNoted (missing_by_event q) z) (sym h.0) (subst (λ z. AreNoted (missing_by_event z) list.refs.items) e n)
+    let n : AreMissing (missing_by_event p) list.refs.items = subst (λ z. AreMissing z list.refs.items) (missing_events p early fs m) (a h.1) in
+    subst (λ z. AreMissing (missing_by_event q) z) (sym h.0) (subst (λ z. AreMissing (missing_by_event z) list.refs.items) e n)

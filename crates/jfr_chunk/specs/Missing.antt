@@ -30,13 +30,13 @@ IsNoted refs t = (m : MissingRef) × Contains refs m × (pair_of m ≡ t)
 
 -- Exactly the classes and keys in these lists, one list for each event, are noted. Each is in the list of the
 -- event whose number is noted with it.
-pub record AreNoted (events : List (List (ℕ × ℕ))) (refs : List MissingRef) : Type 0 where
+pub record AreMissing (events : List (List (ℕ × ℕ))) (refs : List MissingRef) : Type 0 where
   pub all : (ts : List (ℕ × ℕ)) → Contains events ts → (t : ℕ × ℕ) → Contains ts t → IsNoted refs t
   pub only : (m : MissingRef) → Contains refs m → (ts : List (ℕ × ℕ)) × (slice_get events m.event ≡ Some ts) × Contains ts (pair_of m)
 
 -- Unless the list lacks some, they are noted in it.
 abbrev pub AreNotedIn : List (List (ℕ × ℕ)) → MissingRefs → Type 0
-AreNotedIn events list = list.lacks ≡ false → AreNoted events list.refs.items
+AreNotedIn events list = list.lacks ≡ false → AreMissing events list.refs.items
 
 -- Unless it lacks some, the list has what it had, and these classes and keys of an event.
 pub record Notes (ts : List (ℕ × ℕ)) (event : ℕ) (old new : MissingRefs) : Type 0 where

@@ -18,7 +18,7 @@ ghost use Rattle.jfr_chunk.specs.Reach.{node_entries, roots};
 ghost use Rattle.jfr_chunk.specs.Refusal.{Refused, read_parts};
 ghost use Rattle.jfr_chunk.specs.Buffers.{IsEmpty};
 ghost use Rattle.jfr_chunk.specs.Indexed.{IsOfChunk, event_at};
-ghost use Rattle.jfr_chunk.specs.Missing.{AreNoted, missing_by_event};
+ghost use Rattle.jfr_chunk.specs.Missing.{AreMissing, missing_by_event};
 
 use crate::event_index::EventIndex;
 use crate::read::{header_in, read_events, record_named};
@@ -339,7 +339,7 @@ impl<'a> Chunk<'a> {
     /// The classes and keys to which the events refer and that have no entry in force; `None` if there are too
     /// many to note, or memory ran out for them.
     pub fn missing_refs(&self) -> Option<&[MissingRef]>
-        ensures { IfSome result (λ refs. AreNoted (missing_by_event self.now) refs.now) }
+        ensures { IfSome result (λ refs. AreMissing (missing_by_event self.now) refs.now) }
     {
         self.events.missing.all()
     }

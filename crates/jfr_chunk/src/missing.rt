@@ -11,7 +11,9 @@ const MOST: usize = 32;
 /// A class and a key to which an event refers and that have no entry in force.
 #[derive(Clone, Copy, Debug)]
 pub struct MissingRef {
+    /// The class that the reference is to.
     pub class: u64,
+    /// Its key.
     pub key: u64,
     /// The number of the first event that refers to them, from 0.
     pub event: usize,
@@ -19,6 +21,7 @@ pub struct MissingRef {
 
 impl MissingRef {
     /// Whether these are its class and key.
+    #[inline]
     fn is_to(&self, class: u64, key: u64) -> bool
         ensures { IsTrue result → pair_of self.now ≡ (class, key) }
     {
@@ -55,10 +58,20 @@ impl MissingRefs {
         self.lacks = false;
     }
 
-    /// Notes a class and a key, to which this event refers, unless they are noted already. Most references have
-    /// an entry, so this isn't inlined.
-    #[inline(never)]
+    /// Notes a class and a key, to which this event refers, unless they are noted already. Most are those that were
+    /// noted first, so only these are looked for without a call.
+    #[inline(always)]
     pub fn add(&mut self, class: u64, key: u64, event: usize)
+        ensures { Notes ((class, key) ∷ []) event self.old self.new }
+    {
+        if !self.has_first(class, key) {
+            self.add_other(class, key, event);
+        }
+    }
+
+    /// As `add`, whichever are noted first.
+    #[inline(never)]
+    fn add_other(&mut self, class: u64, key: u64, event: usize)
         ensures { Notes ((class, key) ∷ []) event self.old self.new }
     {
         if self.lacks || self.has(class, key) {
@@ -70,6 +83,17 @@ impl MissingRefs {
         }
         if self.refs.push(MissingRef { class, key, event }).is_err() {
             self.lacks = true;
+        }
+    }
+
+    /// Whether a class and a key are those that were noted first.
+    #[inline(always)]
+    fn has_first(&self, class: u64, key: u64) -> bool
+        ensures { IsTrue result → IsNoted self.now.refs.items (class, key) }
+    {
+        match self.refs.first() {
+            Some(noted) => noted.is_to(class, key),
+            None => false,
         }
     }
 

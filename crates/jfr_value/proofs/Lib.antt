@@ -34,4 +34,5 @@ pub mod WalkLaws
 mod ChildrenLaws
 mod NextLeaf
 mod NumberLaws
+mod PreludeLaws
 mod ReferenceLaws

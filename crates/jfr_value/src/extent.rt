@@ -23,7 +23,7 @@ use crate::part::item_of;
 use crate::walk::{LEVELS, Walk};
 use jfr_base::{Flaw, Reason, read_within};
 use jfr_layout::{ClassLayout, Classes, FieldLayout, Form, Kind, Shape};
-use jfr_text::read_string;
+use jfr_text::{is_bare, is_key, read_string, short_units_end};
 
 /// The offset after the value of a shape that starts at the offset `at`. Its class must be known. If no value
 /// ends by `end`, the flaw is that of the first leaf from the left that doesn't: `Short`, or `StringKind` for
@@ -221,6 +221,27 @@ fn string_end(bytes: &[u8], at: usize, end: usize) -> Result<usize, Flaw>
     ensures range { IfOk result (λ to. (at ≤ to) × (to ≤ end)) }
 {
     Ok(read_string(bytes, at, end)?.end)
+}
+
+/// As `string_end`. Most strings are null, empty, a key, or UTF-16 in integers of one byte.
+#[inline(always)]
+pub(crate) fn usual_string_end(bytes: &[u8], at: usize, end: usize) -> Result<usize, Flaw>
+    requires order { at ≤ end }
+    requires within { end ≤ length bytes.now }
+    ensures exact { result ≡ end_or_flaw (run (base_format kinds.Text) bytes.now end at) }
+    ensures range { IfOk result (λ to. (at ≤ to) × (to ≤ end)) }
+{
+    if is_bare(bytes, at, end) {
+        return Ok(at + 1);
+    }
+    if is_key(bytes, at, end) {
+        return integer_end(bytes, at + 1, end);
+    }
+    if let Some(to) = short_units_end(bytes, at, end) {
+        return Ok(to);
+    }
+    let to = string_end(bytes, at, end)?;
+    Ok(to)
 }
 
 /// The offset after a value of a base name.

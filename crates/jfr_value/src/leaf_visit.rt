@@ -1,21 +1,22 @@
 //! The visit of the leaves of a value that is known to be there. `visit_targets` is built on it.
-ghost use Rattle.std.specs.Prelude.{◌≡◌, ◌≢◌, ℕ, ◌+◌, ◌^◌, ◌<◌, ◌≤◌, ◌∷◌, [], length, slice_range, true, false};
+ghost use Rattle.std.specs.Prelude.{◌≡◌, ℕ, ◌+◌, ◌^◌, ◌<◌, ◌≤◌, ◌∷◌, [], Some, length, true};
 ghost use Rattle.std.specs.List.{AllByRecursion};
 ghost use Rattle.jfr_layout.specs.Classes.{IsFieldLayout, Sound};
-ghost use Rattle.jfr_layout.specs.Fused.{Passes};
-ghost use Rattle.jfr_layout.specs.declared.kind.Kind.TheVariants as kinds;
+ghost use Rattle.jfr_layout.specs.Fused.{IsEventPrelude, Passes};
 ghost use Rattle.jfr_value.specs.Leaves.{LeafAt, leaf_of, leaves};
 ghost use Rattle.jfr_value.specs.Nodes.{IsValue, node_of};
 ghost use Rattle.jfr_value.specs.Visits.{AreToVisit, IsNumber, TakesAll, Visits, field_shapes, shapes_of_layouts};
 ghost use Rattle.jfr_value.specs.Walks.{IsLayoutIfKnown, DepthBound, fields_from};
 
 use crate::cursor::items_to_walk;
-use crate::extent::{base_end, item_layout, layout_of};
+use crate::extent::{item_layout, layout_of};
 use crate::fused::{fused_layouts, numbers_end};
+use crate::integers::integers_end;
+use crate::single_visit::{ValueStart, leaf_to, visit_key, visit_number, visit_text};
 use crate::walk::{LEVELS, Walk};
 use crate::{Holder, Leaf, LeafKind, Node, Steps};
 use jfr_base::known_integer;
-use jfr_layout::{Classes, FieldLayout, Form, FusedFields, Kind};
+use jfr_layout::{Classes, FieldLayout, Form, FusedFields, FusedKind};
 use std::marker::Brand;
 use std::sync::ledger::{Blank, Ledger};
 
@@ -32,7 +33,7 @@ pub trait VisitLeaf<C> {
     // How taking a leaf changes the visitor.
     ghost takes: { C → LeafAt → Self → Self → Type 0 };
 
-    /// Numbers, and truth values, leave a visitor as it is, so they aren't passed to it.
+    /// The law that numbers, and truth values, leave a visitor as it is: they aren't passed to it.
     fn passes_numbers()
         ensures same { (with : C) (leaf : LeafAt) (visitor : Self) → IsNumber leaf → admits with leaf → ready visitor with leaf.at → takes with leaf visitor visitor }
         ensures ready { (with : C) (visitor : Self) (at to : ℕ) → ready visitor with at → at ≤ to → ready visitor with to };
@@ -45,15 +46,6 @@ pub trait VisitLeaf<C> {
         ensures takes { takes with.now (leaf_of leaf.entry) self.old self.new };
 }
 
-/// Where a value starts, the most composite classes that can be nested from there on, and the innermost field around
-/// it.
-#[derive(Clone, Copy)]
-struct ValueStart {
-    at: usize,
-    levels: u32,
-    holder: Option<Holder>,
-}
-
 /// Fields of a class, one after another: their layouts, the number of the first of them, where its value starts, and
 /// the most composite classes that can be nested from there on.
 #[derive(Clone, Copy)]
@@ -63,6 +55,25 @@ struct NextFields<'k> {
     number: usize,
     at: usize,
     levels: u32,
+}
+
+impl NextFields<'_> {
+    /// Where the value of one of these fields starts, which is at the offset `at`. `field` counts from the first of them.
+    #[inline(always)]
+    fn value(self, field: usize, at: usize) -> ValueStart
+        requires { self.number + field < 2 ^ 64 }
+        ensures { result ≡ record { at = at; levels = self.entry.levels; holder = Some (record { class = self.entry.class; field = self.entry.number + field }) } }
+    {
+        let holder = Holder {
+            class: self.class,
+            field: self.number + field,
+        };
+        ValueStart {
+            at,
+            levels: self.levels,
+            holder: Some(holder),
+        }
+    }
 }
 
 /// Passes the leaves of a node to the visitor, from left to right. It allocates nothing. The node must be one of a
@@ -152,9 +163,8 @@ fn visit_value<C, V: VisitLeaf<C>, L: Ledger>(
     ensures ready { V.ready visitor.new walk.now.with.now result }
 {
     match layout.form {
-        Form::Integer | Form::Raw(_) | Form::Text => visit_base(
-            walk, layout, start, visitor, steps,
-        ),
+        Form::Integer | Form::Raw(_) => visit_number(walk, layout, start, visitor, steps),
+        Form::Text => visit_text(walk, layout, start, visitor, steps),
         Form::Key => visit_key(walk, layout, start, visitor, steps),
         Form::Fields => {
             let inner = ValueStart {
@@ -222,19 +232,62 @@ fn visit_fused<C, V: VisitLeaf<C>, L: Ledger>(
     ensures visited { Visits (V.takes walk.now.with.now) walk.now.classes.now walk.now.bytes.now walk.now.end (fields_from next.entry.class next.entry.number (shapes_of_layouts next.entry.layouts.now)) (shapes_of_layouts next.entry.layouts.now) next.entry.at visitor.old steps.old [] [] result visitor.new steps.new }
     ensures ready { V.ready visitor.new walk.now.with.now result }
 {
-    match numbers_end(walk.bytes, fused, next.at, walk.end) {
-        Some(to) => {
-            V::passes_numbers();
-            steps.take(next.layouts.len());
-            to
+    match fused.kind {
+        FusedKind::EventPrelude { .. } => visit_prelude(walk, next, visitor, steps),
+        FusedKind::Key(_) => {
+            let start = next.value(0, next.at);
+            visit_key(walk, &next.layouts[0], start, visitor, steps)
         }
-        None => visit_each(walk, next, visitor, steps),
+        FusedKind::Text(_) => {
+            let start = next.value(0, next.at);
+            visit_text(walk, &next.layouts[0], start, visitor, steps)
+        }
+        _ => match numbers_end(walk.bytes, fused, next.at, walk.end) {
+            Some(to) => {
+                V::passes_numbers();
+                steps.take(next.layouts.len());
+                to
+            }
+            None => visit_each(walk, next, visitor, steps),
+        },
     }
 }
 
-/// Visits fields one by one, and returns where they end.
+/// Visits the event prelude, and returns where it ends: two integers, which are passed at once, and two references.
 #[cycle(visits)]
 #[inline(always)]
+fn visit_prelude<C, V: VisitLeaf<C>, L: Ledger>(
+    walk: &Walk<'_, '_, C>,
+    next: NextFields<'_>,
+    visitor: &mut V,
+    steps: &mut Steps<L>,
+) -> usize
+    requires sound { Sound walk.now.classes.now }
+    requires layouts { AllByRecursion (IsFieldLayout walk.now.classes.now) next.layouts.now }
+    requires few { next.number + length next.layouts.now < 2 ^ 64 }
+    requires prelude { (thread : ℕ) × (trace : ℕ) × IsEventPrelude thread trace next.layouts.now }
+    requires depth { AllByRecursion (DepthBound walk.now.classes.now next.levels) (shapes_of_layouts next.layouts.now) }
+    requires values { AreToVisit (V.admits walk.now.with.now) walk.now.classes.now walk.now.bytes.now walk.now.end (fields_from next.class next.number (shapes_of_layouts next.layouts.now)) (shapes_of_layouts next.layouts.now) next.at }
+    requires ready { V.ready visitor.old walk.now.with.now next.at }
+    ensures visited { Visits (V.takes walk.now.with.now) walk.now.classes.now walk.now.bytes.now walk.now.end (fields_from next.entry.class next.entry.number (shapes_of_layouts next.entry.layouts.now)) (shapes_of_layouts next.entry.layouts.now) next.entry.at visitor.old steps.old [] [] result visitor.new steps.new }
+    ensures ready { V.ready visitor.new walk.now.with.now result }
+{
+    match integers_end(walk.bytes, next.at, walk.end, 2) {
+        Ok(times) => {
+            V::passes_numbers();
+            steps.take(2);
+            let thread = next.value(2, times);
+            let threads = visit_key(walk, &next.layouts[2], thread, visitor, steps);
+            let trace = next.value(3, threads);
+            visit_key(walk, &next.layouts[3], trace, visitor, steps)
+        }
+        Err(_) => visit_each(walk, next, visitor, steps),
+    }
+}
+
+/// Visits fields one by one, and returns where they end. Most fields are passed by `visit_fused`, so this isn't inlined.
+#[cycle(visits)]
+#[inline(never)]
 fn visit_each<C, V: VisitLeaf<C>, L: Ledger>(
     walk: &Walk<'_, '_, C>,
     next: NextFields<'_>,
@@ -250,19 +303,10 @@ fn visit_each<C, V: VisitLeaf<C>, L: Ledger>(
     ensures visited { Visits (V.takes walk.now.with.now) walk.now.classes.now walk.now.bytes.now walk.now.end (fields_from next.entry.class next.entry.number (shapes_of_layouts next.entry.layouts.now)) (shapes_of_layouts next.entry.layouts.now) next.entry.at visitor.old steps.old [] [] result visitor.new steps.new }
     ensures ready { V.ready visitor.new walk.now.with.now result }
 {
-    let class = next.class;
     let mut to = next.at;
     for (field, layout) in next.layouts.iter().enumerate() {
-        let holder = Holder {
-            class,
-            field: next.number + field,
-        };
-        let value = ValueStart {
-            at: to,
-            levels: next.levels,
-            holder: Some(holder),
-        };
-        to = visit_value(walk, layout, value, visitor, steps);
+        let start = next.value(field, to);
+        to = visit_value(walk, layout, start, visitor, steps);
     }
     to
 }
@@ -302,80 +346,4 @@ fn visit_array<C, V: VisitLeaf<C>, L: Ledger>(
         to = visit_value(walk, &item, next, visitor, steps);
     }
     to
-}
-
-/// Visits a reference, whose key is a leaf, and returns where it ends.
-#[inline(always)]
-fn visit_key<C, V: VisitLeaf<C>, L: Ledger>(
-    walk: &Walk<'_, '_, C>,
-    layout: &FieldLayout,
-    start: ValueStart,
-    visitor: &mut V,
-    steps: &mut Steps<L>,
-) -> usize
-    requires array { layout.now.shape.array ≡ false }
-    requires constant { layout.now.shape.constant ≡ true }
-    requires values { AreToVisit (V.admits walk.now.with.now) walk.now.classes.now walk.now.bytes.now walk.now.end (start.holder ∷ []) (layout.now.shape ∷ []) start.at }
-    requires ready { V.ready visitor.old walk.now.with.now start.at }
-    ensures visited { Visits (V.takes walk.now.with.now) walk.now.classes.now walk.now.bytes.now walk.now.end (start.holder ∷ []) (layout.now.shape ∷ []) start.at visitor.old steps.old [] [] result visitor.new steps.new }
-    ensures ready { V.ready visitor.new walk.now.with.now result }
-{
-    let key = known_integer(walk.bytes, start.at, walk.end);
-    let kind = LeafKind::Key(key.value);
-    let leaf = leaf_to(walk.bytes, start, key.end, kind, layout.shape.class);
-    visitor.visit_leaf(walk.with, leaf);
-    steps.tick();
-    key.end
-}
-
-/// Visits a value of a base name, which is a leaf, and returns where it ends.
-#[inline(always)]
-fn visit_base<C, V: VisitLeaf<C>, L: Ledger>(
-    walk: &Walk<'_, '_, C>,
-    layout: &FieldLayout,
-    start: ValueStart,
-    visitor: &mut V,
-    steps: &mut Steps<L>,
-) -> usize
-    requires array { layout.now.shape.array ≡ false }
-    requires constant { layout.now.shape.constant ≡ false }
-    requires layout { IsLayoutIfKnown walk.now.classes.now layout.now }
-    requires base { layout.now.kind ≢ kinds.Composite }
-    requires values { AreToVisit (V.admits walk.now.with.now) walk.now.classes.now walk.now.bytes.now walk.now.end (start.holder ∷ []) (layout.now.shape ∷ []) start.at }
-    requires ready { V.ready visitor.old walk.now.with.now start.at }
-    ensures visited { Visits (V.takes walk.now.with.now) walk.now.classes.now walk.now.bytes.now walk.now.end (start.holder ∷ []) (layout.now.shape ∷ []) start.at visitor.old steps.old [] [] result visitor.new steps.new }
-    ensures ready { V.ready visitor.new walk.now.with.now result }
-{
-    let Ok(to) = base_end(layout.kind, walk.bytes, start.at, walk.end) else {
-        unreachable!()
-    };
-    steps.tick();
-    match layout.kind {
-        Kind::Text => {
-            let kind = LeafKind::Base(layout.kind);
-            let leaf = leaf_to(walk.bytes, start, to, kind, layout.shape.class);
-            visitor.visit_leaf(walk.with, leaf);
-            to
-        }
-        _ => {
-            V::passes_numbers();
-            to
-        }
-    }
-}
-
-/// The value that starts here and ends at an offset, as a leaf of this kind and class.
-#[inline(always)]
-fn leaf_to(bytes: &[u8], start: ValueStart, to: usize, kind: LeafKind, class: u64) -> Leaf<'_>
-    requires order { start.at ≤ to }
-    requires within { to ≤ length bytes.now }
-    ensures { leaf_of result ≡ record { kind = kind; class = class; holder = start.holder; at = start.at; spelled = slice_range bytes.now start.at to } }
-{
-    Leaf {
-        kind,
-        class,
-        holder: start.holder,
-        at: start.at,
-        spelled: &bytes[start.at..to],
-    }
 }

@@ -30,6 +30,7 @@ mod leaves;
 mod node;
 mod part;
 mod reference;
+mod single_visit;
 mod stack;
 mod steps;
 mod visit;

@@ -3,12 +3,13 @@ use Rattle.std.proofs.Common.{◌≡◌, ◌∷◌, [], ◌+◌, ◌-◌, ◌^�
 use Rattle.std.specs.List.{AllByRecursion}
 use Rattle.std.specs.Prelude.{IsSome, Ok, Option, Some, replicate, slice_range}
 use Rattle.std.proofs.lemmas.List.{drop_all, length-append}
-use Rattle.jfr_base.specs.Formats.{end_or_flaw, int_at, run}
+use Rattle.jfr_base.specs.Formats.{end_or_flaw, int_at, integer, run, times}
 use Rattle.jfr_layout.specs.Classes.{IsFieldLayout, item_of}
 use Rattle.jfr_layout.specs.declared.form.Form.TheVariants as forms
 use Rattle.jfr_layout.specs.declared.field_layout.FieldLayout.{FieldLayout}
 use Rattle.jfr_value.specs.declared.leaf.Holder.{Holder}
 use Rattle.jfr_value.specs.declared.leaf.LeafKind.TheVariants as leaf_kinds
+use Rattle.jfr_value.specs.declared.single_visit.ValueStart.{ValueStart}
 use Rattle.jfr_value.specs.Leaves.{LeafAt, leaf_of}
 use Rattle.jfr_value.specs.Visits.{AreNumbers, AreToVisit, Visits, field_shapes, shapes_of_layouts}
 use Rattle.jfr_value.specs.Walks.{IsLayoutIfKnown, DepthBound, fields_from}
@@ -20,6 +21,7 @@ use Rattle.jfr_value.proofs.VisitLaws.{depth_within, inline_node, item_next, ite
 use Rattle.jfr_value.proofs.WalkLaws.{array_found, array_taken, array_there, some_there}
 use Rattle.jfr_value.specs.Reading.{values_format}
 use Rattle.jfr_value.proofs.NumberLaws.{numbers_visited}
+use Rattle.jfr_value.proofs.PreludeLaws.{prelude_visited, thread_to_visit, trace_to_visit}
 use Rattle.jfr_value.proofs.FusedLaws.{left_by, left_none, next_fused, row_fused, row_shapes}
 use Rattle.jfr_value.proofs.leaf_visit.+visits.Goals as goal
 
@@ -149,9 +151,6 @@ visit_each-loop-field-init g t c = record {
       (visits_none (g.V.VisitLeaf.takes walk.with.now) walk.classes.now walk.bytes.now walk.end (fields_from c.args.next.class c.args.next.number shapes) shapes c.args.next.at c.args.steps.now c.args.visitor.now);
 }
 
-pub visit_each-overflow_add-holder : goal.visit_each-overflow_add-holder
-visit_each-overflow_add-holder g t c = omega (arith, c.requires.few, c.loop-field-test.true)
-
 pub visit_each-visit_value-to-requires : goal.visit_each-visit_value-to-requires
 visit_each-visit_value-to-requires g t c =
     let walk = c.args.walk.now in
@@ -180,7 +179,8 @@ visit_each-loop-field-preserved g t c = record {
       let layout = get_or next.layouts.now number no_layout in
       let n = layout_next next.layouts.now next.class next.number number c.loop-field-test.true in
       visits_next (g.V.VisitLeaf.takes walk.with.now) walk.classes.now walk.bytes.now walk.end (fields_from next.class next.number shapes) (fields_from next.class (next.number + number) (shapes_of_layouts (drop number next.layouts.now))) (fields_from next.class (next.number + (number + 1)) (shapes_of_layouts (drop (number + 1) next.layouts.now))) shapes (shapes_of_layouts (drop number next.layouts.now)) (shapes_of_layouts (drop (number + 1) next.layouts.now)) (Some (record { class = next.class; field = next.number + number })) layout.shape next.at c.loop-field.to c.visit_value-to.result c.args.steps.now c.loop-field.steps c.visit_value-to.new.steps c.args.visitor.now c.loop-field.visitor c.visit_value-to.new.visitor
-      n.1 n.0 c.loop-field.invariant.visited c.visit_value-to.ensures.visited;
+      n.1 n.0 c.loop-field.invariant.visited
+      (subst (λ (z : ValueStart). Visits (g.V.VisitLeaf.takes walk.with.now) walk.classes.now walk.bytes.now walk.end (z.holder ∷ []) (layout.shape ∷ []) z.at c.loop-field.visitor c.loop-field.steps [] [] c.visit_value-to.result c.visit_value-to.new.visitor c.visit_value-to.new.steps) c.value-start.ensures c.visit_value-to.ensures.visited);
 }
 
 pub visit_each-returns-clause-visited : goal.visit_each-returns-clause-visited
@@ -201,6 +201,45 @@ visit_fused-returns-in-Some-clause-visited g t c =
     let ends : Ok c.in-Some.to ≡ end_or_flaw (run (values_format (0 + 1) walk.classes.now next.layouts.now) walk.bytes.now walk.end next.at) = rw c.in-Some.is at c.numbers_end.ensures.exact walk.classes.now 0 next.layouts.now c.requires.layouts c.requires.fused in
     subst (λ n. Visits (g.V.VisitLeaf.takes walk.with.now) walk.classes.now walk.bytes.now walk.end (fields_from next.class next.number (shapes_of_layouts next.layouts.now)) (shapes_of_layouts next.layouts.now) next.at c.args.visitor.now c.args.steps.now [] [] c.in-Some.to c.args.visitor.now n) (sym c.take.ensures)
     (numbers_visited (g.V.VisitLeaf.takes walk.with.now) (g.V.VisitLeaf.admits walk.with.now) (λ visitor at. g.V.VisitLeaf.ready visitor walk.with.now at) walk.classes.now 0 walk.bytes.now walk.end (c.passes_numbers.ensures.same walk.with.now) (c.passes_numbers.ensures.ready walk.with.now) next.layouts.now next.class next.number next.at c.in-Some.to c.args.steps.now c.args.visitor.now c.requires.layouts numbers ends c.requires.values c.requires.ready)
+
+pub visit_prelude-visit_key-threads-requires-clause-values : goal.visit_prelude-visit_key-threads-requires-clause-values
+visit_prelude-visit_key-threads-requires-clause-values g t c =
+    let walk = c.args.walk.now in
+    let next = c.args.next in
+    let takes = g.V.VisitLeaf.takes walk.with.now in
+    let admits = g.V.VisitLeaf.admits walk.with.now in
+    let ends : Ok c.in-Ok.times ≡ end_or_flaw (run (times 2 integer) walk.bytes.now walk.end next.at) = sym c.in-Ok.is ∙ c.integers_end.ensures.exact in
+    subst (λ (z : ValueStart). AreToVisit admits walk.classes.now walk.bytes.now walk.end (z.holder ∷ []) ((get_or next.layouts.now 2 no_layout).shape ∷ []) z.at) (sym c.value-thread.ensures)
+    (thread_to_visit walk.classes.now next.layouts.now _ _ c.requires.prelude.2 takes admits walk.bytes.now walk.end next.class next.number next.at c.args.steps.now c.args.visitor.now
+    (λ visitor at. g.V.VisitLeaf.ready visitor walk.with.now at) (c.passes_numbers.ensures.same walk.with.now) (c.passes_numbers.ensures.ready walk.with.now) c.requires.ready c.requires.values c.requires.layouts c.in-Ok.times ends)
+
+pub visit_prelude-visit_key-requires-clause-values : goal.visit_prelude-visit_key-requires-clause-values
+visit_prelude-visit_key-requires-clause-values g t c =
+    let walk = c.args.walk.now in
+    let next = c.args.next in
+    let takes = g.V.VisitLeaf.takes walk.with.now in
+    let admits = g.V.VisitLeaf.admits walk.with.now in
+    let ends : Ok c.in-Ok.times ≡ end_or_flaw (run (times 2 integer) walk.bytes.now walk.end next.at) = sym c.in-Ok.is ∙ c.integers_end.ensures.exact in
+    let first : Visits takes walk.classes.now walk.bytes.now walk.end (Some (record { class = next.class; field = next.number + 2 }) ∷ []) ((get_or next.layouts.now 2 no_layout).shape ∷ []) c.in-Ok.times c.args.visitor.now (c.args.steps.now + 2) [] [] c.visit_key-threads.result c.visit_key-threads.new.visitor c.visit_key-threads.new.steps =
+    subst (λ n. Visits takes walk.classes.now walk.bytes.now walk.end (Some (record { class = next.class; field = next.number + 2 }) ∷ []) ((get_or next.layouts.now 2 no_layout).shape ∷ []) c.in-Ok.times c.args.visitor.now n [] [] c.visit_key-threads.result c.visit_key-threads.new.visitor c.visit_key-threads.new.steps) c.take.ensures
+    (subst (λ (z : ValueStart). Visits takes walk.classes.now walk.bytes.now walk.end (z.holder ∷ []) ((get_or next.layouts.now 2 no_layout).shape ∷ []) z.at c.args.visitor.now c.take.new.self [] [] c.visit_key-threads.result c.visit_key-threads.new.visitor c.visit_key-threads.new.steps) c.value-thread.ensures c.visit_key-threads.ensures.visited) in
+    subst (λ (z : ValueStart). AreToVisit admits walk.classes.now walk.bytes.now walk.end (z.holder ∷ []) ((get_or next.layouts.now 3 no_layout).shape ∷ []) z.at) (sym c.value-trace.ensures)
+    (trace_to_visit walk.classes.now next.layouts.now _ _ c.requires.prelude.2 takes admits walk.bytes.now walk.end next.class next.number next.at c.args.steps.now c.args.visitor.now
+    (λ visitor at. g.V.VisitLeaf.ready visitor walk.with.now at) (c.passes_numbers.ensures.same walk.with.now) (c.passes_numbers.ensures.ready walk.with.now) c.requires.ready c.requires.values c.requires.layouts c.in-Ok.times ends c.visit_key-threads.result c.visit_key-threads.new.steps c.visit_key-threads.new.visitor first)
+
+pub visit_prelude-returns-in-Ok-clause-visited : goal.visit_prelude-returns-in-Ok-clause-visited
+visit_prelude-returns-in-Ok-clause-visited g t c =
+    let walk = c.args.walk.now in
+    let next = c.args.next in
+    let takes = g.V.VisitLeaf.takes walk.with.now in
+    let admits = g.V.VisitLeaf.admits walk.with.now in
+    let ends : Ok c.in-Ok.times ≡ end_or_flaw (run (times 2 integer) walk.bytes.now walk.end next.at) = sym c.in-Ok.is ∙ c.integers_end.ensures.exact in
+    let first : Visits takes walk.classes.now walk.bytes.now walk.end (Some (record { class = next.class; field = next.number + 2 }) ∷ []) ((get_or next.layouts.now 2 no_layout).shape ∷ []) c.in-Ok.times c.args.visitor.now (c.args.steps.now + 2) [] [] c.visit_key-threads.result c.visit_key-threads.new.visitor c.visit_key-threads.new.steps =
+    subst (λ n. Visits takes walk.classes.now walk.bytes.now walk.end (Some (record { class = next.class; field = next.number + 2 }) ∷ []) ((get_or next.layouts.now 2 no_layout).shape ∷ []) c.in-Ok.times c.args.visitor.now n [] [] c.visit_key-threads.result c.visit_key-threads.new.visitor c.visit_key-threads.new.steps) c.take.ensures
+    (subst (λ (z : ValueStart). Visits takes walk.classes.now walk.bytes.now walk.end (z.holder ∷ []) ((get_or next.layouts.now 2 no_layout).shape ∷ []) z.at c.args.visitor.now c.take.new.self [] [] c.visit_key-threads.result c.visit_key-threads.new.visitor c.visit_key-threads.new.steps) c.value-thread.ensures c.visit_key-threads.ensures.visited) in
+    prelude_visited walk.classes.now next.layouts.now _ _ c.requires.prelude.2 takes admits walk.bytes.now walk.end next.class next.number next.at c.args.steps.now c.args.visitor.now
+    (λ visitor at. g.V.VisitLeaf.ready visitor walk.with.now at) (c.passes_numbers.ensures.same walk.with.now) (c.passes_numbers.ensures.ready walk.with.now) c.requires.ready c.requires.values c.requires.layouts c.in-Ok.times ends c.visit_key-threads.result c.visit_key-threads.new.steps c.visit_key-threads.new.visitor first c.visit_key.result c.visit_key.new.steps c.visit_key.new.visitor
+    (subst (λ (z : ValueStart). Visits takes walk.classes.now walk.bytes.now walk.end (z.holder ∷ []) ((get_or next.layouts.now 3 no_layout).shape ∷ []) z.at c.visit_key-threads.new.visitor c.visit_key-threads.new.steps [] [] c.visit_key.result c.visit_key.new.visitor c.visit_key.new.steps) c.value-trace.ensures c.visit_key.ensures.visited)
 
 pub visit_fields-loop-fused-init : goal.visit_fields-loop-fused-init
 visit_fields-loop-fused-init g t c = record {

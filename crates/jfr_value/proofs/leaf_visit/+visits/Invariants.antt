@@ -10,10 +10,13 @@ abbrev pub decreases-visit_array : goal.decreases-visit_array
 decreases-visit_array g l = 8 * l.start.levels + 1
 
 abbrev pub decreases-visit_fields : goal.decreases-visit_fields
-decreases-visit_fields g l = 8 * l.start.levels + 5
+decreases-visit_fields g l = 8 * l.start.levels + 6
 
 abbrev pub decreases-visit_fused : goal.decreases-visit_fused
-decreases-visit_fused g l = 8 * l.next.levels + 4
+decreases-visit_fused g l = 8 * l.next.levels + 5
+
+abbrev pub decreases-visit_prelude : goal.decreases-visit_prelude
+decreases-visit_prelude g l = 8 * l.next.levels + 4
 
 abbrev pub decreases-visit_each : goal.decreases-visit_each
 decreases-visit_each g l = 8 * l.next.levels + 3

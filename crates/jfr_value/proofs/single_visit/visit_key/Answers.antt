@@ -5,7 +5,7 @@ use Rattle.jfr_value.specs.declared.leaf.LeafKind.TheVariants as leaf_kinds
 use Rattle.jfr_value.proofs.LeafVisitLaws.{first_node, leaf_admitted, visits_leaf}
 use Rattle.jfr_value.proofs.VisitLaws.{key_node}
 use Rattle.jfr_value.proofs.WalkLaws.{key_taken}
-use Rattle.jfr_value.proofs.leaf_visit.visit_key.Goals as goal
+use Rattle.jfr_value.proofs.single_visit.visit_key.Goals as goal
 
 pub known_integer-key-requires-clause-known : goal.known_integer-key-requires-clause-known
 known_integer-key-requires-clause-known g c =
