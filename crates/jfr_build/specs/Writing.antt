@@ -9,7 +9,7 @@ use Rattle.jfr_build.specs.Taking.{Taken}
 abbrev pub wrote : List ℕ → Option (Taken Value) → Option (Taken (List ℕ))
 wrote before taken = option_map (λ t. record { value = before ++ bytes_of t.value; rest = t.rest }) taken
 
--- The same for several values, one after another.
+-- The bytes before several values and those of the values, and the words that are left.
 abbrev pub wrote_all : List ℕ → Option (Taken (List Value)) → Option (Taken (List ℕ))
 wrote_all before taken = option_map (λ t. record { value = before ++ bytes_of_all (values_of t.value); rest = t.rest }) taken
 

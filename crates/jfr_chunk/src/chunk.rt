@@ -86,7 +86,7 @@ impl<'a> Chunk<'a> {
         ensures ok { IfOk result (λ chunk. chunk.bytes ≡ bytes.now) }
         ensures refused { IfErr result (IfFlawed (Refused bytes.now)) }
 
-        // The same, by the computation `read_parts`.
+        // What `read_parts` computes.
         ensures exact { MatchResult result (λ chunk. read_parts bytes.now ≡ Ok chunk) (TellsFlaw (read_parts bytes.now)) }
     {
         Chunk::read_in(alloc, Buffers::new(alloc), bytes)

@@ -1,4 +1,4 @@
--- Chunks that agree on all that remains have outputs that tell the same.
+-- Chunks that agree on all that remains have equal outputs.
 use Rattle.std.specs.Prelude.{◌≡◌, ℕ, zero, suc, List, [], ◌∷◌, map, slice_get, Option, Some, None}
 use Rattle.std.specs.Option.{option_map_or}
 use Rattle.std.proofs.Common.{ap, refl, sym, ◌∙◌}

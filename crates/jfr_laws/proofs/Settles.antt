@@ -88,7 +88,7 @@ module _ (names : Names) (p : Parts) (a : AreParts p) (kept : List EventAt) (are
   classes_are w e =
       classes ∙ (n.remaining ∙ ap (λ o. option_map_or (λ x. staying (stays_in names p kept) p.classes) o p.classes) e)
 
-  -- The same classes have names in the set.
+  -- The classes that have names in the set are those that had.
   described_is : (w : Option (List ℕ)) → q.classes ≡ option_map_or (λ x. staying (stays_in names p kept) p.classes) w p.classes → (id : ℕ) → is_described names p.classes id ≡ is_described names q.classes id
   described_is None e id = ap (λ k. is_described names k id) (sym e)
   described_is (Some x) e id = by_test (stays_in names p kept id) refl ∙ ap (λ k. is_described names k id) (sym e)

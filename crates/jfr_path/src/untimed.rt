@@ -36,7 +36,7 @@ fn has_always(filter: &Filter) -> bool
     filter.has(Side::Always)
 }
 
-/// The same truth value for each of `count` classes.
+/// One truth value for each of `count` classes.
 fn same_for_all(alloc: Global, count: usize, untimed: bool) -> Result<Vec<bool>, NoMemory>
     ensures ok { IfOk result (λ all. all.items ≡ replicate count untimed) }
 {

@@ -52,7 +52,7 @@ const DELTA: &[u8] = b"\x80\x80\xFF\xFF\xFF\xFF\xFF\xFF\xFF";
 /// The pool of java.lang.Thread with the later thread of key 2: w, 101, worker-renamed, 2.
 const RENAMED_THREAD: &[u8] = b"\x1E\x01\x02\x03\x01we\x03\x0Eworker-renamed\x02";
 
-/// The same thread without a Java name: w, 101, null, 2.
+/// That thread without a Java name: w, 101, null, 2.
 const UNNAMED_THREAD: &[u8] = b"\x1E\x01\x02\x03\x01we\0\x02";
 
 /// The pool of java.lang.Class: 1 has the name 1, and 2 the name 4; both are public.
@@ -102,7 +102,7 @@ pub(crate) static RENAMED: Source = Lines(&[
     SECOND_TRACE,
 ]);
 
-/// The same, if this thread has no Java name.
+/// The checkpoint above, if this thread has no Java name.
 #[rattlefmt::skip]
 pub(crate) static UNNAMED: Source = Lines(&[
     b"\xCF\x80\x80\0\x01\0\0", // 79 bytes, a checkpoint

@@ -23,7 +23,7 @@ const MASKED_RINGS: FilePart = Chunk(&[
     b"\x04\x03\x03\x08masked-4",                   // 4: next 3
 ], 333, 68);
 
-/// The same if q is known.
+/// The recording above, masked when q is known.
 #[rattlefmt::skip]
 const WITHOUT_Q: FilePart = Chunk(&[
     CLASSES, A, B,

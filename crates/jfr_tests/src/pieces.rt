@@ -9,7 +9,7 @@ use crate::jdk::{
 use jfr_fixtures::Source;
 use std::alloc::{AllocError, Global};
 
-/// A record or an event of a chunk. Each but the first stands for the static with its name in `jdk` or `classes`.
+/// A record or an event of a chunk. Each but the first is the static with its name in `jdk` or `classes`.
 #[derive(Clone, Copy)]
 pub(crate) enum Piece {
     /// These bytes.

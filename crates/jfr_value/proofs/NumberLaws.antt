@@ -43,7 +43,7 @@ module _ {A : Type 0} (takes : LeafAt → A → A → Type 0) (admits : LeafAt �
   ends s at i (inl e) = base_ends k s levels c end at (record { form = i.form; of_class = λ o. i }) forms.Integer (inline_there s i.form forms.Integer e tt) (λ q. cc)
   ends s at i (inr e) = base_ends k s levels c end at (record { form = i.form; of_class = λ o. i }) (forms.Raw e.0) (inline_there s i.form (forms.Raw e.0) e.1 tt) (λ q. cc)
 
-  -- A field of a number, which ends where it is read.
+  -- A field that is a number ends where it is read.
   module _ (s : FieldLayout) (g : Option Holder) (at to before : ℕ) (visitor : A) (i : IsFieldLayout k s) (n : IsNumbers s) (e : end_or_flaw (run (one s) c end at) ≡ Ok to) where
     number_taken : (us : List Shape) (is : List (Option Holder)) (vs : Values) → AreValues k c at end (s.shape ∷ us) vs → Taken k c at end to (leaf_kinds.Base s.kind) s.shape.class us vs g is is
     number_taken us is vs r =

@@ -42,6 +42,6 @@ module _ (k m : Classes) where
   pub not_same : Sound k → (n : ℕ) (d s : Class) → slice_get m n ≡ Some d → find_class k d.id ≡ Some s → Decided (s ≡ d) false → Decided (HasClasses k m) false
   not_same w n d s e g f has = let h = found_in w n d e has in f (let z : Some s ≡ Some d = sym g ∙ h in cc)
 
--- The same for equal lists of classes.
+-- It holds of equal lists of classes, too.
 pub has_of : (k m k' m' : Classes) (b : Bool) → k ≡ k' → m ≡ m' → Decided (HasClasses k m) b → Decided (HasClasses k' m') b
 has_of k m k' m' b e f d = subst (λ z. Decided (HasClasses k' z) b) f (subst (λ z. Decided (HasClasses z m) b) e d)
