@@ -12,11 +12,7 @@ use crate::leaf::id_after;
 use crate::pieces::RestOfLine;
 use crate::value_bytes::{ValueBytes, ValueFault};
 use jfr_layout::{Classes, FieldLayout, Form, Kind};
-use jfr_value::item_layout;
-
-/// The most composite classes that can be nested in sound classes: the outermost, and at most 32 by inline
-/// steps.
-const LEVELS: u32 = 33;
+use jfr_value::{LEVELS, item_layout};
 
 /// Takes the words of a value with this layout, and appends the value.
 pub fn push_value(

@@ -3,10 +3,7 @@ ghost use Rattle.std.specs.Prelude.{◌≡◌, ◌+◌, ◌-◌, ◌≤◌, fals
 ghost use Rattle.jfr_show.specs.Depths.{deepest};
 
 use jfr_chunk::Chunk;
-
-/// The most composite values that can be nested without following a reference: the outermost, and 32 inside
-/// it by inline steps (docs/FORMAT.md, Classes and shapes).
-const COMPOSITES: u32 = 33;
+use jfr_value::LEVELS;
 
 /// How deep the parts below a value may be.
 #[derive(Clone, Copy)]
@@ -24,7 +21,7 @@ impl Reach {
     {
         Reach {
             references,
-            composites: COMPOSITES,
+            composites: LEVELS,
         }
     }
 
@@ -46,7 +43,7 @@ impl Reach {
     {
         Reach {
             references: self.references - 1,
-            composites: COMPOSITES,
+            composites: LEVELS,
         }
     }
 }

@@ -49,4 +49,4 @@ pub use part::child;
 pub use reference::target;
 pub use steps::Steps;
 pub use visit::{Visit, visit_and_count, visit_targets};
-pub use walk::Walk;
+pub use walk::{LEVELS, Walk};

@@ -4,9 +4,9 @@ ghost use Rattle.std.specs.Prelude.{◌≤◌, length};
 use jfr_layout::Classes;
 use std::alloc::AllocError;
 
-/// The most composite classes that can be nested in sound classes: the outermost, and at most 32 by inline
-/// steps.
-pub(crate) const LEVELS: u32 = 33;
+/// The most composite values that can be nested without following a reference: the outermost, and at most 32 inside it
+/// by inline steps (docs/FORMAT.md, Classes and shapes).
+pub const LEVELS: u32 = 33;
 
 /// The most composite classes that can be nested in the fields of the outermost.
 pub(crate) const INNER_LEVELS: u32 = LEVELS - 1;
