@@ -2,7 +2,7 @@
 use Rattle.std.specs.Prelude.{◌≡◌, ℕ, zero, suc, ◌+◌, Bool, true, false, ◌&&◌, List, [], ◌++◌, length, Option, Some, None, if◌then◌else◌}
 use Rattle.std.specs.List.{flat_map}
 use Rattle.std.specs.Option.{option_map, option_map_or}
-use Rattle.std.proofs.Common.{ap, append-nil, refl, sym, ◌∙◌}
+use Rattle.std.proofs.Common.{ap, append-nil, refl, subst, sym, ◌∙◌}
 use Rattle.std.proofs.lemmas.Grind.{flat_map-append}
 use Rattle.jfr_base.specs.Integer.{worth_within}
 use Rattle.jfr_layout.specs.Classes.{Classes, Sound}
@@ -19,9 +19,9 @@ use Rattle.jfr_value.proofs.TargetLaws.{leaves_are}
 use Rattle.jfr_chunk.specs.Parts.{Parts}
 use Rattle.jfr_rewrite.specs.Changed.{plain}
 use Rattle.jfr_mask.specs.Masked.{is_string_leaf, masked_texts, masked_texts_all, masking, node_texts, numbered_text, string_bytes, string_text}
-use Rattle.jfr_mask.specs.MaskedLeaves.{leaf_bytes, leaf_texts}
+use Rattle.jfr_mask.specs.MaskedLeaves.{is_masked_leaf, leaf_bytes, leaf_text, leaf_texts}
 use Rattle.jfr_rewrite.proofs.LaidLeaves.{marked_leaves, single_key}
-use Rattle.jfr_rewrite.specs.Copying.{leaf_becomes}
+use Rattle.jfr_rewrite.specs.Copying.{LiesIn, leaf_becomes}
 use Rattle.jfr_mask.proofs.MaskLaws.{text_kind}
 
 and_false : (b : Bool) → (b && false) ≡ false
@@ -82,3 +82,21 @@ pub text_leaf : (k : LeafKind) → is_string_leaf k ≡ true → k ≡ leaf_kind
 text_leaf (leaf_kinds.Base kind) e = ap leaf_kinds.Base (text_kind kind e)
 text_leaf (leaf_kinds.Key key) e = cc
 text_leaf (leaf_kinds.Count n) e = cc
+
+-- A string in the chunk, with its bytes read anew and without its holder.
+abbrev pub without_holder : LeafAt → List ℕ → LeafAt
+without_holder l b = record { kind = leaf_kinds.Base kinds.Text; class = l.class; holder = None; at = l.at; spelled = b }
+
+pub string_lies : (p : Parts) (l : LeafAt) (b : List ℕ) → is_string_leaf l.kind ≡ true → b ≡ l.spelled → LiesIn p l → LiesIn p (without_holder l b)
+string_lies p l b k e h =
+    subst (λ z. LiesIn p (without_holder l z)) (sym e)
+    (subst (λ (z : LeafKind). LiesIn p (record { kind = z; class = l.class; holder = None; at = l.at; spelled = l.spelled })) (text_leaf l.kind k)
+    (record { within = h.within; bytes = h.bytes; key = h.key; reference = h.reference; string = h.string }))
+
+-- It becomes what is shown for its text.
+pub string_masked : (masked : Option Holder → Bool) (p : Parts) (show : List ℕ → List ℕ) (l : LeafAt) (b : List ℕ) → is_masked_leaf masked l ≡ true → is_string_leaf l.kind ≡ true → b ≡ l.spelled
+    → string_bytes (option_map show (leaf_text p (without_holder l b))) ≡ leaf_becomes (masking masked show p) l
+string_masked masked p show l b m k e =
+    ap (λ z. string_bytes (option_map show (leaf_text p (without_holder l z)))) e
+    ∙ (ap (λ (z : LeafKind). string_bytes (option_map show (string_text p l.class l.spelled (leaf_key z l.spelled)))) (sym (text_leaf l.kind k))
+    ∙ sym (masked_leaf masked p show l ∙ ap (λ t. if t then string_bytes (option_map show (leaf_text p l)) else l.spelled) m))

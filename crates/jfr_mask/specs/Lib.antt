@@ -6,6 +6,7 @@ pub mod MaskOf
 pub mod Masked
 pub mod MaskedLeaves
 pub mod Maskers
+pub mod NewLeaves
 pub mod Noted
 pub mod Plain
 pub mod Pseudonyms

@@ -19,9 +19,10 @@ use crate::{Dictionary, Known, MaskedFields, Shown};
 use jfr_base::{NoMemory, push_var};
 use jfr_chunk::Chunk;
 use jfr_frame::Framed;
+use jfr_layout::Kind;
 use jfr_rewrite::Rewriter;
 use jfr_text::{EMPTY_BYTE, NULL_BYTE, UTF8_BYTE};
-use jfr_value::{Leaf, Node};
+use jfr_value::{Leaf, LeafKind, Node};
 use std::alloc::Global;
 
 /// What the values of a chunk are masked with: its masked strings, the known texts, and the dictionary, which should
@@ -36,18 +37,36 @@ pub(crate) struct Masker<'m, 'd> {
     pub(crate) noted: &'d NotedTexts,
 }
 
+/// A masked string of the chunk.
+#[derive(Clone, Copy)]
+pub(crate) struct StringAt {
+    /// Its class.
+    pub(crate) class: u64,
+    /// The offset of its first byte.
+    pub(crate) at: usize,
+    /// The number of its bytes.
+    pub(crate) len: usize,
+}
+
 impl Rewriter for Masker<'_, '_> {
+    type NewLeaf = StringAt;
+
     ghost use Rattle.std.specs.Prelude.{◌≡◌};
     ghost use Rattle.jfr_value.specs.Leaves.{LeafAt};
     ghost use Rattle.jfr_value.specs.Visits.{IsNumber};
     ghost use Rattle.jfr_rewrite.specs.Copying.{leaf_becomes};
     ghost use Rattle.jfr_mask.specs.declared.masker.Masker.{Masker};
     ghost use Rattle.jfr_mask.specs.Maskers.{KnowsPlain, rewrite_by};
+    ghost use Rattle.jfr_mask.specs.NewLeaves.{CanPut, masked_by};
     ghost use Rattle.jfr_mask.specs.Noted.{HasNoted};
 
     ghost rewrite = { λ m. rewrite_by m };
 
     ghost suits = { λ m p. (p ≡ m.strings.chunk.now) × KnowsPlain m.strings × HasNoted m };
+
+    ghost can_put = { CanPut };
+
+    ghost spells = { masked_by };
 
     fn is_unchanged(&self, _chunk: &Chunk<'_>, node: Node<'_>) -> bool {
         self.strings.chunk.parts_are_valid();
@@ -58,20 +77,27 @@ impl Rewriter for Masker<'_, '_> {
         ensures { (masker : Masker) (leaf : LeafAt) → IsNumber leaf → leaf_becomes (rewrite_by masker).change leaf ≡ leaf.spelled }
     {}
 
-    fn may_change(&self, _chunk: &Chunk<'_>, leaf: &Leaf<'_>) -> bool {
-        self.strings.has(leaf)
+    fn new_leaf(&self, _chunk: &Chunk<'_>, leaf: &Leaf<'_>) -> Option<StringAt> {
+        if !self.strings.has(leaf) {
+            return None;
+        }
+        Some(StringAt {
+            class: leaf.class,
+            at: leaf.at,
+            len: leaf.spelled.len(),
+        })
     }
 
-    fn put_leaf(
-        &self,
-        out: &mut Vec<u8>,
-        _chunk: &Chunk<'_>,
-        leaf: &Leaf<'_>,
-    ) -> Result<(), NoMemory> {
-        if self.strings.has(leaf) {
-            return self.put_string(out, leaf);
-        }
-        Ok(out.extend_from_slice(leaf.spelled)?)
+    fn put_new_leaf(&self, out: &mut Vec<u8>, new: StringAt) -> Result<(), NoMemory> {
+        let bytes = self.strings.chunk.bytes();
+        let leaf = Leaf {
+            kind: LeafKind::Base(Kind::Text),
+            class: new.class,
+            holder: None,
+            at: new.at,
+            spelled: &bytes[new.at..new.at + new.len],
+        };
+        self.put_string(out, &leaf)
     }
 
     fn entry_key(&self, _class: u64, key: u64) -> u64 {

@@ -4,7 +4,7 @@ ghost use Rattle.jfr_renumber.specs.Numbers.{number_or_zero};
 ghost use Rattle.jfr_renumber.specs.Renumber.{pair_of};
 
 use crate::numbered::NumberedKeys;
-use crate::rewriting::{NewKeys, may_change, put_leaf};
+use crate::rewriting::{NewKey, NewKeys, new_leaf};
 use jfr_base::NoMemory;
 use jfr_chunk::Chunk;
 use jfr_frame::Framed;
@@ -74,16 +74,23 @@ impl<'k> NewKeys for EntryKeys<'k> {
 
 /// Any chunk can be rewritten with these keys. Its sizes keep their widths.
 impl<'k> Rewriter for EntryKeys<'k> {
+    type NewLeaf = NewKey;
+
     ghost use Rattle.std.specs.Prelude.{◌≡◌, None, ⊤};
     ghost use Rattle.jfr_value.specs.Leaves.{LeafAt};
     ghost use Rattle.jfr_value.specs.Visits.{IsNumber};
     ghost use Rattle.jfr_rewrite.specs.Copying.{leaf_becomes};
     ghost use Rattle.jfr_renumber.specs.Numbers.{NumberedPairs, number_or_zero};
     ghost use Rattle.jfr_renumber.specs.Renumber.{with_keys};
+    ghost use Rattle.jfr_renumber.specs.Rewriting.{spelled_anew};
 
     ghost rewrite = { λ keys. with_keys (number_or_zero keys) None };
 
     ghost suits = { λ _ _. ⊤ };
+
+    ghost can_put = { λ _ _. ⊤ };
+
+    ghost spells = { λ _ new. spelled_anew new };
 
     fn is_unchanged(&self, _chunk: &Chunk<'_>, _node: Node<'_>) -> bool {
         false
@@ -94,19 +101,13 @@ impl<'k> Rewriter for EntryKeys<'k> {
     {}
 
     #[inline(always)]
-    fn may_change(&self, _chunk: &Chunk<'_>, leaf: &Leaf<'_>) -> bool {
-        self.zero_is_kept();
-        may_change(leaf)
+    fn new_leaf(&self, _chunk: &Chunk<'_>, leaf: &Leaf<'_>) -> Option<NewKey> {
+        new_leaf(leaf, self)
     }
 
     #[inline(always)]
-    fn put_leaf(
-        &self,
-        out: &mut Vec<u8>,
-        _chunk: &Chunk<'_>,
-        leaf: &Leaf<'_>,
-    ) -> Result<(), NoMemory> {
-        put_leaf(out, leaf, self)
+    fn put_new_leaf(&self, out: &mut Vec<u8>, new: NewKey) -> Result<(), NoMemory> {
+        new.put(out)
     }
 
     #[inline]

@@ -1,13 +1,14 @@
 //! Leaves with new keys.
-ghost use Rattle.std.specs.Prelude.{◌≡◌, ℕ, ◌++◌, false, OnOk};
+ghost use Rattle.std.specs.Prelude.{◌≡◌, ℕ, ◌++◌, None, IfSome, OnOk};
 ghost use Rattle.jfr_base.specs.Integer.{Spells};
+ghost use Rattle.jfr_layout.specs.declared.kind.Kind.TheVariants as kinds;
 ghost use Rattle.jfr_value.specs.declared.leaf.LeafKind.TheVariants as leaf_kinds;
 ghost use Rattle.jfr_value.specs.Leaves.{KeyIsSpelled, leaf_of};
-ghost use Rattle.jfr_renumber.specs.Rewriting.{leaf_with};
+ghost use Rattle.jfr_renumber.specs.Rewriting.{leaf_with, spelled_anew};
 
 use jfr_base::{NoMemory, push_var};
 use jfr_layout::Kind;
-use jfr_text::{KEY_BYTE, is_key};
+use jfr_text::KEY_BYTE;
 use jfr_value::{Leaf, LeafKind};
 
 /// The new key of each class and key.
@@ -24,36 +25,72 @@ pub(crate) trait NewKeys {
         ensures { (class : ℕ) → keys self.now (class, 0) ≡ 0 };
 }
 
-/// Whether a leaf may become other bytes with new keys: it is a reference, but not one with the key 0 in one byte, or a
-/// string that is a key.
-#[inline(always)]
-pub(crate) fn may_change(leaf: &Leaf<'_>) -> bool
-    requires { (n : ℕ) → leaf.now.kind ≡ leaf_kinds.Key n → Spells leaf.now.spelled.now n }
-    ensures { result ≡ false → (new : ℕ × ℕ → ℕ) → ((class : ℕ) → new (class, 0) ≡ 0) → leaf_with new (leaf_of leaf.now) ≡ leaf.now.spelled.now }
-{
-    match leaf.kind {
-        LeafKind::Key(key) => key != 0 || leaf.spelled.len() > 1,
-        LeafKind::Base(Kind::Text) => is_key(leaf.spelled, 0, leaf.spelled.len()),
-        _ => false,
+/// What a leaf with a key becomes.
+#[derive(Clone, Copy)]
+pub(crate) enum NewKey {
+    /// A reference with this key.
+    Reference(u64),
+    /// A string that is this key.
+    StringKey(u64),
+}
+
+impl NewKey {
+    /// Appends its bytes.
+    #[inline(always)]
+    pub(crate) fn put(self, out: &mut Vec<u8>) -> Result<(), NoMemory>
+        ensures ok { OnOk result (out.new.items ≡ out.old.items ++ spelled_anew self) }
+    {
+        match self {
+            NewKey::Reference(key) => Ok(push_var(out, key)?),
+            NewKey::StringKey(key) => {
+                out.push(KEY_BYTE)?;
+                Ok(push_var(out, key)?)
+            }
+        }
     }
 }
 
-/// Appends a leaf, with its new key if it has a key.
+/// What a leaf becomes, if it may become other bytes: a reference, but not one with the key 0 in one byte, or a string
+/// that is a key.
 #[inline(always)]
-pub(crate) fn put_leaf<N: NewKeys>(
-    out: &mut Vec<u8>,
-    leaf: &Leaf<'_>,
-    new: &N,
-) -> Result<(), NoMemory>
-    requires { KeyIsSpelled (leaf_of leaf.now) }
-    ensures ok { OnOk result (out.new.items ≡ out.old.items ++ leaf_with (N.keys new.now) (leaf_of leaf.now)) }
+pub(crate) fn new_leaf<N: NewKeys>(leaf: &Leaf<'_>, new: &N) -> Option<NewKey>
+    requires key { KeyIsSpelled (leaf_of leaf.now) }
+    requires reference { (n : ℕ) → leaf.now.kind ≡ leaf_kinds.Key n → Spells leaf.now.spelled.now n }
+    ensures same { result ≡ None → leaf_with (N.keys new.now) (leaf_of leaf.now) ≡ leaf.now.spelled.now }
+    ensures becomes { IfSome result (λ made. spelled_anew made ≡ leaf_with (N.keys new.now) (leaf_of leaf.now)) }
 {
-    let Some(key) = leaf.key() else {
-        return Ok(out.extend_from_slice(leaf.spelled)?);
-    };
     match leaf.kind {
-        LeafKind::Base(_) => out.push(KEY_BYTE)?,
-        _ => {}
+        LeafKind::Key(key) => new_reference(leaf, key, new),
+        LeafKind::Base(Kind::Text) => new_string(leaf, new),
+        _ => None,
     }
-    Ok(push_var(out, new.new_key(leaf.class, key))?)
+}
+
+/// As `new_leaf`, for a reference with this key.
+#[inline(always)]
+fn new_reference<N: NewKeys>(leaf: &Leaf<'_>, key: u64, new: &N) -> Option<NewKey>
+    requires kind { leaf.now.kind ≡ leaf_kinds.Key key }
+    requires reference { Spells leaf.now.spelled.now key }
+    ensures same { result ≡ None → leaf_with (N.keys new.now) (leaf_of leaf.now) ≡ leaf.now.spelled.now }
+    ensures becomes { IfSome result (λ made. spelled_anew made ≡ leaf_with (N.keys new.now) (leaf_of leaf.now)) }
+{
+    if key == 0 && leaf.spelled.len() <= 1 {
+        new.zero_is_kept();
+        return None;
+    }
+    Some(NewKey::Reference(new.new_key(leaf.class, key)))
+}
+
+/// As `new_leaf`, for a string.
+#[inline(always)]
+fn new_string<N: NewKeys>(leaf: &Leaf<'_>, new: &N) -> Option<NewKey>
+    requires kind { leaf.now.kind ≡ leaf_kinds.Base kinds.Text }
+    requires key { KeyIsSpelled (leaf_of leaf.now) }
+    ensures same { result ≡ None → leaf_with (N.keys new.now) (leaf_of leaf.now) ≡ leaf.now.spelled.now }
+    ensures becomes { IfSome result (λ made. spelled_anew made ≡ leaf_with (N.keys new.now) (leaf_of leaf.now)) }
+{
+    match leaf.key() {
+        Some(key) => Some(NewKey::StringKey(new.new_key(leaf.class, key))),
+        None => None,
+    }
 }

@@ -23,7 +23,7 @@ use Rattle.jfr_rewrite.specs.Writing.{changed_within}
 use Rattle.jfr_rewrite.proofs.ChangeLaws.{changed_leaves}
 use Rattle.jfr_rewrite.proofs.LaidLeaves.{AreLaid, marked_leaves}
 
-range_empty : (c : List ℕ) (at : ℕ) → slice_range c at at ≡ []
+pub range_empty : (c : List ℕ) (at : ℕ) → slice_range c at at ≡ []
 range_empty c at = let z : at - at ≡ 0 = omega arith in ap (λ n. take n (drop at c)) z
 
 module _ (ch : Change) (k : Classes) where
@@ -113,8 +113,5 @@ leaf_waits ch p l copied out o b e =
     ∙ ap (λ z. (out ++ slice_range p.bytes copied l.at) ++ z) (b ∙ sym e))
 
 -- After a leaf that is written, nothing waits.
-pub leaf_written : (ch : Change) (p : Parts) (l : LeafAt) (copied next : ℕ) (before between after : List ℕ) → between ≡ before ++ slice_range p.bytes copied l.at → after ≡ between ++ leaf_becomes ch l → next ≡ l.at + length l.spelled
-    → after ++ slice_range p.bytes next (l.at + length l.spelled) ≡ (before ++ slice_range p.bytes copied l.at) ++ leaf_becomes ch l
-leaf_written ch p l copied next before between after e f g =
-    ap (λ z. after ++ slice_range p.bytes z (l.at + length l.spelled)) g
-    ∙ (ap (λ z. after ++ z) (range_empty p.bytes (l.at + length l.spelled)) ∙ (append-nil after ∙ (f ∙ ap (λ z. z ++ leaf_becomes ch l) e)))
+pub leaf_written : (bytes : List ℕ) (end : ℕ) (before after becomes : List ℕ) → after ≡ before ++ becomes → after ++ slice_range bytes end end ≡ before ++ becomes
+leaf_written bytes end before after becomes e = ap (λ z. after ++ z) (range_empty bytes end) ∙ (append-nil after ∙ e)

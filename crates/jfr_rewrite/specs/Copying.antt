@@ -29,8 +29,10 @@ pub record LiesIn (p : Parts) (l : LeafAt) : Type 0 where
   pub string : l.kind ≡ leaf_kinds.Base kinds.Text
       → IsNode p.classes p.bytes (node_at (string_shape l) l.at (l.at + length l.spelled)) (Single (string_shape l) (leaf_kinds.Base kinds.Text) l.spelled (leaf_key (leaf_kinds.Base kinds.Text) l.spelled))
 
--- If nothing failed, what is written, with the bytes of the chunk that wait up to the leaf's end, has grown by what the
--- leaf becomes.
+-- If nothing failed, what is written, with the bytes that wait up to a leaf's end, has grown by what the leaf becomes,
+-- given where the leaf starts and ends.
+abbrev pub Copies : List ℕ → ℕ → ℕ → List ℕ → ValueCopy → ValueCopy → Type 0
+Copies bytes at end becomes old new = new.failed ≡ false → (old.failed ≡ false) × (new.out.items ++ slice_range bytes new.copied end ≡ (old.out.items ++ slice_range bytes old.copied at) ++ becomes)
+
 abbrev pub CopiesLeaf : Change → Parts → LeafAt → ValueCopy → ValueCopy → Type 0
-CopiesLeaf ch p l old new =
-    new.failed ≡ false → (old.failed ≡ false) × (new.out.items ++ slice_range p.bytes new.copied (l.at + length l.spelled) ≡ (old.out.items ++ slice_range p.bytes old.copied l.at) ++ leaf_becomes ch l)
+CopiesLeaf ch p l old new = Copies p.bytes l.at (l.at + length l.spelled) (leaf_becomes ch l) old new

@@ -1,8 +1,7 @@
 //! Copying a value of which single leaves become other bytes.
-ghost use Rattle.std.specs.Prelude.{◌≡◌, ◌+◌, ◌≤◌, ◌++◌, length, slice_range, IfOk, OnOk};
-ghost use Rattle.jfr_value.specs.Leaves.{leaf_of};
+ghost use Rattle.std.specs.Prelude.{◌≡◌, ◌+◌, ◌≤◌, ◌++◌, length, OnOk};
 ghost use Rattle.jfr_value.specs.Nodes.{IsValue, node_of};
-ghost use Rattle.jfr_rewrite.specs.Copying.{CopiesLeaf, LiesIn, leaf_becomes};
+ghost use Rattle.jfr_rewrite.specs.Copying.{Copies};
 ghost use Rattle.jfr_rewrite.specs.Writing.{changed_within};
 
 use crate::rewriter::Rewriter;
@@ -80,46 +79,59 @@ impl<R: Rewriter> VisitLeaf<Changing<'_, '_, R>> for ValueCopy {
 
     #[inline(always)]
     fn visit_leaf(&mut self, changing: &Changing<'_, '_, R>, leaf: Leaf<'_>) {
-        if changing.rewriting.may_change(changing.chunk, &leaf) {
-            self.put(changing, &leaf);
+        if let Some(new) = changing.rewriting.new_leaf(changing.chunk, &leaf) {
+            self.put(changing, leaf.at, leaf.spelled.len(), new);
         }
     }
 }
 
 impl ValueCopy {
-    /// Appends the bytes that wait, and what the leaf becomes.
-    fn put<R: Rewriter>(&mut self, changing: &Changing<'_, '_, R>, leaf: &Leaf<'_>)
-        requires suits { R.suits changing.now.rewriting.now changing.now.chunk.now }
-        requires lies { LiesIn changing.now.chunk.now (leaf_of leaf.now) }
-        requires start { self.old.copied ≤ leaf.now.at }
-        ensures range { self.new.copied ≤ leaf.now.at + length leaf.now.spelled.now }
-        ensures copies { CopiesLeaf (R.rewrite changing.now.rewriting.now).change changing.now.chunk.now (leaf_of leaf.now) self.old self.new }
+    /// Appends the bytes that wait before a leaf of `len` bytes at `at`, and what the leaf becomes.
+    fn put<R: Rewriter>(
+        &mut self,
+        changing: &Changing<'_, '_, R>,
+        at: usize,
+        len: usize,
+        new: R::NewLeaf,
+    )
+        requires can_put { R.can_put changing.now.rewriting.now new }
+        requires start { self.old.copied ≤ at }
+        requires within { at + len ≤ length changing.now.chunk.now.bytes }
+        ensures range { self.new.copied ≤ at + len }
+        ensures copies { Copies changing.now.chunk.now.bytes at (at + len) (R.spells changing.now.rewriting.now new) self.old self.new }
     {
         if self.failed {
             return;
         }
-        match put_leaf(&mut self.out, changing, leaf, self.copied) {
-            Ok(copied) => self.copied = copied,
+        let waiting = &changing.chunk.bytes()[self.copied..at];
+        match put_leaf(&mut self.out, changing.rewriting, waiting, new) {
+            Ok(()) => self.copied = at + len,
             Err(NoMemory) => self.failed = true,
         }
     }
 }
 
-/// Appends the chunk's bytes from `copied` up to a leaf, and what the leaf becomes. Returns the leaf's end.
+/// Appends the bytes that wait before a leaf, and what the leaf becomes.
 fn put_leaf<R: Rewriter>(
     out: &mut Vec<u8>,
-    changing: &Changing<'_, '_, R>,
-    leaf: &Leaf<'_>,
-    copied: usize,
-) -> Result<usize, NoMemory>
-    requires suits { R.suits changing.now.rewriting.now changing.now.chunk.now }
-    requires lies { LiesIn changing.now.chunk.now (leaf_of leaf.now) }
-    requires start { copied ≤ leaf.now.at }
-    ensures range { IfOk result (λ end. end ≤ leaf.now.at + length leaf.now.spelled.now) }
-    ensures ok { IfOk result (λ end. out.new.items ++ slice_range changing.now.chunk.now.bytes end (leaf.now.at + length leaf.now.spelled.now) ≡ (out.old.items ++ slice_range changing.now.chunk.now.bytes copied leaf.now.at) ++ leaf_becomes (R.rewrite changing.now.rewriting.now).change (leaf_of leaf.now)) }
+    rewriting: &R,
+    waiting: &[u8],
+    new: R::NewLeaf,
+) -> Result<(), NoMemory>
+    requires can_put { R.can_put rewriting.now new }
+    ensures ok { OnOk result (out.new.items ≡ (out.old.items ++ waiting.now) ++ R.spells rewriting.now new) }
 {
-    let chunk = changing.chunk;
-    out.extend_from_slice(&chunk.bytes()[copied..leaf.at])?;
-    changing.rewriting.put_leaf(out, chunk, leaf)?;
-    Ok(leaf.at + leaf.spelled.len())
+    put_waiting(out, waiting)?;
+    rewriting.put_new_leaf(out, new)
+}
+
+/// Appends the bytes that wait. Between two leaves that change there are often none, and then nothing is called.
+#[inline(always)]
+fn put_waiting(out: &mut Vec<u8>, waiting: &[u8]) -> Result<(), NoMemory>
+    ensures ok { OnOk result (out.new.items ≡ out.old.items ++ waiting.now) }
+{
+    if waiting.is_empty() {
+        return Ok(());
+    }
+    Ok(out.extend_from_slice(waiting)?)
 }

@@ -1,5 +1,5 @@
 //! How chunks are rewritten, as a trait.
-ghost use Rattle.std.specs.Prelude.{◌≡◌, ◌≤◌, ◌-◌, ◌++◌, false, slice_range, IsTrue, OnOk};
+ghost use Rattle.std.specs.Prelude.{◌≡◌, ℕ, ◌≤◌, ◌-◌, List, ◌++◌, None, slice_range, IfSome, IsTrue, OnOk};
 ghost use Rattle.jfr_chunk.specs.Parts.{Parts};
 ghost use Rattle.jfr_value.specs.Nodes.{IsValue, node_of};
 ghost use Rattle.jfr_value.specs.Leaves.{LeafAt, leaf_of};
@@ -14,11 +14,20 @@ use jfr_value::{Leaf, Node};
 
 /// How a chunk is rewritten: what becomes of values, which keys entries get, and how wide sizes are.
 pub trait Rewriter {
+    /// What a leaf becomes, before it is written.
+    type NewLeaf: Copy;
+
     /// The change, the keys and the widths. `write_chunk` adds the metadata record.
     ghost rewrite: { Self → Rewrite };
 
     /// The chunks that are rewritten so.
     ghost suits: { Self → Parts → Type 0 };
+
+    /// The new leaves that can be written.
+    ghost can_put: { Self → Self.NewLeaf → Type 0 };
+
+    /// The bytes of a new leaf.
+    ghost spells: { Self → Self.NewLeaf → List ℕ };
 
     /// Whether all of a node's value stays the same. Then its leaves aren't visited.
     fn is_unchanged(&self, chunk: &Chunk<'_>, node: Node<'_>) -> bool
@@ -27,26 +36,22 @@ pub trait Rewriter {
         requires value { IsValue chunk.now.classes node }
         ensures { IsTrue result → changed_bytes (rewrite self.now).change chunk.now.classes chunk.now.bytes (node_of node.entry) ≡ slice_range chunk.now.bytes node.entry.at node.entry.end };
 
-    /// Numbers and truth values stay the same, so `may_change` isn't asked of them.
+    /// Numbers and truth values stay the same, so `new_leaf` isn't asked about them.
     fn keeps_numbers()
         ensures { (rewriter : Self) (leaf : LeafAt) → IsNumber leaf → leaf_becomes (rewrite rewriter).change leaf ≡ leaf.spelled };
 
-    /// Whether a leaf may become other bytes. If not, it stays the same.
-    fn may_change(&self, chunk: &Chunk<'_>, leaf: &Leaf<'_>) -> bool
+    /// What a leaf becomes, if it may become other bytes. If it is `None`, the leaf stays the same.
+    fn new_leaf(&self, chunk: &Chunk<'_>, leaf: &Leaf<'_>) -> Option<Self::NewLeaf>
         requires suits { suits self.now chunk.now }
         requires lies { LiesIn chunk.now (leaf_of leaf.now) }
-        ensures { result ≡ false → leaf_becomes (rewrite self.now).change (leaf_of leaf.now) ≡ leaf.now.spelled.now };
+        ensures same { result ≡ None → leaf_becomes (rewrite self.now).change (leaf_of leaf.now) ≡ leaf.now.spelled.now }
+        ensures can_put { IfSome result (λ new. can_put self.now new) }
+        ensures becomes { IfSome result (λ new. spells self.now new ≡ leaf_becomes (rewrite self.now).change (leaf_of leaf.now)) };
 
     /// Appends what a leaf becomes.
-    fn put_leaf(
-        &self,
-        out: &mut Vec<u8>,
-        chunk: &Chunk<'_>,
-        leaf: &Leaf<'_>,
-    ) -> Result<(), NoMemory>
-        requires suits { suits self.now chunk.now }
-        requires lies { LiesIn chunk.now (leaf_of leaf.now) }
-        ensures ok { OnOk result (out.new.items ≡ out.old.items ++ leaf_becomes (rewrite self.now).change (leaf_of leaf.now)) };
+    fn put_new_leaf(&self, out: &mut Vec<u8>, new: Self::NewLeaf) -> Result<(), NoMemory>
+        requires can_put { can_put self.now new }
+        ensures ok { OnOk result (out.new.items ≡ out.old.items ++ spells self.now new) };
 
     /// The key of an entry that had this class and this key.
     fn entry_key(&self, class: u64, key: u64) -> u64
