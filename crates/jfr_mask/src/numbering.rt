@@ -65,8 +65,28 @@ impl Numbering<'_> {
         Ok(growing.noted)
     }
 
-    /// Adds the texts of the masked chunk.
+    /// Adds the texts of the masked chunk. If all classes are plain, its records aren't looked at.
     fn add_chunk(
+        &self,
+        growing: &mut GrowingDictionary,
+        kept: &Kept,
+        entries: &[EntryAt],
+    ) -> Result<(), NoMemory>
+        requires plain { KnowsPlain self.now.strings }
+        requires entries { entries.now ≡ entries_by self.now.strings (kept_by self.now.strings.chunk.now kept.now) }
+        requires noted { NotesTexts self.now growing.old }
+        ensures ok { OnOk result ((m : Masking) → IsMaskingBy self.now m → growing.new.dictionary ≡ dictionary_after m growing.old.dictionary self.now.strings.chunk.now (kept_by self.now.strings.chunk.now kept.now)) }
+        ensures noted { OnOk result (NotesTexts self.now growing.new) }
+    {
+        self.strings.chunk.parts_are_valid();
+        if self.strings.are_none() {
+            return Ok(());
+        }
+        self.add_records(growing, kept, entries)
+    }
+
+    /// As `add_chunk`, one record after another.
+    fn add_records(
         &self,
         growing: &mut GrowingDictionary,
         kept: &Kept,

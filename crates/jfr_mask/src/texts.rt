@@ -1,5 +1,5 @@
 //! Masked strings, and their texts.
-ghost use Rattle.std.specs.Prelude.{◌≡◌, true, None, Some, IfOk, IfSome, IsTrue};
+ghost use Rattle.std.specs.Prelude.{◌≡◌, ◌<◌, ℕ, length, true, None, Some, IfOk, IfSome, IsTrue};
 ghost use Rattle.std.specs.Str.{chars};
 ghost use Rattle.jfr_text.specs.Spans.{content_of};
 ghost use Rattle.jfr_text.specs.Strings.{text_of};
@@ -12,7 +12,7 @@ ghost use Rattle.jfr_mask.specs.Masked.{is_string_leaf};
 ghost use Rattle.jfr_mask.specs.MaskedLeaves.{is_masked_leaf, leaf_text};
 ghost use Rattle.jfr_mask.specs.Maskers.{KnowsPlain, held_by};
 ghost use Rattle.jfr_mask.specs.Noted.{entry_by};
-ghost use Rattle.jfr_mask.specs.Plain.{HasNoMasked};
+ghost use Rattle.jfr_mask.specs.Plain.{HasNoMasked, IsPlain};
 
 use crate::MaskedFields;
 use crate::holders::is_held_masked;
@@ -41,6 +41,13 @@ impl MaskedStrings<'_> {
         ensures { IsTrue result → (v : Value) → IsNode self.now.chunk.now.classes self.now.chunk.now.bytes (node_of node.entry) v → HasNoMasked (held_by self.now) None v }
     {
         self.plain.has_id(self.chunk.classes(), node.shape.class)
+    }
+
+    /// Whether all classes are plain, so the chunk has no masked string.
+    pub(crate) fn are_none(&self) -> bool
+        ensures { IsTrue result → (index : ℕ) → index < length self.now.chunk.now.classes → IsPlain self.now.plain.now.flags.items index }
+    {
+        self.plain.are_all(self.chunk.classes())
     }
 
     /// Whether the leaf is a masked string.
