@@ -18,6 +18,7 @@ mod NumberLaws
 mod NumberLeaves
 mod NumberedRecords
 mod OneToOnes
+mod PlainChunk
 mod PlainLaws
 mod PuttingRest
 mod ReachBut

@@ -64,7 +64,7 @@ module _ (n : Numbering) (m : Masking) (is : IsMaskingBy n m) where
   pub entries_same : (kept : List EventAt) → entries_left m p kept ≡ entries_by n.strings kept
   entries_same kept = ap (λ z. remain_but (is_masked_string z) p kept) masked_same
 
-  node_same : node_texts m p ≡ node_texts_by n
+  pub node_same : node_texts m p ≡ node_texts_by n
   node_same = ap (λ z. masked.node_texts z m.known p) masked_same ∙ ap (λ z. masked.node_texts (held_by n.strings) z p) is.known
 
   module _ (flags : List Bool) (entries : List EntryAt) where

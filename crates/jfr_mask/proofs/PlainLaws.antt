@@ -152,6 +152,17 @@ module _ (masks : Masks) (k : Classes) (flags : List Bool) where
             let r = right m p c (subst (λ i. slice_get k i ≡ Some c) same x.2) in
             (r.text, λ t i g. (let h : Some m ≡ Some i = sym at ∙ g in let q : m ≡ i = cc in subst (IsPlain flags) q p))
 
+    -- If all classes are plain, no value has a masked string.
+    pub all_plain : ((i : ℕ) → i < length k → IsPlain flags i) → (v : Value) → Fits k v → HasNoMasked masked None v
+    all_plain all v f = value_plain None v f shape
+      where
+        shape : ShapeIsPlain None (shape_of v)
+        shape nc c found =
+            let x = indexed k (shape_of v).class c found in
+            let p : IsPlain flags x.0 = all x.0 (slice_get_within k x.0 c x.2) in
+            let r = right x.0 p c x.2 in
+            (r.text, λ t i g. (let h : Some x.0 ≡ Some i = sym x.1 ∙ g in let q : x.0 ≡ i = cc in subst (IsPlain flags) q p))
+
 -- A change that changes only masked strings changes nothing in such a value.
 module _ (masked : Option Holder → Bool) (ch : Change) (stays : (h : Option Holder) (s : Shape) (x : Plain) → is_masked_string masked h (single_of s x) ≡ false → ch h s x ≡ x) where
   mutual

@@ -133,7 +133,7 @@ impl Dictionary {
         if self.slots.suffice(self.texts.len()) {
             return;
         }
-        if let Ok(slots) = Slots::of(self.alloc, &self.texts) {
+        if let Ok(slots) = self.slots.widened(self.alloc, self.texts.len()) {
             self.slots = slots;
         }
     }

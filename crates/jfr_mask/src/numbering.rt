@@ -19,7 +19,7 @@ ghost use Rattle.jfr_mask.specs.Pseudonyms.{Extends, has_text, with_texts};
 
 use crate::noted::NotedTexts;
 use crate::shown::is_unmasked;
-use crate::texts::{MaskedStrings, leaf_text};
+use crate::texts::{MaskedStrings, leaf_text, payload_of};
 use crate::{Dictionary, Known};
 use jfr_base::NoMemory;
 use jfr_chunk::Kept;
@@ -65,8 +65,28 @@ impl Numbering<'_> {
         Ok(growing.noted)
     }
 
-    /// Adds the texts of the masked chunk.
+    /// Adds the texts of the masked chunk. If all classes are plain, its records aren't looked at.
     fn add_chunk(
+        &self,
+        growing: &mut GrowingDictionary,
+        kept: &Kept,
+        entries: &[EntryAt],
+    ) -> Result<(), NoMemory>
+        requires plain { KnowsPlain self.now.strings }
+        requires entries { entries.now ≡ entries_by self.now.strings (kept_by self.now.strings.chunk.now kept.now) }
+        requires noted { NotesTexts self.now growing.old }
+        ensures ok { OnOk result ((m : Masking) → IsMaskingBy self.now m → growing.new.dictionary ≡ dictionary_after m growing.old.dictionary self.now.strings.chunk.now (kept_by self.now.strings.chunk.now kept.now)) }
+        ensures noted { OnOk result (NotesTexts self.now growing.new) }
+    {
+        self.strings.chunk.parts_are_valid();
+        if self.strings.are_none() {
+            return Ok(());
+        }
+        self.add_records(growing, kept, entries)
+    }
+
+    /// As `add_chunk`, one record after another.
+    fn add_records(
         &self,
         growing: &mut GrowingDictionary,
         kept: &Kept,
@@ -167,6 +187,7 @@ impl Numbering<'_> {
     }
 
     /// Adds the texts of a node, from left to right. A node of a plain class isn't read.
+    #[inline(always)]
     fn add_node(&self, growing: &mut GrowingDictionary, node: Node<'_>) -> Result<(), NoMemory>
         requires plain { KnowsPlain self.now.strings }
         requires value { IsValue self.now.strings.chunk.now.classes node }
@@ -179,6 +200,19 @@ impl Numbering<'_> {
         if self.strings.are_none_in(node) {
             return Ok(());
         }
+        self.add_leaves(growing, node)
+    }
+
+    /// As `add_node`, by the leaves of the node.
+    #[inline(never)]
+    fn add_leaves(&self, growing: &mut GrowingDictionary, node: Node<'_>) -> Result<(), NoMemory>
+        requires value { IsValue self.now.strings.chunk.now.classes node }
+        requires of_chunk { node.bytes.now ≡ self.now.strings.chunk.now.bytes }
+        requires noted { NotesTexts self.now growing.old }
+        ensures ok { OnOk result (growing.new.dictionary ≡ with_texts growing.old.dictionary (node_texts_by self.now (node_of node.entry))) }
+        ensures noted { OnOk result (NotesTexts self.now growing.new) }
+    {
+        self.strings.chunk.parts_are_valid();
         visit_leaves(self.strings.chunk.classes(), node, growing, self);
         if growing.failed {
             return Err(NoMemory);
@@ -240,6 +274,9 @@ impl Numbering<'_> {
         ensures same { growing.new.noted ≡ growing.old.noted }
         ensures noted { NotesTexts self.now growing.new }
     {
+        if let Some(text) = payload_of(leaf) {
+            return add_unless_shown(self.known, &mut growing.dictionary, text);
+        }
         match leaf_text(self.alloc, self.strings.chunk, leaf)? {
             Some(text) => add_unless_shown(self.known, &mut growing.dictionary, text.as_str()),
             None => Ok(0),

@@ -51,6 +51,18 @@ impl PlainClasses {
         flag_at(self.flags.as_slice(), index)
     }
 
+    /// Whether all classes are plain.
+    pub(crate) fn are_all(&self, classes: &Classes) -> bool
+        ensures { IsTrue result → (index : ℕ) → index < length classes.now → IsPlain self.now.flags.items index }
+    {
+        for index in 0..classes.len() {
+            if !self.is_plain(index) {
+                return false;
+            }
+        }
+        true
+    }
+
     /// Whether this is the id of a class whose values have no masked string.
     pub(crate) fn has_id(&self, classes: &Classes, id: u64) -> bool
         ensures { IsTrue result → (index : ℕ) × (class_index classes.now id ≡ Some index) × IsPlain self.now.flags.items index }

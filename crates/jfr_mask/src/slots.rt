@@ -3,7 +3,6 @@
 use jfr_base::NoMemory;
 use std::alloc::Global;
 use std::hash::{FoldHasher, Hash, Hasher};
-use std::rc::RcStr;
 
 /// There are at least this many slots for each text.
 const SLOTS_PER_TEXT: usize = 2;
@@ -11,7 +10,7 @@ const SLOTS_PER_TEXT: usize = 2;
 /// The fewest slots, if there are any.
 const FEWEST_SLOTS: usize = 1 << 10;
 
-/// A text is in one of this many slots, from the one that its hash chooses.
+/// A text is in one of this many slots, from the one that its tag chooses.
 const PROBES: usize = 8;
 
 /// A slot of the hash table.
@@ -61,17 +60,19 @@ impl Slots {
         }
     }
 
-    /// Twice as many slots as are needed for these texts, which are put there.
-    pub(crate) fn of(alloc: Global, texts: &[RcStr]) -> Result<Slots, NoMemory> {
+    /// Twice as many slots as are needed for this many texts, with the numbers that these slots hold. Since a tag alone
+    /// decides where its text may be, no text is hashed again.
+    pub(crate) fn widened(&self, alloc: Global, texts: usize) -> Result<Slots, NoMemory> {
         let size = texts
-            .len()
             .saturating_mul(2 * SLOTS_PER_TEXT)
             .max(FEWEST_SLOTS);
         let mut table = Slots {
             slots: vec![in alloc; EMPTY; size]?,
         };
-        for (at, text) in texts.iter().enumerate() {
-            table.put(table.find(text.as_str()), at as u64 + 1);
+        for held in self.slots.as_slice() {
+            if held.number != 0 {
+                table.put(table.spot_of(held.tag), u64::from(held.number));
+            }
         }
         Ok(table)
     }
@@ -85,11 +86,14 @@ impl Slots {
     pub(crate) fn find(&self, text: &str) -> Spot {
         let mut hasher = FoldHasher::default();
         text.hash(&mut hasher);
-        let hash = hasher.finish();
-        let tag = (hash >> 32) as u32;
+        self.spot_of((hasher.finish() >> 32) as u32)
+    }
+
+    /// The spot for a text with this tag. Greater tags are in later slots, so a table is copied from front to back.
+    fn spot_of(&self, tag: u32) -> Spot {
         // All slots in which the text may be are in the table.
         let firsts = self.slots.len().saturating_sub(PROBES) as u64;
-        let first = hash.checked_rem(firsts).unwrap_or(0) as usize;
+        let first = (u64::from(tag).wrapping_mul(firsts) >> 32) as usize;
         for step in 0..PROBES {
             let slot = first.wrapping_add(step);
             let held = self.held(slot);

@@ -21,23 +21,3 @@ returns-then-are_none_in c =
     let node = subst (λ z. IsNode p.classes z n v) c.requires.of_chunk c.requires.value.1 in
     record { ok = ap (λ z. with_texts c.args.growing.now.dictionary z) (sym (node_no_texts p masked known n v c.parts_are_valid.ensures.sound node (c.are_none_in.ensures c.if-are_none_in.true v node))); noted = c.requires.noted }
 
-pub visit_leaves-requires-clause-admits : goal.visit_leaves-requires-clause-admits
-visit_leaves-requires-clause-admits c =
-    let p = c.args.self.now.strings.chunk.now in
-    node_lies p c.parts_are_valid.ensures.sound c.classes.result.now c.args.node.bytes.now (node_of c.args.node) c.requires.value.0 c.classes.ensures c.requires.of_chunk c.requires.value.1
-
-pub returns : goal.returns
-returns c =
-    let p = c.args.self.now.strings.chunk.now in
-    let n = node_of c.args.node in
-    let masked = is_held_masked c.args.self.now.strings.masked.now p.classes in
-    let known = has_text c.args.self.now.known.now in
-    let node = subst (λ z. IsNode p.classes z n c.requires.value.0) c.requires.of_chunk c.requires.value.1 in
-    let added = adds_all c.args.self.now (leaves c.classes.result.now c.args.node.bytes.now n) _ c.visit_leaves.new.visitor c.visit_leaves.ensures.exact c.if-growing.false in
-    record {
-      ok =
-          added.1
-          ∙ (ap (λ z. with_texts c.args.growing.now.dictionary (flat_map (leaf_texts_by c.args.self.now) z)) (leaves_here p c.classes.result.now c.args.node.bytes.now n c.classes.ensures c.requires.of_chunk)
-          ∙ ap (λ z. with_texts c.args.growing.now.dictionary z) (sym (node_texts_are masked p known c.parts_are_valid.ensures.sound n c.requires.value.0 node)));
-      noted = c.visit_leaves.ensures.ready;
-    }

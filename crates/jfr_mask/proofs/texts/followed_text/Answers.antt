@@ -11,7 +11,7 @@ use Rattle.jfr_mask.specs.Masked.{string_text}
 use Rattle.jfr_mask.specs.MaskedLeaves.{leaf_text}
 use Rattle.jfr_mask.proofs.LeafMasks.{text_leaf}
 use Rattle.jfr_mask.proofs.TextLaws.{text_is}
-use Rattle.jfr_mask.proofs.texts.leaf_text.Goals as goal
+use Rattle.jfr_mask.proofs.texts.followed_text.Goals as goal
 
 pub returns : goal.returns
 returns c =

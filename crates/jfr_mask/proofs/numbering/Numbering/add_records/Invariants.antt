@@ -7,7 +7,7 @@ use Rattle.jfr_mask.specs.Maskers.{IsMaskingBy}
 use Rattle.jfr_mask.specs.MaskOf.{Masking, origin_of, origin_texts, records_out}
 use Rattle.jfr_mask.specs.Noted.{NotesTexts}
 use Rattle.jfr_mask.specs.Pseudonyms.{with_texts}
-use Rattle.jfr_mask.proofs.numbering.Numbering.add_chunk.Given as goal
+use Rattle.jfr_mask.proofs.numbering.Numbering.add_records.Given as goal
 
 -- With the texts of the output records that are left, the dictionary is the one with those of all.
 abbrev pub invariant-output_records : goal.invariant-output_records
