@@ -1,5 +1,5 @@
 //! The values of constants and events, and the offset of the region.
-ghost use Rattle.std.specs.Prelude.{◌≡◌, [], IfErr, IfOk, OnOk, None, Some, option_map, if◌then◌else◌};
+ghost use Rattle.std.specs.Prelude.{◌≡◌, [], IfErr, IfOk, IsSome, OnOk, None, Some, option_map, if◌then◌else◌};
 ghost use Rattle.jfr_layout.specs.Classes.{IsFieldLayout};
 ghost use Rattle.jfr_value.specs.Values.{bytes_of};
 ghost use Rattle.jfr_build.specs.LineValues.{IsBadValue, all_taken, first_bad_value, is_bad_value, line_value};
@@ -79,6 +79,21 @@ pub fn line_value(
         },
         _ => Ok(false),
     }
+}
+
+/// The line has a value, as is known. Its bytes replace those of `out`.
+pub fn known_value(
+    classes: &Classes,
+    line: &BuildLine<'_>,
+    out: &mut ValueBytes,
+) -> Result<(), NoMemory>
+    requires known { IsSome (line_value classes.now line.now) }
+    ensures ok { OnOk result (option_map bytes_of (line_value classes.now line.now) ≡ Some out.new) }
+{
+    if !line_value(classes, line, out)? {
+        unreachable!();
+    }
+    Ok(())
 }
 
 /// Whether the words are those of one value with this layout. If so, its bytes replace those of `out`.

@@ -6,7 +6,7 @@ ghost use Rattle.jfr_build.specs.LineValues.{first_bad_value, is_bad_value};
 ghost use Rattle.jfr_build.specs.Pooled.{Added, AreListed, Grown, count_in, entries_in, pool_bytes, pool_in, pools_bytes};
 
 use crate::line::BuildLine;
-use crate::line_values::line_value;
+use crate::line_values::known_value;
 use crate::lines::NumberedLine;
 use crate::value_bytes::ValueBytes;
 use jfr_base::{NoMemory, push_var};
@@ -134,8 +134,6 @@ fn push_line(
     let BuildLine::Constant { class, key, .. } = line else {
         return Ok(());
     };
-    if !line_value(classes, line, value)? {
-        unreachable!();
-    }
+    known_value(classes, line, value)?;
     pools.push(*class, *key, value.as_slice())
 }

@@ -5,7 +5,7 @@ ghost use Rattle.jfr_build.specs.Built.{AppendsIf, event_record, events_of, line
 ghost use Rattle.jfr_build.specs.LineValues.{first_bad_value, is_bad_value};
 
 use crate::line::BuildLine;
-use crate::line_values::line_value;
+use crate::line_values::known_value;
 use crate::lines::NumberedLine;
 use crate::value_bytes::ValueBytes;
 use jfr_base::{NoMemory, push_var, var_len, write_in};
@@ -60,9 +60,7 @@ fn push_event(
     let BuildLine::Record { class, .. } = line else {
         return Ok(true);
     };
-    if !line_value(classes, line, value)? {
-        unreachable!();
-    }
+    known_value(classes, line, value)?;
     push_record(events, *class, value.as_slice())
 }
 
