@@ -63,9 +63,7 @@ impl Slots {
     /// Twice as many slots as are needed for this many texts, with the numbers that these slots hold. Since a tag alone
     /// decides where its text may be, no text is hashed again.
     pub(crate) fn widened(&self, alloc: Global, texts: usize) -> Result<Slots, NoMemory> {
-        let size = texts
-            .saturating_mul(2 * SLOTS_PER_TEXT)
-            .max(FEWEST_SLOTS);
+        let size = texts.saturating_mul(2 * SLOTS_PER_TEXT).max(FEWEST_SLOTS);
         let mut table = Slots {
             slots: vec![in alloc; EMPTY; size]?,
         };
