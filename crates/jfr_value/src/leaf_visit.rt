@@ -46,6 +46,13 @@ pub trait VisitLeaf<C> {
         ensures takes { takes with.now (leaf_of leaf.entry) self.old self.new };
 }
 
+/// A class, by its id and its index.
+#[derive(Clone, Copy)]
+struct ClassAt {
+    id: u64,
+    index: usize,
+}
+
 /// Fields of a class, one after another: their layouts, the number of the first of them, where its value starts, and
 /// the most composite classes that can be nested from there on.
 #[derive(Clone, Copy)]
@@ -172,36 +179,46 @@ fn visit_value<C, V: VisitLeaf<C>, L: Ledger>(
                 levels: start.levels - 1,
                 holder: start.holder,
             };
-            visit_fields(walk, layout, inner, visitor, steps)
+            let class = ClassAt {
+                id: layout.shape.class,
+                index: layout.class_index,
+            };
+            visit_fields(walk, class, inner, visitor, steps)
         }
-        Form::Array => visit_array(walk, layout, start, visitor, steps),
+        Form::Array => {
+            // A copy, so that other values don't need their layout in memory.
+            let array = *layout;
+            visit_array(walk, &array, start, visitor, steps)
+        }
     }
 }
 
-/// Visits the fields of a value with this layout, and returns where they end.
+/// Visits the fields of a value of this class, and returns where they end. It calls itself, so it isn't inlined. All that
+/// it calls for most fields is inlined in it.
 #[cycle(visits)]
+#[inline(never)]
 fn visit_fields<C, V: VisitLeaf<C>, L: Ledger>(
     walk: &Walk<'_, '_, C>,
-    layout: &FieldLayout,
+    class: ClassAt,
     start: ValueStart,
     visitor: &mut V,
     steps: &mut Steps<L>,
 ) -> usize
     requires sound { Sound walk.now.classes.now }
-    requires placed { layout.now.class_index < length walk.now.classes.now }
-    requires depth { AllByRecursion (DepthBound walk.now.classes.now start.levels) (field_shapes walk.now.classes.now layout.now.class_index) }
-    requires values { AreToVisit (V.admits walk.now.with.now) walk.now.classes.now walk.now.bytes.now walk.now.end (fields_from layout.now.shape.class 0 (field_shapes walk.now.classes.now layout.now.class_index)) (field_shapes walk.now.classes.now layout.now.class_index) start.at }
+    requires placed { class.index < length walk.now.classes.now }
+    requires depth { AllByRecursion (DepthBound walk.now.classes.now start.levels) (field_shapes walk.now.classes.now class.index) }
+    requires values { AreToVisit (V.admits walk.now.with.now) walk.now.classes.now walk.now.bytes.now walk.now.end (fields_from class.id 0 (field_shapes walk.now.classes.now class.index)) (field_shapes walk.now.classes.now class.index) start.at }
     requires ready { V.ready visitor.old walk.now.with.now start.at }
-    ensures visited { Visits (V.takes walk.now.with.now) walk.now.classes.now walk.now.bytes.now walk.now.end (fields_from layout.now.shape.class 0 (field_shapes walk.now.classes.now layout.now.class_index)) (field_shapes walk.now.classes.now layout.now.class_index) start.at visitor.old steps.old [] [] result visitor.new steps.new }
+    ensures visited { Visits (V.takes walk.now.with.now) walk.now.classes.now walk.now.bytes.now walk.now.end (fields_from class.id 0 (field_shapes walk.now.classes.now class.index)) (field_shapes walk.now.classes.now class.index) start.at visitor.old steps.old [] [] result visitor.new steps.new }
     ensures ready { V.ready visitor.new walk.now.with.now result }
 {
-    let class_layout = walk.classes.class_layout(layout.class_index);
+    let class_layout = walk.classes.class_layout(class.index);
     let mut number = 0;
     let mut to = start.at;
     for fused in &class_layout.fused_fields {
         let next = NextFields {
             layouts: fused_layouts(class_layout, fused),
-            class: layout.shape.class,
+            class: class.id,
             number,
             at: to,
             levels: start.levels,

@@ -246,27 +246,26 @@ visit_fields-loop-fused-init g t c = record {
   ready = c.requires.ready;
   counted =
       let row = c.class_layout-class_layout.result.now in
-      let f = row_fused c.args.walk.now.classes.now c.args.layout.now.class_index row c.requires.placed c.class_layout-class_layout.ensures in
+      let f = row_fused c.args.walk.now.classes.now c.args.class.index row c.requires.placed c.class_layout-class_layout.ensures in
       (let e = ap length f.all in omega arith);
   visited =
       let walk = c.args.walk.now in
-      let layout = c.args.layout.now in
       let row = c.class_layout-class_layout.result.now in
-      let f = row_fused walk.classes.now layout.class_index row c.requires.placed c.class_layout-class_layout.ensures in
-      let shapes = field_shapes walk.classes.now layout.class_index in
-      let e : shapes ≡ shapes_of_layouts (left_by row.layouts.items row.fused_fields.items 0) = row_shapes walk.classes.now layout.class_index row c.requires.placed c.class_layout-class_layout.ensures ∙ ap shapes_of_layouts (sym f.all) in
-      subst (λ z. Visits (g.V.VisitLeaf.takes walk.with.now) walk.classes.now walk.bytes.now walk.end (fields_from layout.shape.class 0 shapes) shapes c.args.start.at c.args.visitor.now c.args.steps.now (fields_from layout.shape.class 0 z) z c.args.start.at c.args.visitor.now c.args.steps.now) e
-      (visits_none (g.V.VisitLeaf.takes walk.with.now) walk.classes.now walk.bytes.now walk.end (fields_from layout.shape.class 0 shapes) shapes c.args.start.at c.args.steps.now c.args.visitor.now);
+      let f = row_fused walk.classes.now c.args.class.index row c.requires.placed c.class_layout-class_layout.ensures in
+      let shapes = field_shapes walk.classes.now c.args.class.index in
+      let e : shapes ≡ shapes_of_layouts (left_by row.layouts.items row.fused_fields.items 0) = row_shapes walk.classes.now c.args.class.index row c.requires.placed c.class_layout-class_layout.ensures ∙ ap shapes_of_layouts (sym f.all) in
+      subst (λ z. Visits (g.V.VisitLeaf.takes walk.with.now) walk.classes.now walk.bytes.now walk.end (fields_from c.args.class.id 0 shapes) shapes c.args.start.at c.args.visitor.now c.args.steps.now (fields_from c.args.class.id 0 z) z c.args.start.at c.args.visitor.now c.args.steps.now) e
+      (visits_none (g.V.VisitLeaf.takes walk.with.now) walk.classes.now walk.bytes.now walk.end (fields_from c.args.class.id 0 shapes) shapes c.args.start.at c.args.steps.now c.args.visitor.now);
 }
 
 pub visit_fields-fused_layouts-requires : goal.visit_fields-fused_layouts-requires
-visit_fields-fused_layouts-requires g t c = (next_fused c.args.walk.now.classes.now c.args.layout.now.class_index c.class_layout-class_layout.result.now c.deref-fused-items.result.now c.loop-fused.fused-index _ _ (DepthBound c.args.walk.now.classes.now c.args.start.levels) c.requires.placed c.class_layout-class_layout.ensures c.requires.depth c.deref-fused-items.ensures.value c.loop-fused-test.true refl).fused
+visit_fields-fused_layouts-requires g t c = (next_fused c.args.walk.now.classes.now c.args.class.index c.class_layout-class_layout.result.now c.deref-fused-items.result.now c.loop-fused.fused-index _ _ (DepthBound c.args.walk.now.classes.now c.args.start.levels) c.requires.placed c.class_layout-class_layout.ensures c.requires.depth c.deref-fused-items.ensures.value c.loop-fused-test.true refl).fused
 
 pub visit_fields-overflow_add-number : goal.visit_fields-overflow_add-number
 visit_fields-overflow_add-number g t c =
     let row = c.class_layout-class_layout.result.now in
     let passed = c.fused_layouts.result.now in
-    let n = next_fused c.args.walk.now.classes.now c.args.layout.now.class_index c.class_layout-class_layout.result.now c.deref-fused-items.result.now c.loop-fused.fused-index _ passed (DepthBound c.args.walk.now.classes.now c.args.start.levels) c.requires.placed c.class_layout-class_layout.ensures c.requires.depth c.deref-fused-items.ensures.value c.loop-fused-test.true c.fused_layouts.ensures.exact in
+    let n = next_fused c.args.walk.now.classes.now c.args.class.index c.class_layout-class_layout.result.now c.deref-fused-items.result.now c.loop-fused.fused-index _ passed (DepthBound c.args.walk.now.classes.now c.args.start.levels) c.requires.placed c.class_layout-class_layout.ensures c.requires.depth c.deref-fused-items.ensures.value c.loop-fused-test.true c.fused_layouts.ensures.exact in
     let x = c.loop-fused.invariant.counted in
     let y = ap length n.left in
     let z = length-append passed (left_by row.layouts.items row.fused_fields.items (c.loop-fused.fused-index + 1)) in
@@ -275,15 +274,14 @@ visit_fields-overflow_add-number g t c =
 pub visit_fields-visit_fused-to-requires : goal.visit_fields-visit_fused-to-requires
 visit_fields-visit_fused-to-requires g t c =
     let walk = c.args.walk.now in
-    let layout = c.args.layout.now in
     let row = c.class_layout-class_layout.result.now in
     let passed = c.fused_layouts.result.now in
     let admits = g.V.VisitLeaf.admits walk.with.now in
-    let class = layout.shape.class in
-    let shapes = field_shapes walk.classes.now layout.class_index in
+    let class = c.args.class.id in
+    let shapes = field_shapes walk.classes.now c.args.class.index in
     let left = left_by row.layouts.items row.fused_fields.items c.loop-fused.fused-index in
     let rest = left_by row.layouts.items row.fused_fields.items (c.loop-fused.fused-index + 1) in
-    let n = next_fused c.args.walk.now.classes.now c.args.layout.now.class_index c.class_layout-class_layout.result.now c.deref-fused-items.result.now c.loop-fused.fused-index _ passed (DepthBound c.args.walk.now.classes.now c.args.start.levels) c.requires.placed c.class_layout-class_layout.ensures c.requires.depth c.deref-fused-items.ensures.value c.loop-fused-test.true c.fused_layouts.ensures.exact in
+    let n = next_fused c.args.walk.now.classes.now c.args.class.index c.class_layout-class_layout.result.now c.deref-fused-items.result.now c.loop-fused.fused-index _ passed (DepthBound c.args.walk.now.classes.now c.args.start.levels) c.requires.placed c.class_layout-class_layout.ensures c.requires.depth c.deref-fused-items.ensures.value c.loop-fused-test.true c.fused_layouts.ensures.exact in
     let each : AllByRecursion (IsFieldLayout walk.classes.now) passed = n.each in
     let few : c.loop-fused.number + length passed < 2 ^ 64 = (let x = c.loop-fused.invariant.counted in let y = ap length n.left in let z = length-append passed rest in omega (arith, c.fused_layouts.ensures.few)) in
     let passes = n.passes in
@@ -296,14 +294,13 @@ visit_fields-visit_fused-to-requires g t c =
 pub visit_fields-loop-fused-preserved : goal.visit_fields-loop-fused-preserved
 visit_fields-loop-fused-preserved g t c =
     let walk = c.args.walk.now in
-    let layout = c.args.layout.now in
     let row = c.class_layout-class_layout.result.now in
     let passed = c.fused_layouts.result.now in
-    let class = layout.shape.class in
-    let shapes = field_shapes walk.classes.now layout.class_index in
+    let class = c.args.class.id in
+    let shapes = field_shapes walk.classes.now c.args.class.index in
     let left = left_by row.layouts.items row.fused_fields.items c.loop-fused.fused-index in
     let rest = left_by row.layouts.items row.fused_fields.items (c.loop-fused.fused-index + 1) in
-    let n = next_fused c.args.walk.now.classes.now c.args.layout.now.class_index c.class_layout-class_layout.result.now c.deref-fused-items.result.now c.loop-fused.fused-index _ passed (DepthBound c.args.walk.now.classes.now c.args.start.levels) c.requires.placed c.class_layout-class_layout.ensures c.requires.depth c.deref-fused-items.ensures.value c.loop-fused-test.true c.fused_layouts.ensures.exact in
+    let n = next_fused c.args.walk.now.classes.now c.args.class.index c.class_layout-class_layout.result.now c.deref-fused-items.result.now c.loop-fused.fused-index _ passed (DepthBound c.args.walk.now.classes.now c.args.start.levels) c.requires.placed c.class_layout-class_layout.ensures c.requires.depth c.deref-fused-items.ensures.value c.loop-fused-test.true c.fused_layouts.ensures.exact in
     record {
       ready = c.visit_fused-to.ensures.ready;
       counted = (let x = c.loop-fused.invariant.counted in let y = ap length n.left in let z = length-append passed rest in omega (arith, n.count));
@@ -313,9 +310,9 @@ visit_fields-loop-fused-preserved g t c =
 pub visit_fields-returns-clause-visited : goal.visit_fields-returns-clause-visited
 visit_fields-returns-clause-visited g t c =
     let walk = c.args.walk.now in
-    let class = c.args.layout.now.shape.class in
+    let class = c.args.class.id in
     let row = c.class_layout-class_layout.result.now in
-    let shapes = field_shapes walk.classes.now c.args.layout.now.class_index in
+    let shapes = field_shapes walk.classes.now c.args.class.index in
     let left = left_by row.layouts.items row.fused_fields.items c.loop-fused.fused-index in
     let e : shapes_of_layouts left ≡ [] = ap shapes_of_layouts (left_none row.layouts.items row.fused_fields.items walk.classes.now 0 walk.bytes.now walk.end c.loop-fused.fused-index (rw c.deref-fused-items.ensures.value at c.loop-fused-test.false)) in
     visits_end (g.V.VisitLeaf.takes walk.with.now) walk.classes.now walk.bytes.now walk.end (fields_from class 0 shapes) (fields_from class c.loop-fused.number (shapes_of_layouts left)) shapes (shapes_of_layouts left) c.args.start.at c.loop-fused.to c.args.steps.now c.loop-fused.steps c.args.visitor.now c.loop-fused.visitor
