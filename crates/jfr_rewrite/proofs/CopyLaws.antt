@@ -1,5 +1,5 @@
 -- A changed value is what its leaves become, one after another.
-use Rattle.std.specs.Prelude.{◌≡◌, ℕ, zero, suc, ◌+◌, ◌-◌, ◌≤◌, Bool, true, false, List, [], ◌∷◌, ◌++◌, length, drop, take, Option, None, slice_range}
+use Rattle.std.specs.Prelude.{◌≡◌, ℕ, zero, suc, ◌+◌, ◌≤◌, Bool, true, false, List, [], ◌∷◌, ◌++◌, length, Option, None, slice_range}
 use Rattle.std.specs.List.{flat_map}
 use Rattle.std.specs.Option.{option_map_or}
 use Rattle.std.proofs.Common.{ap, append-nil, append_assoc, arith, refl, sym, ◌∙◌, inl, inr}
@@ -22,9 +22,6 @@ use Rattle.jfr_rewrite.specs.Rewrite.{changed_bytes}
 use Rattle.jfr_rewrite.specs.Writing.{changed_within}
 use Rattle.jfr_rewrite.proofs.ChangeLaws.{changed_leaves}
 use Rattle.jfr_rewrite.proofs.LaidLeaves.{AreLaid, marked_leaves}
-
-pub range_empty : (c : List ℕ) (at : ℕ) → slice_range c at at ≡ []
-range_empty c at = let z : at - at ≡ 0 = omega arith in ap (λ n. take n (drop at c)) z
 
 module _ (ch : Change) (k : Classes) where
   head_becomes : (holder : Option Holder) (at : ℕ) (s : Shape) (h : List ℕ) (ss : List Shape) → IsHead k s h ss → flat_map (leaf_becomes ch) (marked_leaves s.array holder at s h) ≡ h
@@ -111,7 +108,3 @@ leaf_waits ch p l copied out o b e =
     ap (λ z. out ++ z) (range_split p.bytes copied l.at (l.at + length l.spelled) o (omega arith))
     ∙ (sym (append_assoc out (slice_range p.bytes copied l.at) (slice_range p.bytes l.at (l.at + length l.spelled)))
     ∙ ap (λ z. (out ++ slice_range p.bytes copied l.at) ++ z) (b ∙ sym e))
-
--- After a leaf that is written, nothing waits.
-pub leaf_written : (bytes : List ℕ) (end : ℕ) (before after becomes : List ℕ) → after ≡ before ++ becomes → after ++ slice_range bytes end end ≡ before ++ becomes
-leaf_written bytes end before after becomes e = ap (λ z. after ++ z) (range_empty bytes end) ∙ (append-nil after ∙ e)
