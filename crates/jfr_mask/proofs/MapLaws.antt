@@ -1,26 +1,26 @@
 -- A dictionary's map after a text is added.
-use Rattle.std.specs.Prelude.{◌≡◌, ℕ, ◌+◌, ◌≤◌, Bool, true, false, cond, List, [], ◌∷◌, ◌++◌, length, option_map, slice_get, Option, Some, None, IsUtf8, if◌then◌else◌}
+use Rattle.std.specs.Prelude.{◌≡◌, ◌≢◌, ◌==◌, ℕ, ◌+◌, Bool, IsSome, is_some, Result, Ok, Err, IfOk, OnOk, true, false, cond, List, [], ◌∷◌, ◌++◌, length, option_map, slice_get, Option, Some, None, IsUtf8, if◌then◌else◌}
 use Rattle.std.specs.BTreeMap.{BTreeMap, UpdatesBy, is_at}
 use Rattle.std.specs.Cmp.{eq_by_cmp_equiv}
 use Rattle.std.specs.Cmp.Lexicographic.{slice_cmp, nat_list_cmp_total, nat_list_eq_equiv}
 use Rattle.std.specs.Map.{KeepsOthers}
-use Rattle.std.specs.Option.{unwrap_or}
 use Rattle.std.specs.Ordering.{is_eq, nat_cmp}
 use Rattle.std.specs.Rc.{rc_str_bytes}
 use Rattle.std.specs.Str.{bytes_eq, chars}
 use Rattle.std.specs.declared.cmp.Ordering.{Ordering}
 use Rattle.std.specs.declared.alloc.Global.{Global}
 use Rattle.std.specs.declared.rc.RcStr.{RcStr}
-use Rattle.std.proofs.Common.{ap, arith, refl, sym, subst, ◌∙◌}
+use Rattle.std.proofs.Common.{inl, inr, ap, refl, sym, subst, ◌∙◌}
+use Rattle.std.proofs.lemmas.Bool.{eqb-false, eqb-true}
 use Rattle.std.proofs.lemmas.List.{length-map, map-append}
 use Rattle.std.proofs.lemmas.Map.Text.{is_eq-slice_cmp}
 use Rattle.std.proofs.lemmas.Option.{slice_get-map}
 use Rattle.std.proofs.lemmas.Slice.Eq.{bytes_eq-Decides}
 use Rattle.std.proofs.lemmas.Str.{encodes-chars}
 use lib.Utf8.{encodes}
-use Rattle.jfr_mask.specs.Held.{AreNumbersOf, HasNumber, number_under, texts_in}
+use Rattle.jfr_mask.specs.Held.{AreNumbersOf, AreSame, IsNumbered, IsPut, first_under, number_under, text_hash, texts_in}
 use Rattle.jfr_mask.specs.Pseudonyms.{has_text, number_of}
-use Rattle.jfr_mask.proofs.NumberLaws.{distinct_added, eq_is, has_last, has_other, number_last, number_old, number_within}
+use Rattle.jfr_mask.proofs.NumberLaws.{distinct_added, eq_is, eq_self, has_append, has_last, has_other, number_last, number_old}
 
 abbrev key_cmp : RcStr Global → RcStr Global → Ordering
 key_cmp x y = slice_cmp nat_cmp (rc_str_bytes x) (rc_str_bytes y)
@@ -52,64 +52,128 @@ chars_apart a b u v = by_eq (bytes_eq (chars a) (chars b)) (bytes_eq a b) refl r
     by_eq true false e f = sym ((bytes_eq-Decides a b).1 (same (eq_is (chars a) (chars b) e))) ∙ f
     by_eq false true e f = sym e ∙ (bytes_eq-Decides (chars a) (chars b)).1 (ap chars (eq_is a b f))
 
--- A text that isn't there is added to the list and to the map, with the next number.
-pub numbers_added : (d : List (List ℕ)) (m n : BTreeMap (RcStr Global) ℕ) (text : List ℕ) (v : ℕ)
-    → AreNumbersOf d m → has_text d (chars text) ≡ false → IsUtf8 text → v ≡ length d + 1 → HasNumber m n text v → AreNumbersOf (d ++ chars text ∷ []) n
-numbers_added d m n text v old absent utf8 next u = record {
-  distinct = distinct_added d (chars text) old.distinct absent;
-  each = λ bytes b. u bytes ∙ by_eq bytes b (bytes_eq text bytes) refl;
+eqb_self : (n : ℕ) → (n == n) ≡ true
+eqb_self n = by_test (n == n) refl
+  where
+    by_test : (b : Bool) → (n == n) ≡ b → b ≡ true
+    by_test true e = refl
+    by_test false e = absurd (eqb-false n n e refl)
+
+-- A text that isn't there is added to the list and to a map, with the next number.
+module _ (d : List (List ℕ)) (firsts firsts_after : BTreeMap ℕ ℕ) (others others_after : BTreeMap (RcStr Global) ℕ) (text : List ℕ) (v : ℕ)
+    (old : AreNumbersOf d firsts others) (absent : has_text d (chars text) ≡ false) (utf8 : IsUtf8 text) (next : v ≡ length d + 1) (put : IsPut firsts others firsts_after others_after text (text_hash text) v) where
+  abbrev after : List (List ℕ)
+  after = d ++ chars text ∷ []
+
+  at_last : number_of after (chars text) ≡ v
+  at_last = number_last d (chars text) absent ∙ sym next
+
+  -- A hash that has a number keeps it.
+  kept : (q n : ℕ) → first_under firsts q ≡ Some n → first_under firsts_after q ≡ Some n
+  kept q n e = put.first q ∙ by_first (first_under firsts (text_hash text)) (text_hash text == q) refl refl
+    where
+      by_first : (o : Option ℕ) (b : Bool) → first_under firsts (text_hash text) ≡ o → (text_hash text == q) ≡ b → (if is_some o then first_under firsts q else cond b (Some v) (first_under firsts q)) ≡ Some n
+      by_first (Some m) b f g = e
+      by_first None false f g = e
+      by_first None true f g = let h : Some n ≡ None = sym e ∙ (ap (first_under firsts) (sym (eqb-true (text_hash text) q g)) ∙ f) in cc
+
+  other_kept : (bytes : List ℕ) → bytes_eq text bytes ≡ false → number_under others_after bytes ≡ number_under others bytes
+  other_kept bytes e = put.other bytes ∙ by_first (is_some (first_under firsts (text_hash text)))
+    where
+      by_first : (b : Bool) → (if b then cond (bytes_eq text bytes) (Some v) (number_under others bytes) else number_under others bytes) ≡ number_under others bytes
+      by_first true = ap (λ z. cond z (Some v) (number_under others bytes)) e
+      by_first false = refl
+
+  here : IsNumbered firsts_after others_after text v
+  here = by_first (first_under firsts (text_hash text)) refl
+    where
+      by_first : (o : Option ℕ) → first_under firsts (text_hash text) ≡ o → IsNumbered firsts_after others_after text v
+      by_first None f = inl (put.first (text_hash text) ∙ (ap (λ z. if is_some z then first_under firsts (text_hash text) else cond (text_hash text == text_hash text) (Some v) (first_under firsts (text_hash text))) f ∙ ap (λ b. cond b (Some v) (first_under firsts (text_hash text))) (eqb_self (text_hash text))))
+      by_first (Some n) f = inr (
+        ap is_some (kept (text_hash text) n f),
+        put.other text ∙ (ap (λ z. if is_some z then cond (bytes_eq text text) (Some v) (number_under others text) else number_under others text) f ∙ ap (λ b. cond b (Some v) (number_under others text)) (eq_self text)),
+      )
+
+  still : (bytes : List ℕ) (n : ℕ) → bytes_eq text bytes ≡ false → IsNumbered firsts others bytes n → IsNumbered firsts_after others_after bytes n
+  still bytes n e (inl f) = inl (kept (text_hash bytes) n f)
+  still bytes n e (inr f) = inr (some_kept (first_under firsts (text_hash bytes)) refl f.0, other_kept bytes e ∙ f.1)
+    where
+      some_kept : (o : Option ℕ) → first_under firsts (text_hash bytes) ≡ o → IsSome (first_under firsts (text_hash bytes)) → IsSome (first_under firsts_after (text_hash bytes))
+      some_kept None g s = let c : false ≡ true = sym (ap is_some g) ∙ s in cc
+      some_kept (Some m) g s = ap is_some (kept (text_hash bytes) m g)
+
+  pub numbers_added : AreNumbersOf after firsts_after others_after
+  numbers_added = record {
+    distinct = distinct_added d (chars text) old.distinct absent;
+    each = λ bytes b h. by_eq bytes b h (bytes_eq text bytes) refl;
+    listed = λ bytes n b h. by_listed bytes n b h (bytes_eq text bytes) refl;
+  }
+    where
+      by_eq : (bytes : List ℕ) → IsUtf8 bytes → has_text after (chars bytes) ≡ true → (b : Bool) → bytes_eq text bytes ≡ b → IsNumbered firsts_after others_after bytes (number_of after (chars bytes))
+      by_eq bytes u h true e = subst (λ z. IsNumbered firsts_after others_after z (number_of after (chars z))) (eq_is text bytes e) (subst (IsNumbered firsts_after others_after text) (sym at_last) here)
+      by_eq bytes u h false e =
+          let there : has_text d (chars bytes) ≡ true = sym (has_other d (chars text) (chars bytes) (chars_apart text bytes utf8 u ∙ e)) ∙ h in
+          subst (IsNumbered firsts_after others_after bytes) (sym (number_old d (chars text) (chars bytes) there)) (still bytes (number_of d (chars bytes)) e (old.each bytes u there))
+
+      by_listed : (bytes : List ℕ) (n : ℕ) → IsUtf8 bytes → number_under others_after bytes ≡ Some n → (b : Bool) → bytes_eq text bytes ≡ b → (has_text after (chars bytes) ≡ true) × (n ≡ number_of after (chars bytes))
+      by_listed bytes n u h false e =
+          let r = old.listed bytes n u (sym (other_kept bytes e) ∙ h) in
+          (has_append d (chars text ∷ []) (chars bytes) r.0, r.1 ∙ sym (number_old d (chars text) (chars bytes) r.0))
+      by_listed bytes n u h true e =
+          let r = by_text n (subst (λ z. number_under others_after z ≡ Some n) (sym (eq_is text bytes e)) h) in
+          subst (λ z. (has_text after (chars z) ≡ true) × (n ≡ number_of after (chars z))) (eq_is text bytes e) r
+        where
+          by_text : (n : ℕ) → number_under others_after text ≡ Some n → (has_text after (chars text) ≡ true) × (n ≡ number_of after (chars text))
+          by_text n h = (has_last d (chars text), by_first (first_under firsts (text_hash text)) refl ∙ sym at_last)
+            where
+              by_first : (o : Option ℕ) → first_under firsts (text_hash text) ≡ o → n ≡ v
+              by_first None f =
+                  let was : number_under others text ≡ Some n = sym (put.other text ∙ ap (λ z. if is_some z then cond (bytes_eq text text) (Some v) (number_under others text) else number_under others text) f) ∙ h in
+                  let clash : false ≡ true = sym absent ∙ (old.listed text n utf8 was).0 in cc
+              by_first (Some m) f =
+                  let is : Some v ≡ Some n = sym (put.other text ∙ (ap (λ z. if is_some z then cond (bytes_eq text text) (Some v) (number_under others text) else number_under others text) f ∙ ap (λ b. cond b (Some v) (number_under others text)) (eq_self text))) ∙ h in cc
+
+-- The same numbers are in other maps.
+pub numbers_same : (d : List (List ℕ)) (firsts after : BTreeMap ℕ ℕ) (others others_after : BTreeMap (RcStr Global) ℕ) → AreSame firsts others after others_after → AreNumbersOf d firsts others → AreNumbersOf d after others_after
+numbers_same d firsts after others others_after s a = record {
+  distinct = a.distinct;
+  each = λ bytes u h. by_number bytes (number_of d (chars bytes)) (a.each bytes u h);
+  listed = λ bytes n u h. a.listed bytes n u (sym (s.other bytes) ∙ h);
 }
   where
-    by_old : (bytes : List ℕ) (b : Bool) → has_text d (chars bytes) ≡ b
-        → (if b then Some (number_of d (chars bytes)) else None) ≡ (if b then Some (number_of (d ++ chars text ∷ []) (chars bytes)) else None)
-    by_old bytes true h = ap Some (sym (number_old d (chars text) (chars bytes) h))
-    by_old bytes false h = refl
+    by_number : (bytes : List ℕ) (n : ℕ) → IsNumbered firsts others bytes n → IsNumbered after others_after bytes n
+    by_number bytes n (inl e) = inl (s.first (text_hash bytes) ∙ e)
+    by_number bytes n (inr e) = inr (ap is_some (s.first (text_hash bytes)) ∙ e.0, s.other bytes ∙ e.1)
 
-    by_eq : (bytes : List ℕ) → IsUtf8 bytes → (b : Bool) → bytes_eq text bytes ≡ b
-        → cond b (Some v) (number_under m bytes) ≡ (if has_text (d ++ chars text ∷ []) (chars bytes) then Some (number_of (d ++ chars text ∷ []) (chars bytes)) else None)
-    by_eq bytes b true e =
-        let at : Some v ≡ (if has_text (d ++ chars text ∷ []) (chars text) then Some (number_of (d ++ chars text ∷ []) (chars text)) else None) =
-        ap Some (next ∙ sym (number_last d (chars text) absent)) ∙ ap (λ z. if z then Some (number_of (d ++ chars text ∷ []) (chars text)) else None) (sym (has_last d (chars text))) in
-        subst (λ z. Some v ≡ (if has_text (d ++ chars text ∷ []) (chars z) then Some (number_of (d ++ chars text ∷ []) (chars z)) else None)) (eq_is text bytes e) at
-    by_eq bytes b false e =
-        let same : has_text (d ++ chars text ∷ []) (chars bytes) ≡ has_text d (chars bytes) = has_other d (chars text) (chars bytes) (chars_apart text bytes utf8 b ∙ e) in
-        old.each bytes b ∙ (by_old bytes (has_text d (chars bytes)) refl ∙ ap (λ z. if z then Some (number_of (d ++ chars text ∷ []) (chars bytes)) else None) (sym same))
+-- A text that is added has the last number.
+pub added_last : {E : Type 0} (r : Result ℕ E) (d new : List (List ℕ)) (t : List ℕ) → has_text d t ≡ false → OnOk r (new ≡ d ++ t ∷ []) → IfOk r (λ n. n ≡ length d + 1) → IfOk r (λ n. n ≡ number_of new t)
+added_last (Ok n) d new t h e m = m ∙ (sym (number_last d t h) ∙ ap (λ z. number_of z t) (sym e))
+added_last (Err x) d new t h e m = tt
 
--- A text that is there keeps its number.
-pub numbers_kept : (d : List (List ℕ)) (m n : BTreeMap (RcStr Global) ℕ) (text : List ℕ) (v : ℕ)
-    → AreNumbersOf d m → has_text d (chars text) ≡ true → IsUtf8 text → v ≡ number_of d (chars text) → HasNumber m n text v → AreNumbersOf d n
-numbers_kept d m n text v old there utf8 is u = record {
-  distinct = old.distinct;
-  each = λ bytes b. u bytes ∙ by_eq bytes b (bytes_eq text bytes) refl;
-}
+-- The number that is found by the hash of a text.
+pub found_none : (d : List (List ℕ)) (firsts : BTreeMap ℕ ℕ) (others : BTreeMap (RcStr Global) ℕ) (bytes : List ℕ) → AreNumbersOf d firsts others → IsUtf8 bytes → first_under firsts (text_hash bytes) ≡ None → has_text d (chars bytes) ≡ false
+found_none d firsts others bytes a u e = by_there (has_text d (chars bytes)) refl
   where
-    by_eq : (bytes : List ℕ) → IsUtf8 bytes → (b : Bool) → bytes_eq text bytes ≡ b
-        → cond b (Some v) (number_under m bytes) ≡ (if has_text d (chars bytes) then Some (number_of d (chars bytes)) else None)
-    by_eq bytes b true e =
-        let at : Some v ≡ (if has_text d (chars text) then Some (number_of d (chars text)) else None) =
-        ap Some is ∙ ap (λ z. if z then Some (number_of d (chars text)) else None) (sym there) in
-        subst (λ z. Some v ≡ (if has_text d (chars z) then Some (number_of d (chars z)) else None)) (eq_is text bytes e) at
-    by_eq bytes b false e = old.each bytes b
+    by_there : (b : Bool) → has_text d (chars bytes) ≡ b → b ≡ false
+    by_there false h = refl
+    by_there true h = by_number (a.each bytes u h)
+      where
+        by_number : IsNumbered firsts others bytes (number_of d (chars bytes)) → true ≡ false
+        by_number (inl f) = let c : None ≡ Some (number_of d (chars bytes)) = sym e ∙ f in cc
+        by_number (inr f) = let c : false ≡ true = sym (ap is_some e) ∙ f.0 in cc
 
-module _ (d : List (List ℕ)) (m : BTreeMap (RcStr Global) ℕ) (text : List ℕ) (v next : ℕ) (a : AreNumbersOf d m) (utf8 : IsUtf8 text) (n : next ≡ length d + 1) (is : v ≡ unwrap_or (number_under m text) next) where
-  found : v ≡ unwrap_or (if has_text d (chars text) then Some (number_of d (chars text)) else None) next
-  found = is ∙ ap (λ o. unwrap_or o next) (a.each text utf8)
-
-  -- A text that has got the next number wasn't there.
-  pub next_absent : v ≡ next → has_text d (chars text) ≡ false
-  next_absent e = by_there (has_text d (chars text)) refl found
-    where
-      by_there : (b : Bool) → has_text d (chars text) ≡ b → v ≡ unwrap_or (if b then Some (number_of d (chars text)) else None) next → b ≡ false
-      by_there false h f = refl
-      by_there true h f = let w : number_of d (chars text) ≤ length d = number_within d (chars text) h in absurd (omega (arith, w, f, e, n))
-
-  -- A text that has another number was there.
-  pub other_there : (v ≡ next → ⊥) → (has_text d (chars text) ≡ true) × (v ≡ number_of d (chars text))
-  other_there apart = by_there (has_text d (chars text)) refl found
-    where
-      by_there : (b : Bool) → has_text d (chars text) ≡ b → v ≡ unwrap_or (if b then Some (number_of d (chars text)) else None) next → (has_text d (chars text) ≡ true) × (v ≡ number_of d (chars text))
-      by_there true h f = (h, f)
-      by_there false h f = absurd (apart f)
+pub found_other : (d : List (List ℕ)) (firsts : BTreeMap ℕ ℕ) (others : BTreeMap (RcStr Global) ℕ) (bytes : List ℕ) (n : ℕ) → AreNumbersOf d firsts others → IsUtf8 bytes → first_under firsts (text_hash bytes) ≡ Some n
+    → (has_text d (chars bytes) ≡ true → n ≢ number_of d (chars bytes)) → number_under others bytes ≡ (if has_text d (chars bytes) then Some (number_of d (chars bytes)) else None)
+found_other d firsts others bytes n a u e apart = by_there (has_text d (chars bytes)) (number_under others bytes) refl refl
+  where
+    by_there : (b : Bool) (o : Option ℕ) → has_text d (chars bytes) ≡ b → number_under others bytes ≡ o → o ≡ (if b then Some (number_of d (chars bytes)) else None)
+    by_there false None h g = refl
+    by_there false (Some m) h g = let c : false ≡ true = sym h ∙ (a.listed bytes m u g).0 in cc
+    by_there true o h g = by_number (a.each bytes u h)
+      where
+        by_number : IsNumbered firsts others bytes (number_of d (chars bytes)) → o ≡ Some (number_of d (chars bytes))
+        by_number (inl f) = let c : Some n ≡ Some (number_of d (chars bytes)) = sym e ∙ f in absurd (apart h cc)
+        by_number (inr f) = sym g ∙ f.1
 
 -- The texts of a list after one more.
 pub texts_added : (old new : List (RcStr Global)) (shared : RcStr Global) (text : List ℕ) → new ≡ old ++ shared ∷ [] → rc_str_bytes shared ≡ text → texts_in new ≡ texts_in old ++ chars text ∷ []

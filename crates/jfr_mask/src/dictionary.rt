@@ -1,27 +1,28 @@
 //! The dictionary of masked texts.
-ghost use Rattle.std.specs.Prelude.{◌≡◌, ◌+◌, ◌-◌, ◌∷◌, ◌++◌, ◌↔◌, ◌<◌, [], length, IfOk, IfSome, IsTrue, OnErr, OnOk, None, Some, false, true, slice_get, if◌then◌else◌};
-ghost use Rattle.std.specs.BTreeMap.{IsUnchanged};
-ghost use Rattle.std.specs.Option.{unwrap_or};
-ghost use Rattle.std.specs.Rc.{rc_str_bytes};
+ghost use Rattle.std.specs.Prelude.{◌≡◌, ◌≢◌, ◌==◌, ◌+◌, ◌∷◌, ◌++◌, ◌↔◌, ◌<◌, ℕ, List, [], cond, length, IfOk, IfSome, IsTrue, OnErr, OnOk, None, Some, false, true, slice_get, if◌then◌else◌};
 ghost use Rattle.std.specs.Str.{chars};
 ghost use Rattle.jfr_base.specs.Texts.{text_in};
-ghost use Rattle.jfr_mask.specs.Held.{AreNumbersOf, HasNumber, number_under, texts_in};
+ghost use Rattle.jfr_mask.specs.Held.{AreNumbersOf, AreSame, HasNumber, IsPut, first_under, number_under, text_hash, texts_in};
 ghost use Rattle.jfr_mask.specs.Pseudonyms.{has_text, number_of, with_text};
 
 use crate::slots::Slots;
 use jfr_base::NoMemory;
 use std::alloc::Global;
 use std::collections::BTreeMap;
+use std::hash::{FoldHasher, Hash, Hasher};
 use std::marker::Model;
 use std::rc::RcStr;
 
-/// Distinct texts, each with its number, which is its index in the list, from 1. The list and the map share each text's
-/// bytes. Contracts see the list.
+/// Distinct texts, each with its number, which is its index in the list, from 1. A number is found by the hash of its
+/// text, and only if other texts have the same hash, by the text. Contracts see the list.
 #[derive(Drop)]
 pub struct Dictionary {
     alloc: Global,
     texts: Vec<RcStr>,
-    numbers: BTreeMap<RcStr, u64>,
+    /// For each hash, the number of the first text that has it.
+    firsts: BTreeMap<u64, u64>,
+    /// The numbers of the other texts: of those whose hash a text before them has.
+    others: BTreeMap<RcStr, u64>,
     /// Hints to the numbers, so that few texts are looked up in the map.
     slots: Slots,
 }
@@ -34,7 +35,7 @@ impl Model for Dictionary {
 
     ghost view = { λ d. texts_in d.texts.items };
 
-    ghost invariant = { λ d. AreNumbersOf (texts_in d.texts.items) d.numbers };
+    ghost invariant = { λ d. AreNumbersOf (texts_in d.texts.items) d.firsts d.others };
 }
 
 impl Dictionary {
@@ -45,7 +46,8 @@ impl Dictionary {
         Dictionary {
             alloc,
             texts: Vec::new(alloc),
-            numbers: BTreeMap::new(alloc),
+            firsts: BTreeMap::new(alloc),
+            others: BTreeMap::new(alloc),
             slots: Slots::new(alloc),
         }
     }
@@ -54,11 +56,24 @@ impl Dictionary {
     pub fn number(&self, text: &str) -> Option<u64>
         ensures { result ≡ (if has_text self.now (chars text.now) then Some (number_of self.now (chars text.now)) else None) }
     {
-        let hint = self.slots.find(text).hint;
+        let hash = hash_of(text);
+        let hint = self.slots.find(hash).hint;
         if self.has_number(text, hint) {
             return Some(hint);
         }
-        self.numbers.get(text).copied()
+        self.number_by_hash(text, hash)
+    }
+
+    /// As `number`, given the hash of the text.
+    fn number_by_hash(&self, text: &str, hash: u64) -> Option<u64>
+        requires { hash ≡ text_hash text.now }
+        ensures { result ≡ (if has_text self.now (chars text.now) then Some (number_of self.now (chars text.now)) else None) }
+    {
+        let first = first_under(&self.firsts, hash)?;
+        if self.has_number(text, first) {
+            return Some(first);
+        }
+        number_under(&self.others, text)
     }
 
     /// The number of a text, or the next number if the dictionary doesn't have it.
@@ -85,12 +100,13 @@ impl Dictionary {
     fn has_number(&self, text: &str, number: u64) -> bool
         ensures there { IsTrue result → has_text self.now (chars text.now) ≡ true }
         ensures number { IsTrue result → number ≡ number_of self.now (chars text.now) }
+        ensures apart { result ≡ false → has_text self.now (chars text.now) ≡ true → number ≢ number_of self.now (chars text.now) }
     {
         let Some(at) = number.checked_sub(1) else {
             return false;
         };
         match self.get(at as usize) {
-            Some(found) => found == text,
+            Some(found) => is_same(found, text),
             None => false,
         }
     }
@@ -102,28 +118,54 @@ impl Dictionary {
         ensures number { IfOk result (λ number. number ≡ number_of self.new (chars text.now)) }
         ensures unchanged { OnErr result (self.new ≡ self.old) }
     {
-        let spot = self.slots.find(text);
+        let hash = hash_of(text);
+        let spot = self.slots.find(hash);
         if self.has_number(text, spot.hint) {
             return Ok(spot.hint);
         }
-        let number = self.add_by_map(text, spot.hint != 0)?;
+        let number = self.add_by_hash(text, hash)?;
         self.slots.put(spot, number);
         self.widen();
         Ok(number)
     }
 
-    /// As `add`, without a hint. If the text may be there, it is looked up before it is copied.
-    fn add_by_map(&mut self, text: &str, may_be_there: bool) -> Result<u64, NoMemory>
+    /// As `add`, given the hash of the text, and without a hint.
+    fn add_by_hash(&mut self, text: &str, hash: u64) -> Result<u64, NoMemory>
+        requires { hash ≡ text_hash text.now }
         ensures ok { OnOk result (self.new ≡ with_text self.old (chars text.now)) }
         ensures number { IfOk result (λ number. number ≡ number_of self.new (chars text.now)) }
         ensures unchanged { OnErr result (self.new ≡ self.old) }
     {
-        if may_be_there {
-            if let Some(number) = self.numbers.get(text) {
-                return Ok(*number);
+        if let Some(number) = self.number_by_hash(text, hash) {
+            return Ok(number);
+        }
+        self.append(text, hash)
+    }
+
+    /// Adds a text that isn't there at the end, and returns its number. If memory runs out, nothing is added.
+    fn append(&mut self, text: &str, hash: u64) -> Result<u64, NoMemory>
+        requires hash { hash ≡ text_hash text.now }
+        requires absent { has_text self.old (chars text.now) ≡ false }
+        ensures ok { OnOk result (self.new ≡ self.old ++ chars text.now ∷ []) }
+        ensures number { IfOk result (λ number. number ≡ length self.old + 1) }
+        ensures unchanged { OnErr result (self.new ≡ self.old) }
+    {
+        let number = self.texts.len() as u64 + 1;
+        self.texts.push(RcStr::from_str(self.alloc, text)?)?;
+        match put_number(
+            self.alloc,
+            &mut self.firsts,
+            &mut self.others,
+            text,
+            hash,
+            number,
+        ) {
+            Ok(()) => Ok(number),
+            Err(NoMemory) => {
+                let _ = self.texts.pop();
+                Err(NoMemory)
             }
         }
-        append(self.alloc, &mut self.texts, &mut self.numbers, text)
     }
 
     /// Makes more slots if there are too few. If memory runs out, they stay too few.
@@ -172,43 +214,75 @@ impl Dictionary {
     }
 }
 
-/// Adds a text, unless it is there, and returns its number. The map is searched only once. If memory runs out, nothing
-/// is added.
-fn append(
-    alloc: Global,
-    texts: &mut Vec<RcStr>,
-    numbers: &mut BTreeMap<RcStr, u64>,
-    text: &str,
-) -> Result<u64, NoMemory>
-    requires numbers { AreNumbersOf (texts_in texts.old.items) numbers.old }
-    ensures numbers { AreNumbersOf (texts_in texts.new.items) numbers.new }
-    ensures ok { OnOk result (texts_in texts.new.items ≡ with_text (texts_in texts.old.items) (chars text.now)) }
-    ensures number { IfOk result (λ number. number ≡ number_of (texts_in texts.new.items) (chars text.now)) }
-    ensures unchanged { OnErr result (texts_in texts.new.items ≡ texts_in texts.old.items) }
+/// Whether two texts are the same.
+fn is_same(found: &str, text: &str) -> bool
+    ensures same { IsTrue result → found.now ≡ text.now }
+    ensures apart { result ≡ false → chars found.now ≢ chars text.now }
 {
-    let next = texts.len() as u64 + 1;
-    let key = RcStr::from_str(alloc, text)?;
-    texts.push(key.clone()?)?;
-    let number = match number_of_key(numbers, key, next) {
-        Ok(number) => number,
-        Err(NoMemory) => {
-            let _ = texts.pop();
-            return Err(NoMemory);
-        }
-    };
-    if number == next {
-        return Ok(number);
-    }
-    let _ = texts.pop();
-    Ok(number)
+    found == text
 }
 
-/// The number of a key in the map. If it has none, it gets the next one.
-fn number_of_key(numbers: &mut BTreeMap<RcStr, u64>, key: RcStr, next: u64) -> Result<u64, NoMemory>
-    ensures number { IfOk result (λ number. number ≡ unwrap_or (number_under numbers.old (rc_str_bytes key)) next) }
-    ensures has { IfOk result (HasNumber numbers.old numbers.new (rc_str_bytes key)) }
-    ensures unchanged { OnErr result (IsUnchanged numbers.old numbers.new) }
+/// The hash of a text. It depends on nothing else.
+#[tactic(auto, unfolding(crate::specs::Held::text_hash))]
+fn hash_of(text: &str) -> u64
+    ensures { result ≡ text_hash text.now }
 {
-    let number = numbers.entry(key)?.or_insert(next);
-    Ok(*number)
+    let mut hasher = FoldHasher::default();
+    text.hash(&mut hasher);
+    hasher.finish()
+}
+
+/// The number under a hash.
+fn first_under(firsts: &BTreeMap<u64, u64>, hash: u64) -> Option<u64>
+    ensures { result ≡ first_under firsts.now hash }
+{
+    firsts.get(&hash).copied()
+}
+
+/// The number under a text.
+fn number_under(others: &BTreeMap<RcStr, u64>, text: &str) -> Option<u64>
+    ensures { result ≡ number_under others.now text.now }
+{
+    others.get(text).copied()
+}
+
+/// Puts the number of a text under its hash, or if that has one, under the text.
+fn put_number(
+    alloc: Global,
+    firsts: &mut BTreeMap<u64, u64>,
+    others: &mut BTreeMap<RcStr, u64>,
+    text: &str,
+    hash: u64,
+    number: u64,
+) -> Result<(), NoMemory>
+    ensures ok { OnOk result (IsPut firsts.old others.old firsts.new others.new text.now hash number) }
+    ensures unchanged { OnErr result (AreSame firsts.old others.old firsts.new others.new) }
+{
+    if first_under(firsts, hash).is_some() {
+        return put_other(alloc, others, text, number);
+    }
+    put_first(firsts, hash, number)
+}
+
+/// Puts a number under a hash.
+fn put_first(firsts: &mut BTreeMap<u64, u64>, hash: u64, number: u64) -> Result<(), NoMemory>
+    ensures ok { OnOk result ((q : ℕ) → first_under firsts.new q ≡ cond (hash == q) (Some number) (first_under firsts.old q)) }
+    ensures unchanged { OnErr result ((q : ℕ) → first_under firsts.new q ≡ first_under firsts.old q) }
+{
+    firsts.insert(hash, number)?;
+    Ok(())
+}
+
+/// Puts a number under a text.
+fn put_other(
+    alloc: Global,
+    others: &mut BTreeMap<RcStr, u64>,
+    text: &str,
+    number: u64,
+) -> Result<(), NoMemory>
+    ensures ok { OnOk result (HasNumber others.old others.new text.now number) }
+    ensures unchanged { OnErr result ((bytes : List ℕ) → number_under others.new bytes ≡ number_under others.old bytes) }
+{
+    others.insert(RcStr::from_str(alloc, text)?, number)?;
+    Ok(())
 }

@@ -2,7 +2,6 @@
 
 use jfr_base::NoMemory;
 use std::alloc::Global;
-use std::hash::{FoldHasher, Hash, Hasher};
 
 /// There are at least this many slots for each text.
 const SLOTS_PER_TEXT: usize = 2;
@@ -80,11 +79,9 @@ impl Slots {
         texts <= self.slots.len() / SLOTS_PER_TEXT
     }
 
-    /// The first spot for a text that is empty or has the tag of its hash, or else the first one.
-    pub(crate) fn find(&self, text: &str) -> Spot {
-        let mut hasher = FoldHasher::default();
-        text.hash(&mut hasher);
-        self.spot_of((hasher.finish() >> 32) as u32)
+    /// The first spot for a text with this hash that is empty or has its tag, or else the first one.
+    pub(crate) fn find(&self, hash: u64) -> Spot {
+        self.spot_of((hash >> 32) as u32)
     }
 
     /// The spot for a text with this tag. Greater tags are in later slots, so a table is copied from front to back.

@@ -7,7 +7,6 @@ use Rattle.jfr_mask.specs.Maskers.{leaf_texts_by}
 use Rattle.jfr_mask.specs.Pseudonyms.{has_text, with_texts}
 use Rattle.jfr_rewrite.proofs.LaidLeaves.{leaves_here, node_lies}
 use Rattle.jfr_mask.proofs.LeafMasks.{node_texts_are}
-use Rattle.jfr_mask.proofs.PlainLaws.{node_no_texts}
 use Rattle.jfr_mask.proofs.VisitorLaws.{adds_all}
 use Rattle.jfr_mask.proofs.numbering.Numbering.add_leaves.Goals as goal
 

@@ -1,14 +1,8 @@
-use Rattle.std.proofs.Common.{ap, sym, subst, ◌∙◌}
-use Rattle.std.specs.List.{flat_map}
-use Rattle.jfr_value.specs.Leaves.{leaves}
+use Rattle.std.proofs.Common.{ap, sym, subst}
 use Rattle.jfr_value.specs.Nodes.{IsNode, node_of}
 use Rattle.jfr_mask.specs.Masked.{is_held_masked}
-use Rattle.jfr_mask.specs.Maskers.{leaf_texts_by}
 use Rattle.jfr_mask.specs.Pseudonyms.{has_text, with_texts}
-use Rattle.jfr_rewrite.proofs.LaidLeaves.{leaves_here, node_lies}
-use Rattle.jfr_mask.proofs.LeafMasks.{node_texts_are}
 use Rattle.jfr_mask.proofs.PlainLaws.{node_no_texts}
-use Rattle.jfr_mask.proofs.VisitorLaws.{adds_all}
 use Rattle.jfr_mask.proofs.numbering.Numbering.add_node.Goals as goal
 
 pub returns-then-are_none_in : goal.returns-then-are_none_in
