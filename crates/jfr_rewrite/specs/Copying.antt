@@ -34,5 +34,6 @@ pub record LiesIn (p : Parts) (l : LeafAt) : Type 0 where
 abbrev pub Copies : List ℕ → ℕ → ℕ → List ℕ → ValueCopy → ValueCopy → Type 0
 Copies bytes at end becomes old new = new.failed ≡ false → (old.failed ≡ false) × (new.out.items ++ slice_range bytes new.copied end ≡ (old.out.items ++ slice_range bytes old.copied at) ++ becomes)
 
+-- A leaf of the chunk that the change changes so.
 abbrev pub CopiesLeaf : Change → Parts → LeafAt → ValueCopy → ValueCopy → Type 0
 CopiesLeaf ch p l old new = Copies p.bytes l.at (l.at + length l.spelled) (leaf_becomes ch l) old new
