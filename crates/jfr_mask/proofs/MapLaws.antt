@@ -1,5 +1,5 @@
 -- A dictionary's map after a text is added.
-use Rattle.std.specs.Prelude.{◌≡◌, ◌≢◌, ◌==◌, ℕ, ◌+◌, Bool, IsSome, is_some, Result, Ok, Err, IfOk, OnOk, true, false, cond, List, [], ◌∷◌, ◌++◌, length, option_map, slice_get, Option, Some, None, IsUtf8, if◌then◌else◌}
+use Rattle.std.specs.Prelude.{◌≡◌, ◌==◌, ℕ, ◌+◌, Bool, IsSome, is_some, Result, Ok, Err, IfOk, OnOk, true, false, cond, List, [], ◌∷◌, ◌++◌, length, option_map, slice_get, Option, Some, None, IsUtf8, if◌then◌else◌}
 use Rattle.std.specs.BTreeMap.{BTreeMap, UpdatesBy, is_at}
 use Rattle.std.specs.Cmp.{eq_by_cmp_equiv}
 use Rattle.std.specs.Cmp.Lexicographic.{slice_cmp, nat_list_cmp_total, nat_list_eq_equiv}
@@ -149,31 +149,6 @@ numbers_same d firsts after others others_after s a = record {
 pub added_last : {E : Type 0} (r : Result ℕ E) (d new : List (List ℕ)) (t : List ℕ) → has_text d t ≡ false → OnOk r (new ≡ d ++ t ∷ []) → IfOk r (λ n. n ≡ length d + 1) → IfOk r (λ n. n ≡ number_of new t)
 added_last (Ok n) d new t h e m = m ∙ (sym (number_last d t h) ∙ ap (λ z. number_of z t) (sym e))
 added_last (Err x) d new t h e m = tt
-
--- The number that is found by the hash of a text.
-pub found_none : (d : List (List ℕ)) (firsts : BTreeMap ℕ ℕ) (others : BTreeMap (RcStr Global) ℕ) (bytes : List ℕ) → AreNumbersOf d firsts others → IsUtf8 bytes → first_under firsts (text_hash bytes) ≡ None → has_text d (chars bytes) ≡ false
-found_none d firsts others bytes a u e = by_there (has_text d (chars bytes)) refl
-  where
-    by_there : (b : Bool) → has_text d (chars bytes) ≡ b → b ≡ false
-    by_there false h = refl
-    by_there true h = by_number (a.each bytes u h)
-      where
-        by_number : IsNumbered firsts others bytes (number_of d (chars bytes)) → true ≡ false
-        by_number (inl f) = let c : None ≡ Some (number_of d (chars bytes)) = sym e ∙ f in cc
-        by_number (inr f) = let c : false ≡ true = sym (ap is_some e) ∙ f.0 in cc
-
-pub found_other : (d : List (List ℕ)) (firsts : BTreeMap ℕ ℕ) (others : BTreeMap (RcStr Global) ℕ) (bytes : List ℕ) (n : ℕ) → AreNumbersOf d firsts others → IsUtf8 bytes → first_under firsts (text_hash bytes) ≡ Some n
-    → (has_text d (chars bytes) ≡ true → n ≢ number_of d (chars bytes)) → number_under others bytes ≡ (if has_text d (chars bytes) then Some (number_of d (chars bytes)) else None)
-found_other d firsts others bytes n a u e apart = by_there (has_text d (chars bytes)) (number_under others bytes) refl refl
-  where
-    by_there : (b : Bool) (o : Option ℕ) → has_text d (chars bytes) ≡ b → number_under others bytes ≡ o → o ≡ (if b then Some (number_of d (chars bytes)) else None)
-    by_there false None h g = refl
-    by_there false (Some m) h g = let c : false ≡ true = sym h ∙ (a.listed bytes m u g).0 in cc
-    by_there true o h g = by_number (a.each bytes u h)
-      where
-        by_number : IsNumbered firsts others bytes (number_of d (chars bytes)) → o ≡ Some (number_of d (chars bytes))
-        by_number (inl f) = let c : Some n ≡ Some (number_of d (chars bytes)) = sym e ∙ f in absurd (apart h cc)
-        by_number (inr f) = sym g ∙ f.1
 
 -- The texts of a list after one more.
 pub texts_added : (old new : List (RcStr Global)) (shared : RcStr Global) (text : List ℕ) → new ≡ old ++ shared ∷ [] → rc_str_bytes shared ≡ text → texts_in new ≡ texts_in old ++ chars text ∷ []
