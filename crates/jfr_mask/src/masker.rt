@@ -13,7 +13,7 @@ ghost use Rattle.jfr_mask.specs.Written.{shown_bytes, utf8_string};
 
 use crate::noted::NotedTexts;
 use crate::shown::is_unmasked;
-use crate::texts::{MaskedStrings, leaf_text};
+use crate::texts::{MaskedStrings, leaf_text, payload_of};
 use crate::widths::width_of;
 use crate::{Dictionary, Known, MaskedFields, Shown};
 use jfr_base::{NoMemory, push_var};
@@ -135,12 +135,15 @@ impl Masker<'_, '_> {
         Some(Shown::pseudonym(text, index as u64 + 1))
     }
 
-    /// As `put_string`. The text is made.
+    /// As `put_string`. The text is made, unless the payload is the text.
     fn put_made(&self, out: &mut Vec<u8>, leaf: &Leaf<'_>) -> Result<(), NoMemory>
         requires string { is_string_leaf leaf.now.kind ≡ true }
         requires lies { LiesIn self.now.strings.chunk.now (leaf_of leaf.now) }
         ensures ok { OnOk result (out.new.items ≡ out.old.items ++ string_bytes (option_map (shown_by self.now) (leaf_text self.now.strings.chunk.now (leaf_of leaf.now)))) }
     {
+        if let Some(text) = payload_of(leaf) {
+            return self.put_text(out, text);
+        }
         match leaf_text(self.alloc, self.strings.chunk, leaf)? {
             Some(text) => self.put_text(out, text.as_str()),
             None => Ok(out.push(NULL_BYTE)?),
