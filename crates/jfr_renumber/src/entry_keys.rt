@@ -58,8 +58,9 @@ impl<'k> NewKeys for EntryKeys<'k> {
 
     ghost keys = { number_or_zero };
 
-    /// The new key of a class and a key, or 0 if they aren't used.
-    #[inline]
+    /// The new key of a class and a key, or 0 if they aren't used. The visit of a value's leaves calls this in several
+    /// places. It isn't inlined, since a small visit is itself inlined where it is called.
+    #[inline(never)]
     fn new_key(&self, class: u64, key: u64) -> u64 {
         match self.pools.entry(class, key) {
             Some(number) => self.by_entry[number],

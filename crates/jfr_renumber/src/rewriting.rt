@@ -82,7 +82,7 @@ fn new_reference<N: NewKeys>(leaf: &Leaf<'_>, key: u64, new: &N) -> Option<NewKe
 }
 
 /// As `new_leaf`, for a string.
-#[inline(always)]
+#[inline(never)]
 fn new_string<N: NewKeys>(leaf: &Leaf<'_>, new: &N) -> Option<NewKey>
     requires kind { leaf.now.kind ≡ leaf_kinds.Base kinds.Text }
     requires key { KeyIsSpelled (leaf_of leaf.now) }
