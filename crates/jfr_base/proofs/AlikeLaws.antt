@@ -36,8 +36,19 @@ alike_reads {B = B} R (Int c f) (Int d g) e x y end to_end p q n v r cp h =
     let w : q + k + l ≡ q + n = omega arith in
     let rest : Reads (f u b) x end (p + k) v (p + k + l) = subst (λ m. Reads (f u b) x end m v (p + k + l)) t (subst (Reads (f u b) x end r.0 v) z r.5) in
     let a = alike_reads R (f u b) (g u b) (e u b).1 x y end to_end (p + k) (q + k) l v rest cut.1 (omega arith) in
-    let same : b ≡ slice_range y q (q + k) = ap (slice_range x p) t ∙ cut.0.same in
-    (a.0, a.1, (q + k, u, copy_int x y p q k u cut.0 (subst (λ m. IntAt x p m u) t r.2), omega arith, (e u b).0 r.4, subst (λ s. Reads (g u s) y to_end (q + k) a.0 (q + n)) same (subst (Reads (g u b) y to_end (q + k) a.0) w a.2)))
+    let same : b ≡ slice_range y q (q + k) = ap (slice_range x p) t ∙ cut.0.same in (
+      a.0,
+      a.1,
+      (
+        q + k,
+        u,
+        copy_int x y p q k u cut.0 (subst (λ m. IntAt x p m u) t r.2),
+        omega arith,
+        (e u b).0 r.4,
+        subst (λ s. Reads (g u s) y to_end (q + k) a.0 (q + n)) same
+            (subst (Reads (g u b) y to_end (q + k) a.0) w a.2),
+      ),
+    )
 alike_reads {B = B} R (Byte c f) (Byte d g) e x y end to_end p q n v r cp h =
     let b : ℕ = slice_index x p in
     let i : p + 1 ≤ p + n = reads_order (f b) x end (p + 1) v (p + n) r.2 in

@@ -19,7 +19,8 @@ copy_cut x y p q a b c =
     let v : p + (a + b) ≤ length x = c.from_within in
     let w : q + (a + b) ≤ length y = c.to_within in
     let s : slice_range x p (p + a) ++ slice_range x (p + a) (p + a + b) ≡ slice_range y q (q + a) ++ slice_range y (q + a) (q + a + b) =
-    sym (range_split x p (p + a) (p + a + b) (omega arith) (omega arith)) ∙ (ap (slice_range x p) (sym e) ∙ (c.same ∙ (ap (slice_range y q) f ∙ range_split y q (q + a) (q + a + b) (omega arith) (omega arith)))) in
+    sym (range_split x p (p + a) (p + a + b) (omega arith) (omega arith))
+    ∙ (ap (slice_range x p) (sym e) ∙ (c.same ∙ (ap (slice_range y q) f ∙ range_split y q (q + a) (q + a + b) (omega arith) (omega arith)))) in
     let l : length (slice_range x p (p + a)) ≡ length (slice_range y q (q + a)) = range_length x p (p + a) (omega arith) ∙ (omega arith ∙ sym (range_length y q (q + a) (omega arith))) in
     let o = one_run (slice_range x p (p + a)) (slice_range y q (q + a)) (slice_range x (p + a) (p + a + b)) (slice_range y (q + a) (q + a + b)) s l in
     (record { same = o.0; from_within = omega arith; to_within = omega arith }, record { same = o.1; from_within = omega arith; to_within = omega arith })

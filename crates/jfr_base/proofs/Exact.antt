@@ -77,7 +77,8 @@ pub int_found : (x : List ℕ) (at end : ℕ) (v : Var) → at ≤ end → end �
 unfolding int_at
 int_found x at end v h i e = by_front (prefix_length 8 (slice_range x at end)) refl e
   where
-    by_front : (o : Option ℕ) → prefix_length 8 (slice_range x at end) ≡ o → option_map (λ n. record { value = worth_within 8 (slice_range x at (at + n)); end = at + n }) o ≡ Some v → IntAt x at v.end v.value × (v.end ≤ end)
+    by_front : (o : Option ℕ) → prefix_length 8 (slice_range x at end) ≡ o → option_map (λ n. record { value = worth_within 8 (slice_range x at (at + n)); end = at + n }) o ≡ Some v
+        → IntAt x at v.end v.value × (v.end ≤ end)
     by_front None f g = cc
     by_front (Some n) f g =
         let p = front_is 8 (slice_range x at end) n f in
@@ -118,17 +119,20 @@ run_reads_or_fails {A = A} (Stop next) x end at h i = by_test (cases_lt at end) 
     by_test (inr j) s = let t : nat_lt at end ≡ false = grind arith in rw t (after (run next x end at) j s)
 run_reads_or_fails {A = A} (Int check next) x end at h i = by_int (int_at x at end) refl (λ v s q j. run_reads_or_fails (next v s) x end q j i)
   where
-    after : (v : Var) (o : Option Reason) (r : Answer A) → check v.value ≡ o → IntAt x at v.end v.value × (v.end ≤ end) → ReadsOrFails (next v.value (slice_range x at v.end)) x end v.end r → ReadsOrFails (Int check next) x end at (checked at o r)
+    after : (v : Var) (o : Option Reason) (r : Answer A) → check v.value ≡ o → IntAt x at v.end v.value × (v.end ≤ end) → ReadsOrFails (next v.value (slice_range x at v.end)) x end v.end r
+        → ReadsOrFails (Int check next) x end at (checked at o r)
     after v None (Ok g) e p s = (v.end, v.value, p.0, p.1, e, s)
     after v None (Err w) e p s = inr (v.end, v.value, p.0, p.1, inr (e, s))
     after v (Some why) r e p s = inr (v.end, v.value, p.0, p.1, inl (e, refl))
 
-    by_int : (o : Option Var) → int_at x at end ≡ o → ((v : ℕ) (s : List ℕ) (q : ℕ) → q ≤ end → ReadsOrFails (next v s) x end q (run (next v s) x end q)) → ReadsOrFails (Int check next) x end at (after_int x at check (λ v s p. run (next v s) x end p) o)
+    by_int : (o : Option Var) → int_at x at end ≡ o → ((v : ℕ) (s : List ℕ) (q : ℕ) → q ≤ end → ReadsOrFails (next v s) x end q (run (next v s) x end q))
+        → ReadsOrFails (Int check next) x end at (after_int x at check (λ v s p. run (next v s) x end p) o)
     by_int None e s = inl (int_none x at end i e, refl, refl)
     by_int (Some v) e s = let p = int_found x at end v h i e in after v (check v.value) (run (next v.value (slice_range x at v.end)) x end v.end) refl p (s v.value (slice_range x at v.end) v.end p.1)
 run_reads_or_fails {A = A} (Byte check next) x end at h i = by_test (cases_lt at end) (λ j. run_reads_or_fails (next (slice_index x at)) x end (at + 1) j i)
   where
-    after : (o : Option Reason) (r : Answer A) → check (slice_index x at) ≡ o → at < end → ReadsOrFails (next (slice_index x at)) x end (at + 1) r → ReadsOrFails (Byte check next) x end at (checked at o r)
+    after : (o : Option Reason) (r : Answer A) → check (slice_index x at) ≡ o → at < end → ReadsOrFails (next (slice_index x at)) x end (at + 1) r
+        → ReadsOrFails (Byte check next) x end at (checked at o r)
     after None (Ok g) e j s = (j, e, s)
     after None (Err w) e j s = inr (j, inr (e, s))
     after (Some why) r e j s = inr (j, inl (e, refl))

@@ -50,13 +50,37 @@ exact_with (Done a) g c b y e = record { value = a; front = []; rest = b; split 
 exact_with (Stop next) g c b y e = absurd e
 exact_with (Int check next) g c b y e =
     let i = exact_with (next e.2 e.0) g (c ++ e.0) e.1 y e.6 in
-    record { value = i.value; front = e.0 ++ i.front; rest = i.rest; split = behind e.0 e.1 i.front i.rest b e.3 i.split; first = (e.0, i.front, e.2, refl, e.4, e.5, i.first); second = subst (λ z. Exactly (g i.value z) i.rest y) (append_assoc c e.0 i.front) i.second }
+    record {
+      value = i.value;
+      front = e.0 ++ i.front;
+      rest = i.rest;
+      split = behind e.0 e.1 i.front i.rest b e.3 i.split;
+      first = (e.0, i.front, e.2, refl, e.4, e.5, i.first);
+      second = subst
+          (λ z. Exactly (g i.value z) i.rest y) (append_assoc c e.0 i.front) i.second;
+    }
 exact_with (Byte check next) g c b y e =
     let i = exact_with (next e.0) g (c ++ (e.0 ∷ [])) e.1 y e.4 in
-    record { value = i.value; front = e.0 ∷ i.front; rest = i.rest; split = e.2 ∙ ap (λ z. e.0 ∷ z) i.split; first = (e.0, i.front, refl, e.3, i.first); second = subst (λ z. Exactly (g i.value z) i.rest y) (append_assoc c (e.0 ∷ []) i.front) i.second }
+    record {
+      value = i.value;
+      front = e.0 ∷ i.front;
+      rest = i.rest;
+      split = e.2 ∙ ap (λ z. e.0 ∷ z) i.split;
+      first = (e.0, i.front, refl, e.3, i.first);
+      second = subst
+          (λ z. Exactly (g i.value z) i.rest y) (append_assoc c (e.0 ∷ []) i.front) i.second;
+    }
 exact_with (Run n next) g c b y e =
     let i = exact_with (next e.0) g (c ++ e.0) e.1 y e.4 in
-    record { value = i.value; front = e.0 ++ i.front; rest = i.rest; split = behind e.0 e.1 i.front i.rest b e.2 i.split; first = (e.0, i.front, refl, e.3, i.first); second = subst (λ z. Exactly (g i.value z) i.rest y) (append_assoc c e.0 i.front) i.second }
+    record {
+      value = i.value;
+      front = e.0 ++ i.front;
+      rest = i.rest;
+      split = behind e.0 e.1 i.front i.rest b e.2 i.split;
+      first = (e.0, i.front, refl, e.3, i.first);
+      second = subst
+          (λ z. Exactly (g i.value z) i.rest y) (append_assoc c e.0 i.front) i.second;
+    }
 exact_with (Here next) g c b y e = absurd e
 exact_with (Refuse why) g c b y e = absurd e
 
@@ -69,7 +93,8 @@ times_more f g m (suc n) b vs e =
     bind_exact g (λ a. times n g >>= λ rest. Done (a ∷ rest)) i.front i.rest b i.value vs i.split (m i.front i.value i.first)
     (bind_exact (times n g) (λ rest. Done (i.value ∷ rest)) j.front j.rest i.rest j.value vs j.split (times_more f g m n j.front j.value j.first) j.second)
 
-pub each_more : {X A : Type 0} (f g : X → Format A) → ((x : X) (b : List ℕ) (a : A) → Exactly (f x) b a → Exactly (g x) b a) → (xs : List X) (b : List ℕ) (vs : List A) → Exactly (for_each xs f) b vs → Exactly (for_each xs g) b vs
+pub each_more : {X A : Type 0} (f g : X → Format A) → ((x : X) (b : List ℕ) (a : A) → Exactly (f x) b a → Exactly (g x) b a) → (xs : List X) (b : List ℕ) (vs : List A) → Exactly (for_each xs f) b vs
+    → Exactly (for_each xs g) b vs
 each_more f g m [] b vs e = e
 each_more f g m (x ∷ xs) b vs e =
     let i = exact_bind (f x) (λ a. for_each xs f >>= λ rest. Done (a ∷ rest)) b vs e in

@@ -30,18 +30,23 @@ pub end_or_flaw-made : {A B : Type 0} (f : Format A) (g : A → B) (x : List ℕ
 unfolding run
 end_or_flaw-made f g x end at = end_or_flaw-bind f (λ a. Done (g a)) (λ p. Ok p) x end at (λ a p. refl) ∙ then_at_ok (end_or_flaw (run f x end at))
 
-pub end_or_flaw-times : {A : Type 0} (n : ℕ) (f : Format A) (x : List ℕ) (end at : ℕ) → end_or_flaw (run (times (suc n) f) x end at) ≡ then_at (end_or_flaw (run f x end at)) (λ p. end_or_flaw (run (times n f) x end p))
-end_or_flaw-times n f x end at = end_or_flaw-bind f (λ a. times n f >>= λ rest. Done (a ∷ rest)) (λ p. end_or_flaw (run (times n f) x end p)) x end at (λ a p. end_or_flaw-made (times n f) (λ rest. a ∷ rest) x end p)
+pub end_or_flaw-times : {A : Type 0} (n : ℕ) (f : Format A) (x : List ℕ) (end at : ℕ)
+    → end_or_flaw (run (times (suc n) f) x end at) ≡ then_at (end_or_flaw (run f x end at)) (λ p. end_or_flaw (run (times n f) x end p))
+end_or_flaw-times n f x end at = end_or_flaw-bind f (λ a. times n f >>= λ rest. Done (a ∷ rest)) (λ p. end_or_flaw (run (times n f) x end p)) x end at
+    (λ a p. end_or_flaw-made (times n f) (λ rest. a ∷ rest) x end p)
 
-pub end_or_flaw-for_each : {X A : Type 0} (y : X) (ys : List X) (f : X → Format A) (x : List ℕ) (end at : ℕ) → end_or_flaw (run (for_each (y ∷ ys) f) x end at) ≡ then_at (end_or_flaw (run (f y) x end at)) (λ p. end_or_flaw (run (for_each ys f) x end p))
-end_or_flaw-for_each y ys f x end at = end_or_flaw-bind (f y) (λ a. for_each ys f >>= λ rest. Done (a ∷ rest)) (λ p. end_or_flaw (run (for_each ys f) x end p)) x end at (λ a p. end_or_flaw-made (for_each ys f) (λ rest. a ∷ rest) x end p)
+pub end_or_flaw-for_each : {X A : Type 0} (y : X) (ys : List X) (f : X → Format A) (x : List ℕ) (end at : ℕ)
+    → end_or_flaw (run (for_each (y ∷ ys) f) x end at) ≡ then_at (end_or_flaw (run (f y) x end at)) (λ p. end_or_flaw (run (for_each ys f) x end p))
+end_or_flaw-for_each y ys f x end at = end_or_flaw-bind (f y) (λ a. for_each ys f >>= λ rest. Done (a ∷ rest)) (λ p. end_or_flaw (run (for_each ys f) x end p)) x end at
+    (λ a p. end_or_flaw-made (for_each ys f) (λ rest. a ∷ rest) x end p)
 
 end_or_flaw-checked : {A B : Type 0} (at : ℕ) (o : Option Reason) (r : Answer A) (q : Answer B) → end_or_flaw r ≡ end_or_flaw q → end_or_flaw (checked at o r) ≡ end_or_flaw (checked at o q)
 end_or_flaw-checked at None r q h = h
 end_or_flaw-checked at (Some why) r q h = refl
 
 -- Nor does what is made of the value and its bytes.
-pub end_or_flaw-with : {A B : Type 0} (b : List ℕ) (f : Format A) (g : A → List ℕ → B) (x : List ℕ) (end at : ℕ) → end_or_flaw (run (with_bytes b f (λ a s. Done (g a s))) x end at) ≡ end_or_flaw (run f x end at)
+pub end_or_flaw-with : {A B : Type 0} (b : List ℕ) (f : Format A) (g : A → List ℕ → B) (x : List ℕ) (end at : ℕ)
+    → end_or_flaw (run (with_bytes b f (λ a s. Done (g a s))) x end at) ≡ end_or_flaw (run f x end at)
 unfolding run
 end_or_flaw-with b (Done a) g x end at = refl
 end_or_flaw-with b (Stop next) g x end at = by_test (nat_lt at end) (end_or_flaw-with b next g x end at)
@@ -55,12 +60,14 @@ end_or_flaw-with b (Int check next) g x end at = by_int (int_at x at end) (λ v 
     by_int : (o : Option Var) → ((v : ℕ) (s : List ℕ) (p : ℕ) → end_or_flaw (run (with_bytes (b ++ s) (next v s) (λ a s. Done (g a s))) x end p) ≡ end_or_flaw (run (next v s) x end p))
         → end_or_flaw (after_int x at check (λ v s p. run (with_bytes (b ++ s) (next v s) (λ a s. Done (g a s))) x end p) o) ≡ end_or_flaw (after_int x at check (λ v s p. run (next v s) x end p) o)
     by_int None h = refl
-    by_int (Some v) h = end_or_flaw-checked at (check v.value) (run (with_bytes (b ++ slice_range x at v.end) (next v.value (slice_range x at v.end)) (λ a s. Done (g a s))) x end v.end) (run (next v.value (slice_range x at v.end)) x end v.end) (h v.value (slice_range x at v.end) v.end)
+    by_int (Some v) h = end_or_flaw-checked at (check v.value) (run (with_bytes (b ++ slice_range x at v.end) (next v.value (slice_range x at v.end)) (λ a s. Done (g a s))) x end v.end)
+        (run (next v.value (slice_range x at v.end)) x end v.end) (h v.value (slice_range x at v.end) v.end)
 end_or_flaw-with b (Byte check next) g x end at = by_test (nat_lt at end) (end_or_flaw-with (b ++ (slice_index x at ∷ [])) (next (slice_index x at)) g x end (at + 1))
   where
     by_test : (t : Bool) → end_or_flaw (run (with_bytes (b ++ (slice_index x at ∷ [])) (next (slice_index x at)) (λ a s. Done (g a s))) x end (at + 1)) ≡ end_or_flaw (run (next (slice_index x at)) x end (at + 1))
         → end_or_flaw (if t then checked at (check (slice_index x at)) (run (with_bytes (b ++ (slice_index x at ∷ [])) (next (slice_index x at)) (λ a s. Done (g a s))) x end (at + 1)) else refused at Short) ≡ end_or_flaw (if t then checked at (check (slice_index x at)) (run (next (slice_index x at)) x end (at + 1)) else refused at Short)
-    by_test true h = end_or_flaw-checked at (check (slice_index x at)) (run (with_bytes (b ++ (slice_index x at ∷ [])) (next (slice_index x at)) (λ a s. Done (g a s))) x end (at + 1)) (run (next (slice_index x at)) x end (at + 1)) h
+    by_test true h = end_or_flaw-checked at (check (slice_index x at)) (run (with_bytes (b ++ (slice_index x at ∷ [])) (next (slice_index x at)) (λ a s. Done (g a s))) x end (at + 1))
+        (run (next (slice_index x at)) x end (at + 1)) h
     by_test false h = refl
 end_or_flaw-with b (Run n next) g x end at = by_test (nat_le (at + n) end) (end_or_flaw-with (b ++ slice_range x at (at + n)) (next (slice_range x at (at + n))) g x end (at + n))
   where

@@ -24,7 +24,8 @@ run-bind (Int check next) g x end at = by_int (int_at x at end) (λ v s p. run-b
     by_int : (o : Option Var) → ((v : ℕ) (s : List ℕ) (p : ℕ) → run (next v s >>= g) x end p ≡ on (run (next v s) x end p) (λ a p. run (g a) x end p))
         → after_int x at check (λ v s p. run (next v s >>= g) x end p) o ≡ on (after_int x at check (λ v s p. run (next v s) x end p) o) (λ a p. run (g a) x end p)
     by_int None h = refl
-    by_int (Some v) h = ap (λ r. checked at (check v.value) r) (h v.value (slice_range x at v.end) v.end) ∙ checked-on at (check v.value) (run (next v.value (slice_range x at v.end)) x end v.end) (λ a p. run (g a) x end p)
+    by_int (Some v) h = ap (λ r. checked at (check v.value) r) (h v.value (slice_range x at v.end) v.end)
+        ∙ checked-on at (check v.value) (run (next v.value (slice_range x at v.end)) x end v.end) (λ a p. run (g a) x end p)
 run-bind (Byte check next) g x end at = by_test (nat_lt at end) (run-bind (next (slice_index x at)) g x end (at + 1))
   where
     by_test : (t : Bool) → run (next (slice_index x at) >>= g) x end (at + 1) ≡ on (run (next (slice_index x at)) x end (at + 1)) (λ a p. run (g a) x end p)

@@ -31,7 +31,8 @@ reads_exact (Int check next) x end at a to h i p r =
     record { order = omega (arith, j.order); within = j.within; exact = (slice_range x at r.0, slice_range x r.0 to, r.1, range_split x at r.0 to o j.order, r.2.spelled, r.4, j.exact) }
 reads_exact (Byte check next) x end at a to h i p r =
     let j = reads_exact (next (slice_index x at)) x end (at + 1) a to h (omega (arith, r.0)) (p (slice_index x at)) r.2 in
-    let s : slice_range x at to ≡ slice_index x at ∷ slice_range x (at + 1) to = range_split x at (at + 1) to (omega arith) j.order ∙ ap (λ z. z ++ slice_range x (at + 1) to) (range_one x at (omega (arith, r.0))) in
+    let s : slice_range x at to ≡ slice_index x at ∷ slice_range x (at + 1) to =
+    range_split x at (at + 1) to (omega arith) j.order ∙ ap (λ z. z ++ slice_range x (at + 1) to) (range_one x at (omega (arith, r.0))) in
     record { order = omega (arith, j.order); within = j.within; exact = (slice_index x at, slice_range x (at + 1) to, s, r.1, j.exact) }
 reads_exact (Run n next) x end at a to h i p r =
     let j = reads_exact (next (slice_range x at (at + n))) x end (at + n) a to h r.0 (p (slice_range x at (at + n))) r.1 in

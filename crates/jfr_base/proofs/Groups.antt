@@ -36,7 +36,8 @@ pub going_none : (k : ℕ) (x : List ℕ) (place end value weight : ℕ) → end
 unfolding going_on
 going_none k x place end value weight h = ap (λ z. option_map (λ n. var (value + weight * worth_within k (slice_range x place (place + n))) (place + n)) (prefix_length k z)) (range_none x place end h)
 
-found : (k : ℕ) (x : List ℕ) (place end value weight n w : ℕ) → prefix_length k (slice_range x place end) ≡ Some n → worth_within k (slice_range x place (place + n)) ≡ w → going_on k x place end value weight ≡ Some (var (value + weight * w) (place + n))
+found : (k : ℕ) (x : List ℕ) (place end value weight n w : ℕ) → prefix_length k (slice_range x place end) ≡ Some n → worth_within k (slice_range x place (place + n)) ≡ w
+    → going_on k x place end value weight ≡ Some (var (value + weight * w) (place + n))
 unfolding going_on
 found k x place end value weight n w f e =
     ap (option_map (λ m. var (value + weight * worth_within k (slice_range x place (place + m))) (place + m))) f ∙ ap (λ z. Some (var (value + weight * z) (place + n))) e
@@ -50,7 +51,8 @@ worth_small zero b h = refl
 worth_small (suc k) b h = omega arith
 
 -- The last group of seven bits.
-pub going_last : (k : ℕ) (x : List ℕ) (place end value weight : ℕ) → place < end → end ≤ length x → slice_index x place < 128 → going_on k x place end value weight ≡ Some (var (value + weight * slice_index x place) (place + 1))
+pub going_last : (k : ℕ) (x : List ℕ) (place end value weight : ℕ) → place < end → end ≤ length x → slice_index x place < 128
+    → going_on k x place end value weight ≡ Some (var (value + weight * slice_index x place) (place + 1))
 going_last k x place end value weight h i j =
     let p : place < length x = omega arith in
     found k x place end value weight 1 (slice_index x place)
@@ -66,7 +68,8 @@ going_ninth x place end value weight h i =
     (ap (worth_within 0) (range_one x place p))
 
 -- A group with more to come.
-pub going_next : (k : ℕ) (x : List ℕ) (place end value weight : ℕ) → place < end → end ≤ length x → 128 ≤ slice_index x place → going_on (suc k) x place end value weight ≡ going_on k x (place + 1) end (value + weight * (slice_index x place % 128)) (weight * 128)
+pub going_next : (k : ℕ) (x : List ℕ) (place end value weight : ℕ) → place < end → end ≤ length x → 128 ≤ slice_index x place
+    → going_on (suc k) x place end value weight ≡ going_on k x (place + 1) end (value + weight * (slice_index x place % 128)) (weight * 128)
 unfolding going_on
 going_next k x place end value weight h i j =
     let p : place < length x = omega arith in
@@ -80,15 +83,18 @@ going_next k x place end value weight h i j =
     sums : (v g b w : ℕ) → v + g * (b + 128 * w) ≡ (v + g * b) + (g * 128) * w
     sums v g b w = omega arith
 
-    step : (n : ℕ) → place < length x → after (suc n) ≡ var ((value + weight * (slice_index x place % 128)) + (weight * 128) * worth_within k (slice_range x (place + 1) ((place + 1) + n))) ((place + 1) + n)
+    step : (n : ℕ) → place < length x
+        → after (suc n) ≡ var ((value + weight * (slice_index x place % 128)) + (weight * 128) * worth_within k (slice_range x (place + 1) ((place + 1) + n))) ((place + 1) + n)
     step n p =
         let e : place + suc n ≡ (place + 1) + n = omega arith in
-        let f : slice_range x place (place + suc n) ≡ slice_index x place ∷ slice_range x (place + 1) ((place + 1) + n) = ap (slice_range x place) e ∙ range_cons x place ((place + 1) + n) (omega arith) p in
+        let f : slice_range x place (place + suc n) ≡ slice_index x place ∷ slice_range x (place + 1) ((place + 1) + n) =
+        ap (slice_range x place) e ∙ range_cons x place ((place + 1) + n) (omega arith) p in
         ap (λ z. var (value + weight * worth_within (suc k) z) (place + suc n)) f
         ∙ (ap (λ z. var z (place + suc n)) (sums value weight (slice_index x place % 128) (worth_within k (slice_range x (place + 1) ((place + 1) + n))))
         ∙ ap (var ((value + weight * (slice_index x place % 128)) + (weight * 128) * worth_within k (slice_range x (place + 1) ((place + 1) + n)))) e)
 
-    by_front : (o : Option ℕ) → place < length x → option_map after (option_map (λ n. suc n) o) ≡ option_map (λ n. var ((value + weight * (slice_index x place % 128)) + (weight * 128) * worth_within k (slice_range x (place + 1) ((place + 1) + n))) ((place + 1) + n)) o
+    by_front : (o : Option ℕ) → place < length x
+        → option_map after (option_map (λ n. suc n) o) ≡ option_map (λ n. var ((value + weight * (slice_index x place % 128)) + (weight * 128) * worth_within k (slice_range x (place + 1) ((place + 1) + n))) ((place + 1) + n)) o
     by_front None p = refl
     by_front (Some n) p = ap (λ z. Some z) (step n p)
 
@@ -111,7 +117,8 @@ module _ (shift byte : ℕ) (room : shift ≤ 56) (bound : byte < 256) where
       let q = weight_most in
       omega arith
 
-  pub last_is : (x : List ℕ) (at end place value : ℕ) → (r : Reading x at end place value shift) → place < end → end ≤ length x → byte ≡ slice_index x place → (byte < 128) ⊎ (shift ≡ 56) → int_at x at end ≡ Some (var (value + byte * 2 ^ shift % 18446744073709551616) (place + 1))
+  pub last_is : (x : List ℕ) (at end place value : ℕ) → (r : Reading x at end place value shift) → place < end → end ≤ length x → byte ≡ slice_index x place → (byte < 128) ⊎ (shift ≡ 56)
+      → int_at x at end ≡ Some (var (value + byte * 2 ^ shift % 18446744073709551616) (place + 1))
   last_is x at end place value r h i e t =
       r.same ∙ (by_test t ∙ ap (λ z. Some (var (value + z) (place + 1))) (ap (λ b. 2 ^ shift * b) (sym e) ∙ sym shifted))
     where
@@ -122,7 +129,8 @@ module _ (shift byte : ℕ) (room : shift ≤ 56) (bound : byte < 256) where
           subst (λ k. going_on k x place end value (2 ^ shift) ≡ Some (var (value + 2 ^ shift * slice_index x place) (place + 1))) (sym z) (going_ninth x place end value (2 ^ shift) h i)
 
 -- A group of seven bits, with more to come.
-pub reading_next : (x : List ℕ) (at end place value shift byte : ℕ) → (r : Reading x at end place value shift) → place < end → end ≤ length x → byte ≡ slice_index x place → 128 ≤ byte → (shift ≡ 56 → ⊥)
+pub reading_next : (x : List ℕ) (at end place value shift byte : ℕ) → (r : Reading x at end place value shift) → place < end → end ≤ length x → byte ≡ slice_index x place → 128 ≤ byte
+    → (shift ≡ 56 → ⊥)
     → Reading x at end (place + 1) (value + byte % 128 * 2 ^ shift % 18446744073709551616) (shift + 7)
 reading_next x at end place value shift byte r h i e j n = by_groups r.groups refl
   where
@@ -136,10 +144,12 @@ reading_next x at end place value shift byte r h i e j n = by_groups r.groups re
         let m : value < 2 ^ shift = r.small in
         let f : going_on r.groups x place end value (2 ^ shift) ≡ going_on k x (place + 1) end (value + 2 ^ shift * (slice_index x place % 128)) (2 ^ shift * 128) =
         ap (λ g. going_on g x place end value (2 ^ shift)) z ∙ going_next k x place end value (2 ^ shift) h i (omega arith) in
-        let t : value + 2 ^ shift * (slice_index x place % 128) ≡ value + byte % 128 * 2 ^ shift % 18446744073709551616 = ap (λ b. value + 2 ^ shift * (b % 128)) (sym e) ∙ ap (λ y. value + y) (sym s) in
+        let t : value + 2 ^ shift * (slice_index x place % 128) ≡ value + byte % 128 * 2 ^ shift % 18446744073709551616 =
+        ap (λ b. value + 2 ^ shift * (b % 128)) (sym e) ∙ ap (λ y. value + y) (sym s) in
         record {
           groups = k;
           room = omega (arith, r.room);
           small = omega arith;
-          same = r.same ∙ (f ∙ (ap (λ v. going_on k x (place + 1) end v (2 ^ shift * 128)) t ∙ ap (λ w. going_on k x (place + 1) end (value + byte % 128 * 2 ^ shift % 18446744073709551616) w) (sym p)));
+          same = r.same ∙ (f ∙ (ap (λ v. going_on k x (place + 1) end v (2 ^ shift * 128)) t
+              ∙ ap (λ w. going_on k x (place + 1) end (value + byte % 128 * 2 ^ shift % 18446744073709551616) w) (sym p)));
         }

@@ -22,7 +22,8 @@ holds_parts x end at a b h =
     let l : length (a ++ b) ≡ length a + length b = length-append a b in
     let v : at + length (a ++ b) ≤ end = h.within in
     let w : end ≤ length x = h.inside in
-    let s : slice_range x at (at + length a) ++ slice_range x (at + length a) (at + length (a ++ b)) ≡ a ++ b = sym (range_split x at (at + length a) (at + length (a ++ b)) (omega arith) (omega arith)) ∙ h.bytes in
+    let s : slice_range x at (at + length a) ++ slice_range x (at + length a) (at + length (a ++ b)) ≡ a ++ b =
+    sym (range_split x at (at + length a) (at + length (a ++ b)) (omega arith) (omega arith)) ∙ h.bytes in
     let n : length (slice_range x at (at + length a)) ≡ length a = range_length x at (at + length a) (omega arith) ∙ omega arith in
     let e : at + length (a ++ b) ≡ at + length a + length b = omega arith in
     let o = one_run (slice_range x at (at + length a)) a (slice_range x (at + length a) (at + length (a ++ b))) b s n in

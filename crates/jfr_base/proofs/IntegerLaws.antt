@@ -38,10 +38,12 @@ front_or_none (suc k) (b ∷ bs) = by_test (cases_lt b 128) (front_or_none k bs)
     less (f ∷ []) rest h n e s = let i : b ≡ f = cc in omega arith
     less (f ∷ g ∷ fs) rest h n e s = n (g ∷ fs) rest (cc) s.1
 
-    by_rest : 128 ≤ b → (((f r : List ℕ) × (bs ≡ f ++ r) × IsSpellingWithin k f) ⊎ ((f r : List ℕ) → bs ≡ f ++ r → IsSpellingWithin k f → ⊥)) → ((front rest : List ℕ) × (b ∷ bs ≡ front ++ rest) × IsSpellingWithin (suc k) front) ⊎ ((front rest : List ℕ) → b ∷ bs ≡ front ++ rest → IsSpellingWithin (suc k) front → ⊥)
+    by_rest : 128 ≤ b → (((f r : List ℕ) × (bs ≡ f ++ r) × IsSpellingWithin k f) ⊎ ((f r : List ℕ) → bs ≡ f ++ r → IsSpellingWithin k f → ⊥))
+        → ((front rest : List ℕ) × (b ∷ bs ≡ front ++ rest) × IsSpellingWithin (suc k) front) ⊎ ((front rest : List ℕ) → b ∷ bs ≡ front ++ rest → IsSpellingWithin (suc k) front → ⊥)
     by_rest h (inl found) = inl (b ∷ found.0, found.1, ap (λ xs. b ∷ xs) found.2, more found.0 h found.3)
     by_rest h (inr n) = inr (λ front rest. less front rest h n)
 
-    by_test : ((b < 128) ⊎ (128 ≤ b)) → (((f r : List ℕ) × (bs ≡ f ++ r) × IsSpellingWithin k f) ⊎ ((f r : List ℕ) → bs ≡ f ++ r → IsSpellingWithin k f → ⊥)) → ((front rest : List ℕ) × (b ∷ bs ≡ front ++ rest) × IsSpellingWithin (suc k) front) ⊎ ((front rest : List ℕ) → b ∷ bs ≡ front ++ rest → IsSpellingWithin (suc k) front → ⊥)
+    by_test : ((b < 128) ⊎ (128 ≤ b)) → (((f r : List ℕ) × (bs ≡ f ++ r) × IsSpellingWithin k f) ⊎ ((f r : List ℕ) → bs ≡ f ++ r → IsSpellingWithin k f → ⊥))
+        → ((front rest : List ℕ) × (b ∷ bs ≡ front ++ rest) × IsSpellingWithin (suc k) front) ⊎ ((front rest : List ℕ) → b ∷ bs ≡ front ++ rest → IsSpellingWithin (suc k) front → ⊥)
     by_test (inl h) r = inl (b ∷ [], bs, refl, h)
     by_test (inr h) r = by_rest h r

@@ -36,7 +36,8 @@ none_computed x at end h i n = by_answer (int_at x at end) refl
     by_answer None e = refl
     by_answer (Some w) e = let f = int_found x at end w h i e in absurd (n w.end w.value f.0 f.1)
 
-checked_fails : {A : Type 0} (at o : ℕ) (why : Reason) (c : Option Reason) (r : Answer A) (F : Type 0) → ((c ≡ Some why) × (o ≡ at)) ⊎ ((c ≡ None) × F) → (F → r ≡ refused o why) → checked at c r ≡ refused o why
+checked_fails : {A : Type 0} (at o : ℕ) (why : Reason) (c : Option Reason) (r : Answer A) (F : Type 0) → ((c ≡ Some why) × (o ≡ at)) ⊎ ((c ≡ None) × F) → (F → r ≡ refused o why)
+    → checked at c r ≡ refused o why
 checked_fails at o why c r F (inl e) k = ap (λ z. checked at z r) e.0 ∙ ap (λ p. refused p why) (sym e.1)
 checked_fails at o why c r F (inr e) k = ap (λ z. checked at z r) e.0 ∙ k e.1
 
@@ -81,7 +82,8 @@ module _ (x : List ℕ) (end : ℕ) (inside : end ≤ length x) where
       ∙ (ap (λ p. refused p Short) (sym r.1) ∙ ap (refused o) (sym r.2))
   fails_computed (Int check next) at o why h (inr r) =
       ap (after_int x at check (λ v s p. run (next v s) x end p)) (int_computed x at end r.0 r.1 h inside r.2 r.3)
-      ∙ checked_fails at o why (check r.1) (run (next r.1 (slice_range x at r.0)) x end r.0) (Fails (next r.1 (slice_range x at r.0)) x end r.0 o why) r.4 (λ f. fails_computed (next r.1 (slice_range x at r.0)) r.0 o why r.3 f)
+      ∙ checked_fails at o why (check r.1) (run (next r.1 (slice_range x at r.0)) x end r.0) (Fails (next r.1 (slice_range x at r.0)) x end r.0 o why) r.4
+      (λ f. fails_computed (next r.1 (slice_range x at r.0)) r.0 o why r.3 f)
   fails_computed (Byte check next) at o why h (inl r) =
       let j : end ≤ at = r.0 in
       let t : nat_lt at end ≡ false = grind arith in
@@ -89,7 +91,8 @@ module _ (x : List ℕ) (end : ℕ) (inside : end ≤ length x) where
   fails_computed (Byte check next) at o why h (inr r) =
       let j : at < end = r.0 in
       let t : nat_lt at end ≡ true = grind arith in
-      rw t (checked_fails at o why (check (slice_index x at)) (run (next (slice_index x at)) x end (at + 1)) (Fails (next (slice_index x at)) x end (at + 1) o why) r.1 (λ f. fails_computed (next (slice_index x at)) (at + 1) o why (omega arith) f))
+      rw t (checked_fails at o why (check (slice_index x at)) (run (next (slice_index x at)) x end (at + 1)) (Fails (next (slice_index x at)) x end (at + 1) o why) r.1
+      (λ f. fails_computed (next (slice_index x at)) (at + 1) o why (omega arith) f))
   fails_computed (Run n next) at o why h (inl r) =
       let j : end < at + n = r.0 in
       let t : nat_le (at + n) end ≡ false = grind arith in

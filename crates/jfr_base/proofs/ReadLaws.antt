@@ -17,7 +17,8 @@ reads_order (Here next) x end at v to r = reads_order (next at) x end at v to r
 reads_order (Refuse why) x end at v to r = absurd r
 
 -- One format after another.
-pub reads_then : {A B : Type 0} (f : Format A) (g : A → Format B) (x : List ℕ) (end at : ℕ) (a : A) (m : ℕ) (b : B) (to : ℕ) → Reads f x end at a m → Reads (g a) x end m b to → Reads (f >>= g) x end at b to
+pub reads_then : {A B : Type 0} (f : Format A) (g : A → Format B) (x : List ℕ) (end at : ℕ) (a : A) (m : ℕ) (b : B) (to : ℕ) → Reads f x end at a m → Reads (g a) x end m b to
+    → Reads (f >>= g) x end at b to
 reads_then {B = B} (Done c) g x end at a m b to r s = subst (λ z. Reads (g z) x end at b to) r.0 (subst (λ n. Reads (g a) x end n b to) r.1 s)
 reads_then (Stop next) g x end at a m b to r s = (r.0, reads_then next g x end at a m b to r.1 s)
 reads_then (Int check next) g x end at a m b to r s = (r.0, r.1, r.2, r.3, r.4, reads_then (next r.1 (slice_range x at r.0)) g x end r.0 a m b to r.5 s)
@@ -36,9 +37,12 @@ pub record Parted {A B : Type 0} (f : Format A) (g : A → Format B) (x : List �
 pub reads_parted : {A B : Type 0} (f : Format A) (g : A → Format B) (x : List ℕ) (end at : ℕ) (b : B) (to : ℕ) → Reads (f >>= g) x end at b to → Parted f g x end at b to
 reads_parted (Done c) g x end at b to r = record { value = c; place = at; first = (refl, refl); second = r }
 reads_parted (Stop next) g x end at b to r = let s = reads_parted next g x end at b to r.1 in record { value = s.value; place = s.place; first = (r.0, s.first); second = s.second }
-reads_parted (Int check next) g x end at b to r = let s = reads_parted (next r.1 (slice_range x at r.0)) g x end r.0 b to r.5 in record { value = s.value; place = s.place; first = (r.0, r.1, r.2, r.3, r.4, s.first); second = s.second }
-reads_parted (Byte check next) g x end at b to r = let s = reads_parted (next (slice_index x at)) g x end (at + 1) b to r.2 in record { value = s.value; place = s.place; first = (r.0, r.1, s.first); second = s.second }
-reads_parted (Run n next) g x end at b to r = let s = reads_parted (next (slice_range x at (at + n))) g x end (at + n) b to r.1 in record { value = s.value; place = s.place; first = (r.0, s.first); second = s.second }
+reads_parted (Int check next) g x end at b to r = let s =
+    reads_parted (next r.1 (slice_range x at r.0)) g x end r.0 b to r.5 in record { value = s.value; place = s.place; first = (r.0, r.1, r.2, r.3, r.4, s.first); second = s.second }
+reads_parted (Byte check next) g x end at b to r = let s =
+    reads_parted (next (slice_index x at)) g x end (at + 1) b to r.2 in record { value = s.value; place = s.place; first = (r.0, r.1, s.first); second = s.second }
+reads_parted (Run n next) g x end at b to r = let s =
+    reads_parted (next (slice_range x at (at + n))) g x end (at + n) b to r.1 in record { value = s.value; place = s.place; first = (r.0, s.first); second = s.second }
 reads_parted (Here next) g x end at b to r = let s = reads_parted (next at) g x end at b to r in record { value = s.value; place = s.place; first = s.first; second = s.second }
 reads_parted (Refuse why) g x end at b to r = absurd r
 

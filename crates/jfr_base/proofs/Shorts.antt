@@ -22,7 +22,8 @@ going_further : (k : ℕ) (x : List ℕ) (place end value weight : ℕ) → IfSo
 unfolding going_on
 going_further k x place end value weight = by_front (prefix_length k (slice_range x place end)) (front_one k (slice_range x place end))
   where
-    by_front : (o : Option ℕ) → IfSome o (λ n. 1 ≤ n) → IfSome (option_map (λ n. record { value = value + weight * worth_within k (slice_range x place (place + n)); end = place + n }) o) (λ (v : Var). place < v.end)
+    by_front : (o : Option ℕ) → IfSome o (λ n. 1 ≤ n)
+        → IfSome (option_map (λ n. record { value = value + weight * worth_within k (slice_range x place (place + n)); end = place + n }) o) (λ (v : Var). place < v.end)
     by_front None h = tt
     by_front (Some n) h = omega (arith, h)
 

@@ -92,7 +92,8 @@ filling_start value (suc k) into h v f = record { groups = k; room = omega arith
     by_fit (inl i) = let e : power (suc k) ≡ 2 ^ (7 * suc k) = power_is (suc k) in omega arith
     by_fit (inr e) = let j : k ≡ 8 = omega arith in subst (λ z. value < 256 * power z) (sym j) v
 
-pub filling_next : (value count i rest : ℕ) (into : List ℕ) → Filling value count i rest into → i < length into → i + 1 < count → Filling value count (i + 1) (rest / 128) (slice_set into i (rest % 128 + 128))
+pub filling_next : (value count i rest : ℕ) (into : List ℕ) → Filling value count i rest into → i < length into → i + 1 < count
+    → Filling value count (i + 1) (rest / 128) (slice_set into i (rest % 128 + 128))
 filling_next value count i rest into w h j = by_groups w.groups refl
   where
     by_groups : (g : ℕ) → w.groups ≡ g → Filling value count (i + 1) (rest / 128) (slice_set into i (rest % 128 + 128))
@@ -110,7 +111,8 @@ filling_next value count i rest into w h j = by_groups w.groups refl
         less : (r p : ℕ) → r < 256 * (128 * p) → r / 128 < 256 * p
         less r p h = omega arith
 
-pub filling_last : (value count i rest : ℕ) (into : List ℕ) → Filling value count i rest into → i < length into → i + 1 ≡ count → (rest < 256) × (take count (slice_set into i rest) ≡ spell_in count value)
+pub filling_last : (value count i rest : ℕ) (into : List ℕ) → Filling value count i rest into → i < length into → i + 1 ≡ count
+    → (rest < 256) × (take count (slice_set into i rest) ≡ spell_in count value)
 filling_last value count i rest into w h j =
     let z : w.groups ≡ 0 = omega (arith, w.room) in
     let e : spell_in count value ≡ take i into ++ rest ∷ [] = w.written ∙ ap (λ g. take i into ++ spell_as (suc g) rest) z in (

@@ -49,7 +49,8 @@ module _ (p : Parts) where
   events_kept last (r ∷ rs) one e = rw e.0.class (ap (λ z. r ∷ z) (events_kept last rs one e.1))
 
   -- The records of events are those between the metadata record and the checkpoint.
-  events_between : (first last : Framed) (frames : List Framed) → first.type_id ≡ 0 → last.type_id ≡ 1 → AllByRecursion (IsEvent p) frames → event_records p.classes (first ∷ (frames ++ last ∷ [])) ≡ frames
+  events_between : (first last : Framed) (frames : List Framed) → first.type_id ≡ 0 → last.type_id ≡ 1 → AllByRecursion (IsEvent p) frames
+      → event_records p.classes (first ∷ (frames ++ last ∷ [])) ≡ frames
   events_between first last frames zero one e = rw (ap (is_event_class p.classes) zero ∙ not_metadata p.classes) (events_kept last frames one e)
 
   all_fields : (frames : List Framed) → AllByRecursion (IsEvent p) frames → All (HasFields p.bytes p.classes) frames
@@ -99,7 +100,8 @@ chunk_built ls m c md sound good is small =
     let q = holds_parts c (length c) 68 m (evs ++ cp) (after_header c (m ++ (evs ++ cp)) h is) in
     let r = holds_parts c (length c) (68 + length m) evs cp q.1 in
     let plain : flat_map (line_event k) (plain_lines ls) ≡ evs = flat_map-map (line_event k) (λ (l : NumberedLine). l.line) ls in
-    let es : EventsStand bare (68 + length m) (68 + length m + length (flat_map (line_event k) (plain_lines ls))) (event_lines ls) = events_stand bare sound small (plain_lines ls) (68 + length m) good (subst (Holds c (length c) (68 + length m)) (sym plain) r.0) in
+    let es : EventsStand bare (68 + length m) (68 + length m + length (flat_map (line_event k) (plain_lines ls))) (event_lines ls) =
+    events_stand bare sound small (plain_lines ls) (68 + length m) good (subst (Holds c (length c) (68 + length m)) (sym plain) r.0) in
     let cs : CheckpointStands bare last ls = checkpoint_stands bare last ls sound small good r.1 in
     let frames : List Framed = es.frames in
     let cf : Framed = checkpoint_at last k ls in
@@ -127,7 +129,8 @@ chunk_built ls m c md sound good is small =
       whole = top.whole;
       are = are;
       classes = refl;
-      events = subst (λ z. AllZip (IsEventOf p) (event_lines ls) (filter_map (event_of c k) z)) (sym kept) (zip_to (IsEventOf bare) (IsEventOf p) (same_event bare p refl refl) (event_lines ls) (filter_map (event_of c k) frames) es.events);
+      events = subst (λ z. AllZip (IsEventOf p) (event_lines ls) (filter_map (event_of c k) z)) (sym kept)
+          (zip_to (IsEventOf bare) (IsEventOf p) (same_event bare p refl refl) (event_lines ls) (filter_map (event_of c k) frames) es.events);
       entries = zip_to (IsEntryOf bare) (IsEntryOf p) (same_entry bare p refl refl) (constant_lines ls) cs.entries cs.of_lines;
     }
 
@@ -145,6 +148,7 @@ built_accepted text chunk e =
     record { lines = s.lines; read = s.read; built = chunk_built s.lines m chunk md (record { none = s.flawless }) (all_good k s.lines s.good) parts.is parts.small }
 
 -- What is answered is such a chunk.
-pub accepted_by : (result : Result (Vec ℕ Global) BuildFault) (text : List ℕ) → MatchResult result (λ chunk. build_of text ≡ Ok chunk.items) (IsFault (build_of text)) → IfOk result (λ chunk. IsBuiltOf text chunk.items)
+pub accepted_by : (result : Result (Vec ℕ Global) BuildFault) (text : List ℕ) → MatchResult result (λ chunk. build_of text ≡ Ok chunk.items) (IsFault (build_of text))
+    → IfOk result (λ chunk. IsBuiltOf text chunk.items)
 accepted_by (Ok chunk) text e = built_accepted text chunk.items e
 accepted_by (Err fault) text e = tt

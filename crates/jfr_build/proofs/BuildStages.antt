@@ -35,7 +35,8 @@ module _ (text chunk : List ℕ) where
   by_values count (Some line) made e = cc
   by_values count None made e = (refl, by_chunk count made e)
 
-  by_classes : (count : ℕ) (lines : List NumberedLine) (o : Option ClassFlaw) → build_classes count lines o ≡ Ok chunk → (o ≡ None) × (first_bad_value (classes_in lines) lines ≡ None) × (chunk_of (classes_in lines) lines ≡ Some chunk)
+  by_classes : (count : ℕ) (lines : List NumberedLine) (o : Option ClassFlaw) → build_classes count lines o ≡ Ok chunk
+      → (o ≡ None) × (first_bad_value (classes_in lines) lines ≡ None) × (chunk_of (classes_in lines) lines ≡ Some chunk)
   by_classes count lines (Some f) e = cc
   by_classes count lines None e = let v = by_values count (first_bad_value (classes_in lines) lines) (chunk_of (classes_in lines) lines) e in (refl, v.0, v.1)
 
@@ -76,6 +77,7 @@ pub chunk_parts : (k : Classes) (lines : List NumberedLine) (chunk : List ℕ) �
 unfolding chunk_of
 chunk_parts k lines chunk e = by_metadata (metadata_record k (region_in lines)) refl e
   where
-    by_metadata : (o : Option (List ℕ)) → metadata_record k (region_in lines) ≡ o → option_and_then (λ metadata. if_small (chunk_with metadata (events_of k lines) (checkpoint_of k lines))) o ≡ Some chunk → ChunkParts k lines chunk
+    by_metadata : (o : Option (List ℕ)) → metadata_record k (region_in lines) ≡ o
+        → option_and_then (λ metadata. if_small (chunk_with metadata (events_of k lines) (checkpoint_of k lines))) o ≡ Some chunk → ChunkParts k lines chunk
     by_metadata None q e = cc
     by_metadata (Some metadata) q e = let s = small_is (chunk_with metadata (events_of k lines) (checkpoint_of k lines)) chunk e in record { metadata = metadata; recorded = q; is = s.0; small = s.1 }

@@ -56,7 +56,8 @@ pub record CheckpointStands (p : Parts) (at : ℕ) (ls : List NumberedLine) : Ty
   pub of_lines : AllZip (IsEntryOf p) (constant_lines ls) entries
 
 -- The checkpoint of these lines is read back.
-pub checkpoint_stands : (p : Parts) (at : ℕ) (ls : List NumberedLine) → Sound p.classes → length p.bytes < 2 ^ 30 → AllByRecursion (IsGood p.classes) (plain_lines ls) → Holds p.bytes (length p.bytes) at (checkpoint_of p.classes ls) → CheckpointStands p at ls
+pub checkpoint_stands : (p : Parts) (at : ℕ) (ls : List NumberedLine) → Sound p.classes → length p.bytes < 2 ^ 30 → AllByRecursion (IsGood p.classes) (plain_lines ls)
+    → Holds p.bytes (length p.bytes) at (checkpoint_of p.classes ls) → CheckpointStands p at ls
 unfolding checkpoint_format
 checkpoint_stands p at ls sound small good h =
     let c : List ℕ = p.bytes in
@@ -87,7 +88,8 @@ checkpoint_stands p at ls sound small good h =
     let last : ℕ = first + length items in
     let ends : last ≡ end = omega (arith, length-append (spell 1) (after_type k ls), length-append (spell n) items) in
     let read : Reads (times n (pool_format k)) c end first read_pools.pools last = read_pools.reads in
-    let all : Reads (times n (pool_format k) >>= λ pools. Stop (Done pools)) c end first read_pools.pools last = reads_then (times n (pool_format k)) (λ pools. Stop (Done pools)) c end first read_pools.pools last read_pools.pools last read (omega arith, (refl, refl)) in
+    let all : Reads (times n (pool_format k) >>= λ pools. Stop (Done pools)) c end first read_pools.pools last =
+    reads_then (times n (pool_format k)) (λ pools. Stop (Done pools)) c end first read_pools.pools last read_pools.pools last read (omega arith, (refl, refl)) in
     let whole : Reads (checkpoint_format k) c end q read_pools.pools last =
     (q + 1, 0, start, ea, refl, (q + 1 + 1, 0, duration, eb, refl, (q + 1 + 1 + 1, 0, delta, ed, refl, (ee, (first, n, count, ef, refl, all))))) in
     record {

@@ -107,7 +107,8 @@ large_events k j lines m s e l =
     let n = chunk_length m (events_of k lines) (pools_of k lines) in
     sym (small_none (parts m (events_of k lines) (pools_of k lines)) (omega (arith, x, n))) ∙ ap (option_and_then (λ m. if_small (chunk_with m (events_of k lines) (checkpoint_of k lines)))) e
 
-pub chunk_made : (k j : Classes) (lines : List NumberedLine) (m e p : List ℕ) → j ≡ k → Some m ≡ metadata_record k (region_in lines) → e ≡ events_of j lines → p ≡ pools_of j lines → if_small (parts m e p) ≡ chunk_of k lines
+pub chunk_made : (k j : Classes) (lines : List NumberedLine) (m e p : List ℕ) → j ≡ k → Some m ≡ metadata_record k (region_in lines) → e ≡ events_of j lines → p ≡ pools_of j lines
+    → if_small (parts m e p) ≡ chunk_of k lines
 unfolding chunk_of
 chunk_made k j lines m e p s f g h =
     ap (λ z. if_small (parts m z p)) (g ∙ ap (λ z. events_of z lines) s)

@@ -24,7 +24,8 @@ drop_here (y ∷ xs) zero x e = let h : y ≡ x = cc in ap (λ z. z ∷ xs) h
 drop_here (y ∷ xs) (suc i) x e = let h : suc i + 1 ≡ suc (i + 1) = omega arith in rw h (drop_here xs i x e)
 
 -- An element more.
-pub texts_step : {X : Type 0} (f : X → List (List ℕ)) (xs : List X) (i : ℕ) (x : X) (s t : List (List ℕ)) → slice_get xs i ≡ Some x → t ≡ s ++ f x → s ++ flat_map f (drop i xs) ≡ t ++ flat_map f (drop (i + 1) xs)
+pub texts_step : {X : Type 0} (f : X → List (List ℕ)) (xs : List X) (i : ℕ) (x : X) (s t : List (List ℕ)) → slice_get xs i ≡ Some x → t ≡ s ++ f x
+    → s ++ flat_map f (drop i xs) ≡ t ++ flat_map f (drop (i + 1) xs)
 texts_step f xs i x s t e h =
     ap (λ z. s ++ flat_map f z) (drop_here xs i x e) ∙ (sym (append_assoc s (f x) (flat_map f (drop (i + 1) xs))) ∙ ap (λ z. z ++ flat_map f (drop (i + 1) xs)) (sym h))
 
@@ -49,7 +50,8 @@ or_assoc : (a b c : Bool) → ((a || b) || c) ≡ (a || (b || c))
 or_assoc true b c = refl
 or_assoc false b c = refl
 
-pub ids_step : (k : Classes) (i : ℕ) (c : Class) (old new : Bool) (id : ℕ) → slice_get k i ≡ Some c → new ≡ (old || (c.id == id)) → (old || has_id (drop i k) id) ≡ has_id k id → (new || has_id (drop (i + 1) k) id) ≡ has_id k id
+pub ids_step : (k : Classes) (i : ℕ) (c : Class) (old new : Bool) (id : ℕ) → slice_get k i ≡ Some c → new ≡ (old || (c.id == id)) → (old || has_id (drop i k) id) ≡ has_id k id
+    → (new || has_id (drop (i + 1) k) id) ≡ has_id k id
 ids_step k i c old new id e h q =
     ap (λ z. z || has_id (drop (i + 1) k) id) h
     ∙ (or_assoc old (c.id == id) (has_id (drop (i + 1) k) id)
@@ -79,7 +81,8 @@ abbrev with_parts : List (List ℕ) → Tree → Body
 with_parts strings root = record { start = 0; duration = 0; id = 1; strings = strings; root = root }
 
 -- The record, from any set with the ids of all classes.
-pub slim_same : (k : Classes) (region : Option Region) (strings : List (List ℕ)) (root : Tree) (s : ℕ → Bool) → strings ≡ (body_of k region).strings → root ≡ (body_of k region).root → ((id : ℕ) → s id ≡ has_id k id)
+pub slim_same : (k : Classes) (region : Option Region) (strings : List (List ℕ)) (root : Tree) (s : ℕ → Bool) → strings ≡ (body_of k region).strings → root ≡ (body_of k region).root
+    → ((id : ℕ) → s id ≡ has_id k id)
     → slim_in (record { start = 0; duration = 0; id = 1; strings = strings; root = root }) s (2 ^ 30) ≡ metadata_record k region
 unfolding metadata_record
 slim_same k region strings root s e f h =

@@ -44,7 +44,8 @@ plain_length : (id : ℕ) (ls : List NumberedLine) → length (numbered id ls) �
 plain_length id [] = refl
 plain_length id (l ∷ ls) = by_test (is_constant_of id l.line) (plain_length id ls)
   where
-    by_test : (t : Bool) → length (numbered id ls) ≡ length (lines_of id (plain_lines ls)) → length (cond t (l ∷ numbered id ls) (numbered id ls)) ≡ length (cond t (l.line ∷ lines_of id (plain_lines ls)) (lines_of id (plain_lines ls)))
+    by_test : (t : Bool) → length (numbered id ls) ≡ length (lines_of id (plain_lines ls))
+        → length (cond t (l ∷ numbered id ls) (numbered id ls)) ≡ length (cond t (l.line ∷ lines_of id (plain_lines ls)) (lines_of id (plain_lines ls)))
     by_test true e = ap (λ n. suc n) e
     by_test false e = e
 
@@ -105,7 +106,8 @@ module _ (p : Parts) (sound : Sound p.classes) (end : ℕ) where
       subst (λ m. ConstantsStand p end m to number id lines) z rest
 
   -- What is written of all lines for the pool of one class, one after another.
-  pub constants_stand : (number id : ℕ) (ls : List BuildLine) (at : ℕ) → AllByRecursion (IsGood k) ls → Holds c end at (flat_map (bytes_in k id) ls) → ConstantsStand p end at (at + length (flat_map (bytes_in k id) ls)) number id (lines_of id ls)
+  pub constants_stand : (number id : ℕ) (ls : List BuildLine) (at : ℕ) → AllByRecursion (IsGood k) ls → Holds c end at (flat_map (bytes_in k id) ls)
+      → ConstantsStand p end at (at + length (flat_map (bytes_in k id) ls)) number id (lines_of id ls)
   constants_stand number id [] at good h = record { constants = []; reads = (refl, omega arith); entries = tt }
   constants_stand number id (Class i name event ∷ ls) at good h = constants_stand number id ls at good.1 h
   constants_stand number id (Field name shape ∷ ls) at good h = constants_stand number id ls at good.1 h
@@ -117,4 +119,5 @@ module _ (p : Parts) (sound : Sound p.classes) (end : ℕ) where
       let q = holds_parts c end at one more h in
       let rest = constants_stand number id ls (at + length one) good.1 q.1 in
       let l : at + length one + length more ≡ at + length (one ++ more) = omega (arith, length-append one more) in
-      by_class at (at + length (one ++ more)) number id class key words (lines_of id ls) (class == id) refl good.0 q.0 (subst (λ z. ConstantsStand p end (at + length one) z number id (lines_of id ls)) l rest)
+      by_class at (at + length (one ++ more)) number id class key words (lines_of id ls) (class == id) refl good.0 q.0
+      (subst (λ z. ConstantsStand p end (at + length one) z number id (lines_of id ls)) l rest)

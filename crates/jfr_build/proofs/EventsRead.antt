@@ -28,7 +28,8 @@ pub all_good : (k : Classes) (ls : List NumberedLine) → first_bad_value k ls �
 all_good k [] e = tt
 all_good k (l ∷ ls) e = by_test (is_bad_value k l.line) refl e (λ f. all_good k ls f)
   where
-    by_test : (t : Bool) → is_bad_value k l.line ≡ t → cond t (Some l) (first_bad_value k ls) ≡ None → (first_bad_value k ls ≡ None → AllByRecursion (IsGood k) (plain_lines ls)) → AllByRecursion (IsGood k) (plain_lines (l ∷ ls))
+    by_test : (t : Bool) → is_bad_value k l.line ≡ t → cond t (Some l) (first_bad_value k ls) ≡ None → (first_bad_value k ls ≡ None → AllByRecursion (IsGood k) (plain_lines ls))
+        → AllByRecursion (IsGood k) (plain_lines (l ∷ ls))
     by_test true q f next = cc
     by_test false q f next = (q, next f)
 
@@ -52,7 +53,8 @@ pub record EventsStand (p : Parts) (at end : ℕ) (lines : List BuildLine) : Typ
 module _ (p : Parts) (sound : Sound p.classes) (small : length p.bytes < 2 ^ 30) where
   -- The record of an event, before those that follow it.
   event_before : (at end class : ℕ) (words : List (List ℕ)) (v : Value) (lines : List BuildLine) → is_event_class p.classes class ≡ true → spelled_value p.classes class words ≡ Some v
-      → Holds p.bytes (length p.bytes) at (event_record class (bytes_of v)) → EventsStand p (at + length (event_record class (bytes_of v))) end lines → EventsStand p at end (Record class words ∷ lines)
+      → Holds p.bytes (length p.bytes) at (event_record class (bytes_of v)) → EventsStand p (at + length (event_record class (bytes_of v))) end lines
+      → EventsStand p at end (Record class words ∷ lines)
   event_before at end class words v lines event value h rest =
       let s = written_record p.bytes 5 at class (bytes_of v) (omega arith) (omega arith) (omega (arith, small)) h in
       let r : Framed = framed 5 at class (bytes_of v) in
@@ -69,14 +71,16 @@ module _ (p : Parts) (sound : Sound p.classes) (small : length p.bytes < 2 ^ 30)
 
   -- What is written for an event, before what is written for the lines after it.
   by_record : (at end class : ℕ) (words : List (List ℕ)) (lines : List BuildLine) (value : Option Value) → line_value p.classes (Record class words) ≡ value → not (is_some value) ≡ false
-      → Holds p.bytes (length p.bytes) at (option_map_or (λ v. event_record class (bytes_of v)) value []) → EventsStand p (at + length (option_map_or (λ v. event_record class (bytes_of v)) value [])) end lines → EventsStand p at end (Record class words ∷ lines)
+      → Holds p.bytes (length p.bytes) at (option_map_or (λ v. event_record class (bytes_of v)) value [])
+      → EventsStand p (at + length (option_map_or (λ v. event_record class (bytes_of v)) value [])) end lines → EventsStand p at end (Record class words ∷ lines)
   by_record at end class words lines None e g h rest = cc
   by_record at end class words lines (Some v) e g h rest =
       let q = if_true (is_event_class p.classes class) (spelled_value p.classes class words) v e in
       event_before at end class words v lines q.0 q.1 h rest
 
   -- The records of all lines that are events, one after another.
-  pub events_stand : (ls : List BuildLine) (at : ℕ) → AllByRecursion (IsGood p.classes) ls → Holds p.bytes (length p.bytes) at (flat_map (line_event p.classes) ls) → EventsStand p at (at + length (flat_map (line_event p.classes) ls)) (filter is_event_line ls)
+  pub events_stand : (ls : List BuildLine) (at : ℕ) → AllByRecursion (IsGood p.classes) ls → Holds p.bytes (length p.bytes) at (flat_map (line_event p.classes) ls)
+      → EventsStand p at (at + length (flat_map (line_event p.classes) ls)) (filter is_event_line ls)
   events_stand [] at good h = record { frames = []; tiles = omega arith; are = tt; events = tt }
   events_stand (Class id name event ∷ ls) at good h = events_stand ls at good.1 h
   events_stand (Field name shape ∷ ls) at good h = events_stand ls at good.1 h
@@ -88,4 +92,5 @@ module _ (p : Parts) (sound : Sound p.classes) (small : length p.bytes < 2 ^ 30)
       let q = holds_parts p.bytes (length p.bytes) at one more h in
       let rest = events_stand ls (at + length one) good.1 q.1 in
       let l : at + length one + length more ≡ at + length (one ++ more) = omega (arith, length-append one more) in
-      by_record at (at + length (one ++ more)) class words (filter is_event_line ls) (line_value p.classes (Record class words)) refl good.0 q.0 (subst (λ z. EventsStand p (at + length one) z (filter is_event_line ls)) l rest)
+      by_record at (at + length (one ++ more)) class words (filter is_event_line ls) (line_value p.classes (Record class words)) refl good.0 q.0
+      (subst (λ z. EventsStand p (at + length one) z (filter is_event_line ls)) l rest)

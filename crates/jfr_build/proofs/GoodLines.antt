@@ -38,11 +38,13 @@ module _ (ws : List (List ℕ)) (l : BuildLine) (u : AllByRecursion IsUtf8 ws) w
 
   field_good : field_line ws ≡ Some l → GoodLine l
   field_good e =
-      let r = said name_of (λ name us. with_word id_of (λ id vs. with_word marks_of (λ marks rest. at_end (lines.Field name (record { class = id; constant = marks.0; array = marks.1 })) rest) vs) us) ws l e in
+      let r = said name_of (λ name us. with_word id_of (λ id vs. with_word marks_of (λ marks rest. at_end (lines.Field name (record { class = id; constant = marks.0; array = marks.1 })) rest) vs) us)
+      ws l e in
       let ur = subst (AllByRecursion IsUtf8) r.parts u in
       let s = said id_of (λ id vs. with_word marks_of (λ marks rest. at_end (lines.Field r.value (record { class = id; constant = marks.0; array = marks.1 })) rest) vs) r.rest l r.after in
       let t = said marks_of (λ marks rest. at_end (lines.Field r.value (record { class = s.value; constant = marks.0; array = marks.1 })) rest) s.rest l s.after in
-      field_said r.value s.value t.value (ended (lines.Field r.value (record { class = s.value; constant = t.value.0; array = t.value.1 })) l t.rest t.after) (named r.word r.value ur.0 r.first) (small s.word s.value s.first)
+      field_said r.value s.value t.value (ended (lines.Field r.value (record { class = s.value; constant = t.value.0; array = t.value.1 })) l t.rest t.after) (named r.word r.value ur.0 r.first)
+      (small s.word s.value s.first)
     where
       field_said : (name : List ℕ) (id : ℕ) (marks : Bool × Bool) → lines.Field name (record { class = id; constant = marks.0; array = marks.1 }) ≡ l → IsName name → id < 2 ^ 63 → GoodLine l
       field_said name id marks q n h = same_line (lines.Field name (record { class = id; constant = marks.0; array = marks.1 })) q (n, h)
@@ -70,9 +72,11 @@ module _ (ws : List (List ℕ)) (l : BuildLine) (u : AllByRecursion IsUtf8 ws) w
       (record { locale = named r.word r.value ur.0 r.first; offset = subst IsUtf8 (as_spelled s.word s.value s.first) us.0 })
 
   line_by_good : (word : List ℕ) → line_by word ws ≡ Some l → GoodLine l
-  line_by_good word e = by_tests (bytes_eq word (codes "class")) (bytes_eq word (codes "event")) (bytes_eq word (codes "field")) (bytes_eq word (codes "constant")) (bytes_eq word (codes "record")) (bytes_eq word (codes "region")) e
+  line_by_good word e = by_tests (bytes_eq word (codes "class")) (bytes_eq word (codes "event")) (bytes_eq word (codes "field")) (bytes_eq word (codes "constant")) (bytes_eq word (codes "record"))
+      (bytes_eq word (codes "region")) e
     where
-      by_tests : (a b c d f g : Bool) → (if a then class_line false ws else if b then class_line true ws else if c then field_line ws else if d then constant_line ws else if f then record_line ws else if g then region_line ws else None) ≡ Some l → GoodLine l
+      by_tests : (a b c d f g : Bool)
+          → (if a then class_line false ws else if b then class_line true ws else if c then field_line ws else if d then constant_line ws else if f then record_line ws else if g then region_line ws else None) ≡ Some l → GoodLine l
       by_tests true b c d f g e = class_good false e
       by_tests false true c d f g e = class_good true e
       by_tests false false true d f g e = field_good e
@@ -113,7 +117,8 @@ read_good : (n : ℕ) (before : List NumberedLine) (rest : List (List ℕ)) (ls 
 read_good n before [] ls g e = let q : before ≡ ls = cc in subst GoodLines q g
 read_good n before (bytes ∷ rest) ls g e = by_test (length bytes == 0) e (λ more h. read_good (n + 1) more rest ls h)
   where
-    by_line : (o : Option BuildLine) → line_after before (line_of bytes) ≡ o → with_line n before o (λ more. read_from (n + 1) more rest) ≡ Ok ls → ((more : List NumberedLine) → GoodLines more → read_from (n + 1) more rest ≡ Ok ls → GoodLines ls) → GoodLines ls
+    by_line : (o : Option BuildLine) → line_after before (line_of bytes) ≡ o → with_line n before o (λ more. read_from (n + 1) more rest) ≡ Ok ls
+        → ((more : List NumberedLine) → GoodLines more → read_from (n + 1) more rest ≡ Ok ls → GoodLines ls) → GoodLines ls
     by_line None q e f = cc
     by_line (Some l) q e f = f (before ++ record { number = n; line = l } ∷ []) (one_more before (record { number = n; line = l }) g (line_good bytes l (allowed before (line_of bytes) l q))) e
 
@@ -142,7 +147,8 @@ classes_good : (ls : List NumberedLine) → GoodLines ls → AllByRecursion Good
 classes_good [] g = tt
 classes_good (l ∷ ls) g = by_line l.line g.0 (fields_good ls g.1) (classes_good ls g.1)
   where
-    by_line : (l : BuildLine) → GoodLine l → AllByRecursion GoodField (fields_in ls) → AllByRecursion GoodClass (classes_in ls) → AllByRecursion GoodClass (class_before l (fields_in ls) (classes_in ls))
+    by_line : (l : BuildLine) → GoodLine l → AllByRecursion GoodField (fields_in ls) → AllByRecursion GoodClass (classes_in ls)
+        → AllByRecursion GoodClass (class_before l (fields_in ls) (classes_in ls))
     by_line (lines.Class id name event) h i j = (record { id = h.0; name = h.1; super = super_good event; fields = i; categories = refl }, j)
     by_line (lines.Field name shape) h i j = j
     by_line (lines.Constant class key words) h i j = j

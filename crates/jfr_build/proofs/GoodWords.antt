@@ -46,7 +46,8 @@ pieces_utf8 : (mark : ℕ) → mark < 128 → (before bytes : List ℕ) → IsUt
 pieces_utf8 mark m before [] u = (u, tt)
 pieces_utf8 mark m before (b ∷ bs) u = by_test (b == mark) refl (pieces_utf8 mark m [] bs) (pieces_utf8 mark m (before ++ b ∷ []) bs)
   where
-    by_test : (t : Bool) → (b == mark) ≡ t → (IsUtf8 bs → AreUtf8 [] (pieces mark bs)) → (IsUtf8 ((before ++ b ∷ []) ++ bs) → AreUtf8 (before ++ b ∷ []) (pieces mark bs)) → AreUtf8 before (pieces mark (b ∷ bs))
+    by_test : (t : Bool) → (b == mark) ≡ t → (IsUtf8 bs → AreUtf8 [] (pieces mark bs)) → (IsUtf8 ((before ++ b ∷ []) ++ bs) → AreUtf8 (before ++ b ∷ []) (pieces mark bs))
+        → AreUtf8 before (pieces mark (b ∷ bs))
     by_test true e f g =
         let q : b ≡ mark = eqb-true b mark e in
         let p = two_utf8 before b bs (omega arith) u in

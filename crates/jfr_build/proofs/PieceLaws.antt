@@ -33,7 +33,8 @@ line_cut text o e = by_test (nat_lt (first_mark 10 text) (length text)) refl e
         subst (EndsLine text) (sym q) (one_piece 10 text l)
 
 -- The first word, which ends before the first space, if there is one.
-pub words_cut : (bytes : List ℕ) (r : Option (Bor (List ℕ) × Bor (List ℕ))) → IsSplitOnceResult 32 bytes r → MatchOption r (pieces 32 bytes ≡ bytes ∷ []) (λ x. pieces 32 bytes ≡ x.0.now ∷ pieces 32 x.1.now)
+pub words_cut : (bytes : List ℕ) (r : Option (Bor (List ℕ) × Bor (List ℕ))) → IsSplitOnceResult 32 bytes r
+    → MatchOption r (pieces 32 bytes ≡ bytes ∷ []) (λ x. pieces 32 bytes ≡ x.0.now ∷ pieces 32 x.1.now)
 words_cut bytes None h =
     let none : first_mark 32 bytes ≡ length bytes = split_once_first 32 bytes None h (lit< tt) in
     one_piece 32 bytes (omega (arith, none))

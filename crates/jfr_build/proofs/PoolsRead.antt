@@ -101,7 +101,8 @@ module _ (p : Parts) (sound : Sound p.classes) (end : ℕ) (ls : List NumberedLi
       let to : ℕ = at + length (pool_of k ls id) in
       let l : first + length (flat_map (bytes_in k id) (plain_lines ls)) ≡ to = omega (arith, ap length e, length-append (spell id) (spell n ++ items), length-append (spell n) items) in
       let read : Reads (times n (constant_format k id)) c end first s.constants to =
-      subst (λ z. Reads (times z (constant_format k id)) c end first s.constants to) (sym (plain_count id ls)) (subst (Reads (times (length (lines_of id (plain_lines ls))) (constant_format k id)) c end first s.constants) l s.reads) in
+      subst (λ z. Reads (times z (constant_format k id)) c end first s.constants to) (sym (plain_count id ls))
+      (subst (Reads (times (length (lines_of id (plain_lines ls))) (constant_format k id)) c end first s.constants) l s.reads) in
       let pool : PoolAt = record { class = id; constants = s.constants } in
       let behind = reads_then (times n (constant_format k id)) (λ constants. Done (record { class = id; constants = constants })) c end first s.constants to pool to read (refl, refl) in
       record {
@@ -111,7 +112,8 @@ module _ (p : Parts) (sound : Sound p.classes) (end : ℕ) (ls : List NumberedLi
       }
 
   -- The pools of all classes, one after another.
-  pub pools_stand : (number : ℕ) (ids : List ℕ) (at : ℕ) → AllByRecursion (IsKnown k) ids → Holds c end at (flat_map (pool_of k ls) ids) → PoolsStand p end at (at + length (flat_map (pool_of k ls) ids)) number ids (plain_lines ls)
+  pub pools_stand : (number : ℕ) (ids : List ℕ) (at : ℕ) → AllByRecursion (IsKnown k) ids → Holds c end at (flat_map (pool_of k ls) ids)
+      → PoolsStand p end at (at + length (flat_map (pool_of k ls) ids)) number ids (plain_lines ls)
   pools_stand number [] at known h = record { pools = []; reads = (refl, omega arith); entries = tt }
   pools_stand number (id ∷ ids) at known h =
       let one : List ℕ = pool_of k ls id in
@@ -127,5 +129,6 @@ module _ (p : Parts) (sound : Sound p.classes) (end : ℕ) (ls : List NumberedLi
         pools = s.pool ∷ rest.pools;
         reads = reads_then (pool_format k) (λ a. times n (pool_format k) >>= λ rest. Done (a ∷ rest)) c end at s.pool (at + length one) (s.pool ∷ rest.pools) to s.reads
             (reads_then (times n (pool_format k)) (λ rest. Done (s.pool ∷ rest)) c end (at + length one) rest.pools to (s.pool ∷ rest.pools) to later (refl, refl));
-        entries = zip_append (IsEntryOf p) (lines_of id (plain_lines ls)) (flat_map (λ id. lines_of id (plain_lines ls)) ids) (map (entry_of 0 number s.pool.class) s.pool.constants) (entries_from 0 (number + 1) rest.pools) s.entries rest.entries;
+        entries = zip_append (IsEntryOf p) (lines_of id (plain_lines ls)) (flat_map (λ id. lines_of id (plain_lines ls)) ids) (map (entry_of 0 number s.pool.class) s.pool.constants)
+            (entries_from 0 (number + 1) rest.pools) s.entries rest.entries;
       }

@@ -40,7 +40,8 @@ digit_read n l = by_test (nat_lt n 10) refl
 digit_known : (c n : ℕ) → hex_digit c ≡ Some n → (n < 16) × (digit_char n ≡ c)
 digit_known c n e = by_tests (nat_le 48 c && nat_le c 57) (nat_le 97 c && nat_le c 102) refl refl e
   where
-    by_tests : (t u : Bool) → (nat_le 48 c && nat_le c 57) ≡ t → (nat_le 97 c && nat_le c 102) ≡ u → (if t then Some (c - 48) else if u then Some (c - 87) else None) ≡ Some n → (n < 16) × (digit_char n ≡ c)
+    by_tests : (t u : Bool) → (nat_le 48 c && nat_le c 57) ≡ t → (nat_le 97 c && nat_le c 102) ≡ u → (if t then Some (c - 48) else if u then Some (c - 87) else None) ≡ Some n
+        → (n < 16) × (digit_char n ≡ c)
     by_tests true u p q h =
         let least : 48 ≤ c = grind (arith, nat_tests) in
         let most : c ≤ 57 = grind (arith, nat_tests) in
@@ -102,7 +103,8 @@ IsRest (Low high) cs text = high < 16 → 92 ∷ 117 ∷ 48 ∷ 48 ∷ digit_cha
 IsRest Closed cs text = (cs ≡ []) × (text ≡ [])
 
 -- What follows a step gives the text after the step's byte.
-after_step : (next : Quoted) (o : Option ℕ) (cs text : List ℕ) → go_on (Some (next, o)) (λ s. quoted_from s cs) ≡ Some text → (more : List ℕ) × (quoted_from next cs ≡ Some more) × (option_to_list o ++ more ≡ text)
+after_step : (next : Quoted) (o : Option ℕ) (cs text : List ℕ) → go_on (Some (next, o)) (λ s. quoted_from s cs) ≡ Some text
+    → (more : List ℕ) × (quoted_from next cs ≡ Some more) × (option_to_list o ++ more ≡ text)
 after_step next o cs text e = mapped (λ more. option_to_list o ++ more) (quoted_from next cs) text e
 
 -- One step, if the rest is written as its text.
@@ -119,7 +121,8 @@ module _ (cs text : List ℕ) (rest : (s : Quoted) (more : List ℕ) → quoted_
   open_read : (c : ℕ) → IsRead (quoted_step Open c) → c ∷ cs ≡ closed text
   open_read c h = by_tests (c == 34) (c == 92) (is_plain c) refl refl refl h
     where
-      by_tests : (t u v : Bool) → (c == 34) ≡ t → (c == 92) ≡ u → is_plain c ≡ v → IsRead (if t then Some (Closed, None) else if u then Some (Escape, None) else if v then Some (Open, Some c) else None) → c ∷ cs ≡ closed text
+      by_tests : (t u v : Bool) → (c == 34) ≡ t → (c == 92) ≡ u → is_plain c ≡ v
+          → IsRead (if t then Some (Closed, None) else if u then Some (Escape, None) else if v then Some (Open, Some c) else None) → c ∷ cs ≡ closed text
       by_tests true u v p q r h =
           let m = after_step Closed None cs text h in
           let n = rest Closed m.0 m.1 in

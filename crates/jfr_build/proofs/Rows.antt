@@ -123,7 +123,13 @@ text_is_quoted = refl
 
 -- The value of an event with an array of references.
 abbrev nodes : Classes
-nodes = record { id = 8; name = codes "t.A"; super_name = Some (codes "jdk.jfr.Event"); fields = record { name = codes "nodes"; shape = record { class = 8; constant = true; array = true } } ∷ []; categories = [] } ∷ []
+nodes = record {
+  id = 8;
+  name = codes "t.A";
+  super_name = Some (codes "jdk.jfr.Event");
+  fields = record { name = codes "nodes"; shape = record { class = 8; constant = true; array = true } } ∷ [];
+  categories = [];
+} ∷ []
 
 two_references : option_map bytes_of (spelled_value nodes 8 (codes "[2" ∷ codes "#300" ∷ codes "#1" ∷ [])) ≡ Some (2 ∷ 172 ∷ 2 ∷ 1 ∷ [])
 unfolding value_taken class_taken kind_of id_of decimal_number spell

@@ -65,7 +65,8 @@ module _ (k : Classes) where
   took_none : (ws : List (List ℕ)) (t : Taken (List Value)) → took [] ws ≡ Some t → TookValues k [] ws t.rest (values_of t.value)
   took_none ws t e =
       let h = took_same [] ws t e in
-      subst (λ z. TookValues k [] ws z (values_of t.value)) (sym h.1) (subst (λ z. TookValues k [] ws ws (values_of z)) (sym h.0) (record { fit = tt; shapes = refl; front = []; split = refl; words = λ m at. tt }))
+      subst (λ z. TookValues k [] ws z (values_of t.value)) (sym h.1)
+      (subst (λ z. TookValues k [] ws ws (values_of z)) (sym h.0) (record { fit = tt; shapes = refl; front = []; split = refl; words = λ m at. tt }))
 
   took_cons : (s : Shape) (ss : List Shape) (ws : List (List ℕ)) (f : Taker Value) (g : Taker (List Value)) → ((us : List (List ℕ)) (t : Taken Value) → f us ≡ Some t → TookValue k s us t.rest t.value)
       → ((us : List (List ℕ)) (t : Taken (List Value)) → g us ≡ Some t → TookValues k ss us t.rest (values_of t.value))
@@ -82,19 +83,23 @@ module _ (k : Classes) where
         front = i.front ++ j.front;
         split = i.split ∙ (ap (λ z. i.front ++ z) j.split ∙ sym (append_assoc i.front j.front b.0.rest));
         words = λ m at.
-            words_append i.front j.front (leaves_at (m zero) at a.0.value) (leaves_from (λ n. m (suc n)) (at + length (bytes_of a.0.value)) (values_of b.0.value)) (i.words (m zero) at) (j.words (λ n. m (suc n)) (at + length (bytes_of a.0.value)));
+            words_append i.front j.front (leaves_at (m zero) at a.0.value) (leaves_from (λ n. m (suc n)) (at + length (bytes_of a.0.value)) (values_of b.0.value)) (i.words (m zero) at)
+            (j.words (λ n. m (suc n)) (at + length (bytes_of a.0.value)));
       }))
 
-  times_sound : (f : Taker Value) (s : Shape) → ((us : List (List ℕ)) (t : Taken Value) → f us ≡ Some t → TookValue k s us t.rest t.value) → (n : ℕ) (ws : List (List ℕ)) (t : Taken (List Value)) → times_taken n f ws ≡ Some t → TookValues k (replicate n s) ws t.rest (values_of t.value)
+  times_sound : (f : Taker Value) (s : Shape) → ((us : List (List ℕ)) (t : Taken Value) → f us ≡ Some t → TookValue k s us t.rest t.value) → (n : ℕ) (ws : List (List ℕ)) (t : Taken (List Value))
+      → times_taken n f ws ≡ Some t → TookValues k (replicate n s) ws t.rest (values_of t.value)
   times_sound f s x zero ws t e = took_none ws t e
   times_sound f s x (suc n) ws t e = took_cons s (replicate n s) ws f (times_taken n f) x (λ us t q. times_sound f s x n us t q) t e
 
-  each_sound : (f : Shape → Taker Value) → IsSound k f → (fs : List Field) (ws : List (List ℕ)) (t : Taken (List Value)) → each_taken fs (λ g. f g.shape) ws ≡ Some t → TookValues k (map (λ g. g.shape) fs) ws t.rest (values_of t.value)
+  each_sound : (f : Shape → Taker Value) → IsSound k f → (fs : List Field) (ws : List (List ℕ)) (t : Taken (List Value)) → each_taken fs (λ g. f g.shape) ws ≡ Some t
+      → TookValues k (map (λ g. g.shape) fs) ws t.rest (values_of t.value)
   each_sound f x [] ws t e = took_none ws t e
   each_sound f x (g ∷ fs) ws t e = took_cons g.shape (map (λ g. g.shape) fs) ws (f g.shape) (each_taken fs (λ g. f g.shape)) (x g.shape) (λ us t q. each_sound f x fs us t q) t e
 
   -- A value of one word.
-  single_took : (s : Shape) (w : List ℕ) (ws rest : List (List ℕ)) (v : Value) (t : Taken Value) → took v rest ≡ Some t → ws ≡ w ∷ rest → Fits k v → shape_of v ≡ s → ((g : Option Holder) (at : ℕ) → AreWordsOf (w ∷ []) (leaves_at g at v)) → TookValue k s ws t.rest t.value
+  single_took : (s : Shape) (w : List ℕ) (ws rest : List (List ℕ)) (v : Value) (t : Taken Value) → took v rest ≡ Some t → ws ≡ w ∷ rest → Fits k v → shape_of v ≡ s
+      → ((g : Option Holder) (at : ℕ) → AreWordsOf (w ∷ []) (leaves_at g at v)) → TookValue k s ws t.rest t.value
   single_took s w ws rest v t e q f p a =
       let h = took_same v rest t e in
       subst (λ z. TookValue k s ws z t.value) (sym h.1) (subst (λ z. TookValue k s ws rest z) (sym h.0) (record { fits = f; shape = p; front = w ∷ []; split = q; words = a }))
@@ -103,14 +108,17 @@ module _ (k : Classes) where
   reference_sound s ws t a c e =
       let i = then_some (word_taken (id_after 35) ws) (λ key us. took (Single s (leaf_kinds.Key key) (spell key) (Some key)) us) t e in
       let j = word_some (id_after 35) ws i.0 i.1 in
-      single_took s j.0 ws i.0.rest (Single s (leaf_kinds.Key i.0.value) (spell i.0.value) (Some i.0.value)) t i.2 j.1 (inl (a, c, i.0.value, spell_spells i.0.value, refl, refl)) refl (λ g at. ((j.2, refl), tt))
+      single_took s j.0 ws i.0.rest (Single s (leaf_kinds.Key i.0.value) (spell i.0.value) (Some i.0.value)) t i.2 j.1 (inl (a, c, i.0.value, spell_spells i.0.value, refl, refl)) refl
+      (λ g at. ((j.2, refl), tt))
 
-  base_sound : (kd : Kind) (s : Shape) (d : Class) (ws : List (List ℕ)) (t : Taken Value) → s.array ≡ false → s.constant ≡ false → find_class k s.class ≡ Some d → kind_of d.name ≡ kd → base_taken kd s ws ≡ Some t → TookValue k s ws t.rest t.value
+  base_sound : (kd : Kind) (s : Shape) (d : Class) (ws : List (List ℕ)) (t : Taken Value) → s.array ≡ false → s.constant ≡ false → find_class k s.class ≡ Some d → kind_of d.name ≡ kd
+      → base_taken kd s ws ≡ Some t → TookValue k s ws t.rest t.value
   base_sound kd s d ws t a c q n e =
       let i = then_some (word_taken (base_of kd) ws) (λ b us. took (Single s (leaf_kinds.Base kd) b (leaf_key (leaf_kinds.Base kd) b)) us) t e in
       let j = word_some (base_of kd) ws i.0 i.1 in
       let b : List ℕ = i.0.value in
-      let f : IsSingle k s (leaf_kinds.Base kd) b (leaf_key (leaf_kinds.Base kd) b) = inr (a, c, d, q, ap (λ z. leaf_kinds.Base z) (sym n), subst (λ z. IsBase z b (leaf_key (leaf_kinds.Base kd) b)) (sym n) (base_is_spelled kd j.0 b j.2)) in
+      let f : IsSingle k s (leaf_kinds.Base kd) b (leaf_key (leaf_kinds.Base kd) b) =
+      inr (a, c, d, q, ap (λ z. leaf_kinds.Base z) (sym n), subst (λ z. IsBase z b (leaf_key (leaf_kinds.Base kd) b)) (sym n) (base_is_spelled kd j.0 b j.2)) in
       single_took s j.0 ws i.0.rest (Single s (leaf_kinds.Base kd) b (leaf_key (leaf_kinds.Base kd) b)) t i.2 j.1 f refl (λ g at. (j.2, tt))
 
   -- The leaf before the parts: an array's count.
@@ -126,8 +134,10 @@ module _ (k : Classes) where
   no_words false s h g at e = tt
 
   -- The parts after a head.
-  group_took : (s : Shape) (h : List ℕ) (head ws us rest : List (List ℕ)) (vs : List Value) (ss : List Shape) (t : Taken Value) → took (Group s h (values_of vs)) rest ≡ Some t → ws ≡ head ++ us → TookValues k ss us rest (values_of vs) → IsHead k s h ss
-      → ((g : Option Holder) (at : ℕ) → AreWordsOf head (if s.array then record { kind = leaf_kinds.Count (worth_within 8 h); class = s.class; holder = g; at = at; spelled = h } ∷ [] else [])) → TookValue k s ws t.rest t.value
+  group_took : (s : Shape) (h : List ℕ) (head ws us rest : List (List ℕ)) (vs : List Value) (ss : List Shape) (t : Taken Value) → took (Group s h (values_of vs)) rest ≡ Some t → ws ≡ head ++ us
+      → TookValues k ss us rest (values_of vs) → IsHead k s h ss
+      → ((g : Option Holder) (at : ℕ) → AreWordsOf head (if s.array then record { kind = leaf_kinds.Count (worth_within 8 h); class = s.class; holder = g; at = at; spelled = h } ∷ [] else []))
+      → TookValue k s ws t.rest t.value
   group_took s h head ws us rest vs ss t e q x i a =
       let z = took_same (Group s h (values_of vs)) rest t e in
       subst (λ y. TookValue k s ws y t.value) (sym z.1) (subst (λ y. TookValue k s ws rest y) (sym z.0) (record {
@@ -136,10 +146,12 @@ module _ (k : Classes) where
         front = head ++ x.front;
         split = q ∙ (ap (λ y. head ++ y) x.split ∙ sym (append_assoc head x.front rest));
         words = λ g at.
-            words_append head x.front (if s.array then record { kind = leaf_kinds.Count (worth_within 8 h); class = s.class; holder = g; at = at; spelled = h } ∷ [] else []) (leaves_from (part_holder s g) (at + length h) (values_of vs)) (a g at) (x.words (part_holder s g) (at + length h));
+            words_append head x.front (if s.array then record { kind = leaf_kinds.Count (worth_within 8 h); class = s.class; holder = g; at = at; spelled = h } ∷ [] else [])
+            (leaves_from (part_holder s g) (at + length h) (values_of vs)) (a g at) (x.words (part_holder s g) (at + length h));
       }))
 
-  array_sound : (s : Shape) (item : Taker Value) → s.array ≡ true → ((us : List (List ℕ)) (t : Taken Value) → item us ≡ Some t → TookValue k (item_of s) us t.rest t.value) → (ws : List (List ℕ)) (t : Taken Value) → array_taken item s ws ≡ Some t → TookValue k s ws t.rest t.value
+  array_sound : (s : Shape) (item : Taker Value) → s.array ≡ true → ((us : List (List ℕ)) (t : Taken Value) → item us ≡ Some t → TookValue k (item_of s) us t.rest t.value)
+      → (ws : List (List ℕ)) (t : Taken Value) → array_taken item s ws ≡ Some t → TookValue k s ws t.rest t.value
   array_sound s item a x ws t e =
       let i = then_some (word_taken (id_after 91) ws) (λ n us. then_take (times_taken n item us) λ vs rest. took (Group s (spell n) (values_of vs)) rest) t e in
       let j = word_some (id_after 91) ws i.0 i.1 in
@@ -148,7 +160,8 @@ module _ (k : Classes) where
       let y = times_sound item (item_of s) x n i.0.rest m.0 m.1 in
       group_took s (spell n) (j.0 ∷ []) ws i.0.rest m.0.rest m.0.value (replicate n (item_of s)) t m.2 j.1 y (inl (a, n, spell_spells n, refl)) (λ g at. count_words s.array s n j.0 g at a j.2)
 
-  kind_sound : (f : Shape → Taker Value) → IsSound k f → (kd : Kind) (s : Shape) (d : Class) → s.array ≡ false → s.constant ≡ false → find_class k s.class ≡ Some d → kind_of d.name ≡ kd → (ws : List (List ℕ)) (t : Taken Value) → kind_taken kd s (each_taken d.fields (λ g. f g.shape)) ws ≡ Some t → TookValue k s ws t.rest t.value
+  kind_sound : (f : Shape → Taker Value) → IsSound k f → (kd : Kind) (s : Shape) (d : Class) → s.array ≡ false → s.constant ≡ false → find_class k s.class ≡ Some d → kind_of d.name ≡ kd
+      → (ws : List (List ℕ)) (t : Taken Value) → kind_taken kd s (each_taken d.fields (λ g. f g.shape)) ws ≡ Some t → TookValue k s ws t.rest t.value
   kind_sound f x kinds.Composite s d a c q n ws t e =
       let i = then_some (each_taken d.fields (λ g. f g.shape) ws) (λ vs us. took (Group s [] (values_of vs)) us) t e in
       let y = each_sound f x d.fields ws i.0 i.1 in

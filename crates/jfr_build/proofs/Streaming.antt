@@ -35,7 +35,8 @@ not_both (Some x) e h = cc
 
 -- A steady place that has the text gives no read fault.
 never_halts : (text out : List ℕ) → NeverHalts (builds text out)
-never_halts text out x y can h = by_told y.place.contents (subst (λ (t : Option World). IfKnown t y.place.contents (λ w v. (snapshot v y.sink.written ≡ snapshot w x.sink.written) × IsUnread x.place.steady text w v)) can.contents h)
+never_halts text out x y can h = by_told y.place.contents
+    (subst (λ (t : Option World). IfKnown t y.place.contents (λ w v. (snapshot v y.sink.written ≡ snapshot w x.sink.written) × IsUnread x.place.steady text w v)) can.contents h)
   where
     by_told : (t : Option World) → IfKnown (Some can.world) t (λ w v. (snapshot v y.sink.written ≡ snapshot w x.sink.written) × IsUnread x.place.steady text w v) → ⊥
     by_told None k = absurd k
@@ -99,7 +100,8 @@ module _ (text out : List ℕ) (a : State) where
         (λ w v u p q. f w u p.0 (subst (λ (s : Snapshot). PartOutcome a.steady (Goes (writes out chunk.items)) r s (snapshot u None)) (same_stand w v p.1) q.1))
 
     outcome : (w u : World) → Stood r w u → Outcome a.steady (plan_by out (Some (Ok chunk.items))) (Halts w u) (command_end (written_ending r)) (snapshot w None) (snapshot u None)
-    outcome w u = by_result (λ r. Stood r w u → Outcome a.steady (plan_by out (Some (Ok chunk.items))) (Halts w u) (command_end (written_ending r)) (snapshot w None) (snapshot u None)) (λ x h. record { end = refl; holds = h.1 }) (λ h. h) (λ h. h)
+    outcome w u = by_result (λ r. Stood r w u → Outcome a.steady (plan_by out (Some (Ok chunk.items))) (Halts w u) (command_end (written_ending r)) (snapshot w None) (snapshot u None))
+        (λ x h. record { end = refl; holds = h.1 }) (λ h. h) (λ h. h)
 
     leaves : IsAfterTask (builds text out) (command_end (written_ending r)) (without_sink a) (without_sink c)
     leaves =
@@ -111,7 +113,8 @@ module _ (text out : List ℕ) (a : State) where
 
     pub chunk_ran : IfNotRefused (after_write r) (λ e. Ran (builds text out) e (without_sink a) (without_sink c))
     chunk_ran =
-        by_result (λ r. Ran (builds text out) (written_ending r) (without_sink a) (without_sink c) → IfNotRefused (after_write r) (λ e. Ran (builds text out) e (without_sink a) (without_sink c))) (λ x h. h) (λ h. h) (λ h. h)
+        by_result (λ r. Ran (builds text out) (written_ending r) (without_sink a) (without_sink c) → IfNotRefused (after_write r) (λ e. Ran (builds text out) e (without_sink a) (without_sink c)))
+        (λ x h. h) (λ h. h) (λ h. h)
         (ran (builds text out) (written_ending r) (without_sink a) (without_sink c) (never_halts text out) leaves tallies)
 
     pub chunk_built : ((bytes chunk : List ℕ) → build_of bytes ≡ Ok chunk → IsBuiltOf bytes chunk) → after_write r ≡ Done → IfContentsKnown a c (Builds text out)
@@ -120,7 +123,8 @@ module _ (text out : List ℕ) (a : State) where
         wrote_all : (w u : World) → after_write r ≡ Done → Stood r w u → snapshot u None ≡ done (writes out chunk.items) (snapshot w None)
         wrote_all w u = by_result (λ r. after_write r ≡ Done → Stood r w u → snapshot u None ≡ done (writes out chunk.items) (snapshot w None)) (λ x e h. h.1) (λ e h. cc) (λ e h. cc)
 
-        built : (w u : World) → ((bytes : List ℕ) × (file w text ≡ Some bytes) × (build_of bytes ≡ Ok chunk.items)) → snapshot u None ≡ done (writes out chunk.items) (snapshot w None) → Builds text out w u
+        built : (w u : World) → ((bytes : List ℕ) × (file w text ≡ Some bytes) × (build_of bytes ≡ Ok chunk.items)) → snapshot u None ≡ done (writes out chunk.items) (snapshot w None)
+            → Builds text out w u
         built w u t d = record { bytes = t.0; read = t.1; chunk = chunk.items; exact = t.2; written = file_written out chunk.items w u d; built = accepted t.0 chunk.items t.2 }
 
     pub chunk_decided : (Rose a.write_faults c.write_faults → ⊥) → IfSome a.contents (λ w. IsDecided (file w text) (after_write r))
@@ -148,9 +152,11 @@ module _ (text out : List ℕ) (a : State) where
 
   -- The text wasn't read, or it is refused.
   module _ (b : State) where
-    pub text_decided : (e : BuildEnding) → IfContentsKnown a b (TextBuilt a.steady text (Err e)) → TextCounts {T = Vec ℕ Global} (Err e) a b → (Rose a.read_faults b.read_faults → ⊥) → IfSome a.contents (λ w. IsDecided (file w text) e)
+    pub text_decided : (e : BuildEnding) → IfContentsKnown a b (TextBuilt a.steady text (Err e)) → TextCounts {T = Vec ℕ Global} (Err e) a b → (Rose a.read_faults b.read_faults → ⊥)
+        → IfSome a.contents (λ w. IsDecided (file w text) e)
     text_decided Done h k quiet = absurd k
-    text_decided (Refused line reason) h k quiet = if_before a.contents b.contents (TextBuilt a.steady text (Err (Refused line reason))) (λ w. IsDecided (file w text) (Refused line reason)) h (λ w v p. ByRefusal line reason p.0 refl)
+    text_decided (Refused line reason) h k quiet =
+        if_before a.contents b.contents (TextBuilt a.steady text (Err (Refused line reason))) (λ w. IsDecided (file w text) (Refused line reason)) h (λ w v p. ByRefusal line reason p.0 refl)
     text_decided ReadFault h k quiet = absurd (quiet k.0.1)
     text_decided WriteFault h k quiet = absurd k
     text_decided Memory h k quiet = if_before a.contents b.contents IsKept (λ w. IsDecided (file w text) Memory) h (λ w v p. ForMemory refl)

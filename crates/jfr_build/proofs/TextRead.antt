@@ -18,7 +18,8 @@ unfolding build_of
 too_long None h = absurd h
 too_long (Some bytes) h = let e : nat_le (2 ^ 30) (length bytes) ≡ true = grind (arith, nat_tests) in rw e refl
 
-pub text_failed : (steady : Bool) (name : List ℕ) (fault : FileFault) (t u : Option World) → IfKnown t u (FileRead name (2 ^ 30) (Err fault)) → (IsTrue steady → IsErrOf {T = Vec ℕ Global} (Err fault) Failed → IfSome t (λ w. file w name ≡ None)) → IfKnown t u (TextBuilt steady name (Err (after_file fault)))
+pub text_failed : (steady : Bool) (name : List ℕ) (fault : FileFault) (t u : Option World) → IfKnown t u (FileRead name (2 ^ 30) (Err fault))
+    → (IsTrue steady → IsErrOf {T = Vec ℕ Global} (Err fault) Failed → IfSome t (λ w. file w name ≡ None)) → IfKnown t u (TextBuilt steady name (Err (after_file fault)))
 text_failed steady name fault None u h k = tt
 text_failed steady name fault (Some w) None h k = absurd h
 text_failed steady name TooLong (Some w) (Some v) h k = (too_long (file w name) h.0, (ap (λ z. z.files) h.1, ap (λ z. z.output) h.1))

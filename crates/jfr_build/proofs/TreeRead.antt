@@ -34,8 +34,11 @@ at_parts texts n (x ∷ xs) ys a =
 at_behind : (texts before xs : List (List ℕ)) → texts ≡ before ++ xs → At texts (length before) xs
 at_behind texts before [] e = tt
 at_behind texts before (x ∷ xs) e =
-    let l : length (before ++ x ∷ []) ≡ length before + 1 = length-append before (x ∷ []) in
-    (ap (λ z. text_at z (length before)) e ∙ get_or-append_seam before x xs [], at_place texts (length (before ++ x ∷ [])) (length before + 1) xs l (at_behind texts (before ++ x ∷ []) xs (e ∙ sym (append_assoc before (x ∷ []) xs))))
+    let l : length (before ++ x ∷ []) ≡ length before + 1 = length-append before (x ∷ []) in (
+      ap (λ z. text_at z (length before)) e ∙ get_or-append_seam before x xs [],
+      at_place texts (length (before ++ x ∷ [])) (length before + 1) xs l
+          (at_behind texts (before ++ x ∷ []) xs (e ∙ sym (append_assoc before (x ∷ []) xs))),
+    )
 
 -- A good element has no flaw.
 good_none : (o : Bool) (t : Tree) (why : Reason) → o ≡ true → flaw_unless o t why ≡ []
@@ -94,7 +97,8 @@ module _ (more : List (List ℕ)) where
   fields_flawless n [] g a = refl
   fields_flawless n (f ∷ fs) g a =
       let rest = fields_flawless (n + 2) fs g.1 (at_place texts (n + 1 + 1) (n + 2) (flat_map field_texts fs) (omega arith) a.1.1) in
-      ap (λ z. z ++ flat_map (field_flaws texts) (field_trees (n + 2) fs)) (good_none (is_some (field_of texts (field_tree n f))) (field_tree n f) FieldBad (ap is_some (field_read n f g.0 (a.0, (a.1.0, tt))))) ∙ rest
+      ap (λ z. z ++ flat_map (field_flaws texts) (field_trees (n + 2) fs))
+      (good_none (is_some (field_of texts (field_tree n f))) (field_tree n f) FieldBad (ap is_some (field_read n f g.0 (a.0, (a.1.0, tt))))) ∙ rest
 
   -- A class element.
   super_read : (n : ℕ) (o : Option (List ℕ)) → IsSuper o → option_and_then not_empty (first_value texts (codes "superType") ((3, n) ∷ (4, n + 1) ∷ super_pairs o)) ≡ o
@@ -153,7 +157,8 @@ module _ (more : List (List ℕ)) where
   classes_read hs n [] g a = refl
   classes_read hs n (c ∷ cs) g a =
       let p = at_parts texts n (class_texts c) (flat_map class_texts cs) a in
-      ap (λ o. cons_option o (filter_map (class_of texts hs) (class_trees (n + length (class_texts c)) cs))) (class_read n c g.0 p.0 hs) ∙ ap (λ z. c ∷ z) (classes_read hs (n + length (class_texts c)) cs g.1 p.1)
+      ap (λ o. cons_option o (filter_map (class_of texts hs) (class_trees (n + length (class_texts c)) cs))) (class_read n c g.0 p.0 hs)
+      ∙ ap (λ z. c ∷ z) (classes_read hs (n + length (class_texts c)) cs g.1 p.1)
 
   classes_flawless : (n : ℕ) (k : Classes) → AllByRecursion GoodClass k → At texts n (flat_map class_texts k) → flat_map (class_flaws texts) (class_trees n k) ≡ []
   classes_flawless n [] g a = refl

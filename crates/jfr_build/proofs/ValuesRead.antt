@@ -48,14 +48,16 @@ pub record ValueThere (p : Parts) (class : ℕ) (words : List (List ℕ)) (v : V
   pub has : HasWords p class words (node_at (inline class) at to)
 
 -- A value that words spell is read wherever its bytes lie.
-pub value_there : (p : Parts) (class : ℕ) (words : List (List ℕ)) (v : Value) (end at : ℕ) → Spelled p.classes class words v → Holds p.bytes end at (bytes_of v) → ValueThere p class words v end at (at + length (bytes_of v))
+pub value_there : (p : Parts) (class : ℕ) (words : List (List ℕ)) (v : Value) (end at : ℕ) → Spelled p.classes class words v → Holds p.bytes end at (bytes_of v)
+    → ValueThere p class words v end at (at + length (bytes_of v))
 unfolding value_of
 value_there p class words v end at s h =
     let to : ℕ = at + length (bytes_of v) in
     let w : to ≤ end = h.within in
     let i : end ≤ length p.bytes = h.inside in
     let holds : Stands p.bytes at to (bytes_of v) = record { order = omega arith; within = omega arith; bytes = h.bytes } in
-    let found : value_of p.classes p.bytes (node_at (inline class) at to) ≡ Some v = ap got_value (exact_run p.bytes to holds.within (value_format p.classes (inline class)) at to (bytes_of v) v s.exact holds (omega arith)) in
+    let found : value_of p.classes p.bytes (node_at (inline class) at to) ≡ Some v =
+    ap got_value (exact_run p.bytes to holds.within (value_format p.classes (inline class)) at to (bytes_of v) v s.exact holds (omega arith)) in
     record {
       reads = exact_reads (value_format p.classes (inline class)) p.bytes end at to (bytes_of v) v s.exact holds w i;
       runs = exact_run p.bytes end i (value_format p.classes (inline class)) at to (bytes_of v) v s.exact holds w;

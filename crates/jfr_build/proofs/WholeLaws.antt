@@ -29,7 +29,8 @@ record Parted (front : List (List ℕ)) (ls ms : List LeafAt) : Type 0 where
 parted : (front : List (List ℕ)) (ls ms : List LeafAt) → AreWordsOf front (ls ++ ms) → Parted front ls ms
 parted front [] ms a = record { first = []; second = front; split = refl; first_words = tt; second_words = a }
 parted [] (l ∷ ls) ms a = absurd a
-parted (w ∷ ws) (l ∷ ls) ms a = let i = parted ws ls ms a.1 in record { first = w ∷ i.first; second = i.second; split = ap (λ z. w ∷ z) i.split; first_words = (a.0, i.first_words); second_words = i.second_words }
+parted (w ∷ ws) (l ∷ ls) ms a = let i = parted ws ls ms
+    a.1 in record { first = w ∷ i.first; second = i.second; split = ap (λ z. w ∷ z) i.split; first_words = (a.0, i.first_words); second_words = i.second_words }
 
 -- A value is taken from the words of its leaves.
 abbrev IsTaken : Taker Value → Value → Type 0
@@ -38,7 +39,8 @@ IsTaken f v = (h : Option Holder) (at : ℕ) (front rest : List (List ℕ)) → 
 abbrev AllTaken : (Shape → Taker Value) → Values → Type 0
 AllTaken f vs = AllByRecursion (λ w. IsTaken (f (shape_of w)) w) (list_of vs)
 
-cons_taken : (f : Taker Value) (g : Taker (List Value)) (v : Value) (vs : Values) (m : ℕ → Option Holder) (at : ℕ) (front rest : List (List ℕ)) → IsTaken f v → ((m : ℕ → Option Holder) (at : ℕ) (front rest : List (List ℕ)) → AreWordsOf front (leaves_from m at vs) → g (front ++ rest) ≡ took (list_of vs) rest)
+cons_taken : (f : Taker Value) (g : Taker (List Value)) (v : Value) (vs : Values) (m : ℕ → Option Holder) (at : ℕ) (front rest : List (List ℕ)) → IsTaken f v
+    → ((m : ℕ → Option Holder) (at : ℕ) (front rest : List (List ℕ)) → AreWordsOf front (leaves_from m at vs) → g (front ++ rest) ≡ took (list_of vs) rest)
     → AreWordsOf front (leaves_from m at (Cons v vs)) → then_take (f (front ++ rest)) (λ a us. then_take (g us) λ bs vs. took (a ∷ bs) vs) ≡ took (v ∷ list_of vs) rest
 cons_taken f g v vs m at front rest x y a =
     let i = parted front (leaves_at (m zero) at v) (leaves_from (λ n. m (suc n)) (at + length (bytes_of v)) vs) a in
@@ -51,7 +53,8 @@ none_taken : (m : ℕ → Option Holder) (at : ℕ) (front rest : List (List ℕ
 none_taken m at [] rest a = refl
 none_taken m at (w ∷ ws) rest a = absurd a
 
-times_all : (f : Shape → Taker Value) (s : Shape) (n : ℕ) (vs : Values) → shapes_of vs ≡ replicate n s → AllTaken f vs → (m : ℕ → Option Holder) (at : ℕ) (front rest : List (List ℕ)) → AreWordsOf front (leaves_from m at vs) → times_taken n (f s) (front ++ rest) ≡ took (list_of vs) rest
+times_all : (f : Shape → Taker Value) (s : Shape) (n : ℕ) (vs : Values) → shapes_of vs ≡ replicate n s → AllTaken f vs → (m : ℕ → Option Holder) (at : ℕ) (front rest : List (List ℕ))
+    → AreWordsOf front (leaves_from m at vs) → times_taken n (f s) (front ++ rest) ≡ took (list_of vs) rest
 times_all f s zero Nil e x m at front rest a = none_taken m at front rest a
 times_all f s zero (Cons v vs) e x m at front rest a = cc
 times_all f s (suc n) Nil e x m at front rest a = cc
@@ -60,7 +63,8 @@ times_all f s (suc n) (Cons v vs) e x m at front rest a =
     let r : shapes_of vs ≡ replicate n s = (let x : shape_of v ∷ shapes_of vs ≡ s ∷ replicate n s = e in cc) in
     cons_taken (f s) (times_taken n (f s)) v vs m at front rest (subst (λ z. IsTaken (f z) v) q x.0) (λ m at front rest a. times_all f s n vs r x.1 m at front rest a) a
 
-each_all : (f : Shape → Taker Value) (fs : List Field) (vs : Values) → shapes_of vs ≡ map (λ g. g.shape) fs → AllTaken f vs → (m : ℕ → Option Holder) (at : ℕ) (front rest : List (List ℕ)) → AreWordsOf front (leaves_from m at vs) → each_taken fs (λ g. f g.shape) (front ++ rest) ≡ took (list_of vs) rest
+each_all : (f : Shape → Taker Value) (fs : List Field) (vs : Values) → shapes_of vs ≡ map (λ g. g.shape) fs → AllTaken f vs → (m : ℕ → Option Holder) (at : ℕ) (front rest : List (List ℕ))
+    → AreWordsOf front (leaves_from m at vs) → each_taken fs (λ g. f g.shape) (front ++ rest) ≡ took (list_of vs) rest
 each_all f [] Nil e x m at front rest a = none_taken m at front rest a
 each_all f [] (Cons v vs) e x m at front rest a = cc
 each_all f (g ∷ fs) Nil e x m at front rest a = cc
@@ -83,9 +87,11 @@ one_word (w ∷ x ∷ ws) l a = absurd a.1
 
 reference_all : (s : Shape) (m : ℕ) (w b : List ℕ) (rest : List (List ℕ)) → id_after 35 w ≡ Some m → b ≡ spell m → reference_taken s (w ∷ rest) ≡ took (Single s (leaf_kinds.Key m) b (Some m)) rest
 reference_all s m w b rest e q =
-    ap (λ z. then_take (option_map (λ a. record { value = a; rest = rest }) z) (λ key us. took (Single s (leaf_kinds.Key key) (spell key) (Some key)) us)) e ∙ ap (λ z. took (Single s (leaf_kinds.Key m) z (Some m)) rest) (sym q)
+    ap (λ z. then_take (option_map (λ a. record { value = a; rest = rest }) z) (λ key us. took (Single s (leaf_kinds.Key key) (spell key) (Some key)) us)) e
+    ∙ ap (λ z. took (Single s (leaf_kinds.Key m) z (Some m)) rest) (sym q)
 
-base_all : (kd : Kind) (s : Shape) (w b : List ℕ) (rest : List (List ℕ)) → base_of kd w ≡ Some b → base_taken kd s (w ∷ rest) ≡ took (Single s (leaf_kinds.Base kd) b (leaf_key (leaf_kinds.Base kd) b)) rest
+base_all : (kd : Kind) (s : Shape) (w b : List ℕ) (rest : List (List ℕ)) → base_of kd w ≡ Some b
+    → base_taken kd s (w ∷ rest) ≡ took (Single s (leaf_kinds.Base kd) b (leaf_key (leaf_kinds.Base kd) b)) rest
 base_all kd s w b rest e = ap (λ z. then_take (option_map (λ a. record { value = a; rest = rest }) z) (λ b us. took (Single s (leaf_kinds.Base kd) b (leaf_key (leaf_kinds.Base kd) b)) us)) e
 
 kind_all : (kd : Kind) (s : Shape) (fields : Taker (List Value)) (ws : List (List ℕ)) (b : List ℕ) (key : Option ℕ) → IsBase kd b key → kind_taken kd s fields ws ≡ base_taken kd s ws
@@ -99,7 +105,8 @@ module _ (k : Classes) where
       let w = one_word front (record { kind = kind; class = s.class; holder = g; at = at; spelled = b }) a in
       let i = subst (λ z. IsWordOf w.0 z b) f.4 w.2 in
       by_marks (class_taken (suc n) k) s false true (front ++ rest) (took (Single s kind b key) rest) f.0 f.1
-      (ap (λ z. reference_taken s (z ++ rest)) w.1 ∙ (reference_all s f.2 w.0 b rest i.0 i.1 ∙ (ap (λ z. took (Single s z b (Some f.2)) rest) (sym f.4) ∙ ap (λ z. took (Single s kind b z) rest) (sym f.5))))
+      (ap (λ z. reference_taken s (z ++ rest)) w.1
+      ∙ (reference_all s f.2 w.0 b rest i.0 i.1 ∙ (ap (λ z. took (Single s z b (Some f.2)) rest) (sym f.4) ∙ ap (λ z. took (Single s kind b z) rest) (sym f.5))))
   single_all n s kind b key (inr f) g at front rest a =
       let w = one_word front (record { kind = kind; class = s.class; holder = g; at = at; spelled = b }) a in
       let kd : Kind = kind_of f.2.name in
@@ -107,13 +114,16 @@ module _ (k : Classes) where
       let j : leaf_key (leaf_kinds.Base kd) b ≡ key = base_key kd b key f.5 in
       by_marks (class_taken (suc n) k) s false false (front ++ rest) (took (Single s kind b key) rest) f.0 f.1
       (ap (λ z. inline_taken (class_taken n k) s z (front ++ rest)) f.3 ∙ (kind_all kd s (each_taken f.2.fields (λ g. shape_taken (class_taken n k) g.shape)) (front ++ rest) b key f.5
-      ∙ (ap (λ z. base_taken kd s (z ++ rest)) w.1 ∙ (base_all kd s w.0 b rest i ∙ (ap (λ z. took (Single s z b (leaf_key (leaf_kinds.Base kd) b)) rest) (sym f.4) ∙ ap (λ z. took (Single s kind b z) rest) j)))))
+      ∙ (ap (λ z. base_taken kd s (z ++ rest)) w.1
+      ∙ (base_all kd s w.0 b rest i ∙ (ap (λ z. took (Single s z b (leaf_key (leaf_kinds.Base kd) b)) rest) (sym f.4) ∙ ap (λ z. took (Single s kind b z) rest) j)))))
 
-  array_all : (n : ℕ) (s : Shape) (h : List ℕ) (vs : Values) → s.array ≡ true → (m : ℕ) → Spells h m → shapes_of vs ≡ replicate m (item_of s) → AllTaken (shape_taken (class_taken (suc n) k)) vs → IsTaken (shape_taken (class_taken (suc n) k) s) (Group s h vs)
+  array_all : (n : ℕ) (s : Shape) (h : List ℕ) (vs : Values) → s.array ≡ true → (m : ℕ) → Spells h m → shapes_of vs ≡ replicate m (item_of s) → AllTaken (shape_taken (class_taken (suc n) k)) vs
+      → IsTaken (shape_taken (class_taken (suc n) k) s) (Group s h vs)
   array_all n s h vs a m p e x g at front rest q =
       let f = class_taken (suc n) k in
       let b : AreWordsOf front (record { kind = leaf_kinds.Count (worth_within 8 h); class = s.class; holder = g; at = at; spelled = h } ∷ leaves_from (λ n. g) (at + length h) vs) =
-      subst (λ z. AreWordsOf front ((if z then record { kind = leaf_kinds.Count (worth_within 8 h); class = s.class; holder = g; at = at; spelled = h } ∷ [] else []) ++ leaves_from (if z then (λ n. g) else (λ n. Some (record { class = s.class; field = n }))) (at + length h) vs)) a q in
+      subst (λ z. AreWordsOf front ((if z then record { kind = leaf_kinds.Count (worth_within 8 h); class = s.class; holder = g; at = at; spelled = h } ∷ [] else []) ++ leaves_from
+      (if z then (λ n. g) else (λ n. Some (record { class = s.class; field = n }))) (at + length h) vs)) a q in
       let i = parted front (record { kind = leaf_kinds.Count (worth_within 8 h); class = s.class; holder = g; at = at; spelled = h } ∷ []) (leaves_from (λ n. g) (at + length h) vs) b in
       let w = one_word i.first (record { kind = leaf_kinds.Count (worth_within 8 h); class = s.class; holder = g; at = at; spelled = h }) i.first_words in
       let c : id_after 91 w.0 ≡ Some m = w.2.0 ∙ ap (λ z. Some z) (sym p.worth) in
@@ -122,16 +132,19 @@ module _ (k : Classes) where
       let t = times_all (shape_taken f) (item_of s) m vs e x (λ n. g) (at + length h) i.second rest i.second_words in
       by_marks f s true s.constant (front ++ rest) (took (Group s h vs) rest) a refl
       (ap (λ z. array_taken (item_taken f (item_of s)) s z) l
-      ∙ (ap (λ z. then_take (option_map (λ a. record { value = a; rest = i.second ++ rest }) z) (λ n us. then_take (times_taken n (item_taken f (item_of s)) us) λ vs rest. took (Group s (spell n) (values_of vs)) rest)) c
+      ∙ (ap (λ z. then_take (option_map (λ a. record { value = a; rest = i.second ++ rest }) z)
+      (λ n us. then_take (times_taken n (item_taken f (item_of s)) us) λ vs rest. took (Group s (spell n) (values_of vs)) rest)) c
       ∙ (ap (λ z. then_take z (λ vs rest. took (Group s (spell m) (values_of vs)) rest)) t
       ∙ (ap (λ z. took (Group s (spell m) z) rest) (values_again vs) ∙ ap (λ z. took (Group s z vs) rest) j))))
 
-  fields_all : (n : ℕ) (s : Shape) (h : List ℕ) (vs : Values) (c : Class) → s.array ≡ false → s.constant ≡ false → find_class k s.class ≡ Some c → kind_of c.name ≡ kinds.Composite → h ≡ [] → shapes_of vs ≡ map (λ f. f.shape) c.fields → AllTaken (shape_taken (class_taken n k)) vs → IsTaken (shape_taken (class_taken (suc n) k) s) (Group s h vs)
+  fields_all : (n : ℕ) (s : Shape) (h : List ℕ) (vs : Values) (c : Class) → s.array ≡ false → s.constant ≡ false → find_class k s.class ≡ Some c → kind_of c.name ≡ kinds.Composite → h ≡ []
+      → shapes_of vs ≡ map (λ f. f.shape) c.fields → AllTaken (shape_taken (class_taken n k)) vs → IsTaken (shape_taken (class_taken (suc n) k) s) (Group s h vs)
   unfolding class_taken
   fields_all n s h vs c a o q e z r x g at front rest y =
       let holders : ℕ → Option Holder = λ n. Some (record { class = s.class; field = n }) in
       let b : AreWordsOf front (leaves_from holders (at + length h) vs) =
-      subst (λ z. AreWordsOf front ((if z then record { kind = leaf_kinds.Count (worth_within 8 h); class = s.class; holder = g; at = at; spelled = h } ∷ [] else []) ++ leaves_from (if z then (λ n. g) else holders) (at + length h) vs)) a y in
+      subst (λ z. AreWordsOf front ((if z then record { kind = leaf_kinds.Count (worth_within 8 h); class = s.class; holder = g; at = at; spelled = h } ∷ [] else []) ++ leaves_from
+      (if z then (λ n. g) else holders) (at + length h) vs)) a y in
       let t = each_all (shape_taken (class_taken n k)) c.fields vs r x holders (at + length h) front rest b in
       by_marks (class_taken (suc n) k) s false false (front ++ rest) (took (Group s h vs) rest) a o
       (ap (λ z. inline_taken (class_taken n k) s z (front ++ rest)) q
@@ -141,4 +154,5 @@ module _ (k : Classes) where
 
   pub value_all : Sound k → (v : Value) → Fits k v → (front rest : List (List ℕ)) → AreWordsOf front (leaves_at None 0 v) → value_taken k (shape_of v) (front ++ rest) ≡ took v rest
   unfolding value_taken
-  value_all s v f front rest a = by_depth k (λ n v. IsTaken (shape_taken (class_taken (suc n) k) (shape_of v)) v) single_all array_all (λ n. fields_all (suc n)) v 33 (λ o c q e. sound_inline k (shape_of v).class c s q) f None 0 front rest a
+  value_all s v f front rest a = by_depth k (λ n v. IsTaken (shape_taken (class_taken (suc n) k) (shape_of v)) v) single_all array_all (λ n. fields_all (suc n)) v 33
+      (λ o c q e. sound_inline k (shape_of v).class c s q) f None 0 front rest a

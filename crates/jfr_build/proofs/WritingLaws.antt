@@ -47,7 +47,8 @@ pub times_wrote : (f : Taker Value) (n i : ℕ) (ws : List (List ℕ)) (before :
 times_wrote f n i ws before h = let e : n - i ≡ suc (n - (i + 1)) = omega arith in rw e (first_wrote (f ws) (times_taken (n - (i + 1)) f) before)
 
 -- One step of a loop.
-pub after_wrote : (o : Option (Taken (List ℕ))) (bytes : List ℕ) (rest : List (List ℕ)) (g : Rest) (a z : Option (Taken (List ℕ))) → a ≡ then_take o g → o ≡ Some (record { value = bytes; rest = rest }) → a ≡ z → g bytes rest ≡ z
+pub after_wrote : (o : Option (Taken (List ℕ))) (bytes : List ℕ) (rest : List (List ℕ)) (g : Rest) (a z : Option (Taken (List ℕ))) → a ≡ then_take o g
+    → o ≡ Some (record { value = bytes; rest = rest }) → a ≡ z → g bytes rest ≡ z
 after_wrote o bytes rest g a z e h k = ap (λ v. then_take v g) (sym h) ∙ (sym e ∙ k)
 
 pub after_bad : (o : Option (Taken (List ℕ))) (g : Rest) (a z : Option (Taken (List ℕ))) → a ≡ then_take o g → o ≡ None → a ≡ z → z ≡ None
@@ -79,7 +80,8 @@ base_wrote kind s w b ws before e = rw e refl
 pub base_bad : (kind : Kind) (s : Shape) (w : List ℕ) (ws : List (List ℕ)) (before : List ℕ) → base_of kind w ≡ None → wrote before (base_taken kind s (w ∷ ws)) ≡ None
 base_bad kind s w ws before e = rw e refl
 
-pub base_appended : {A : Type 0} (kind : Kind) (s : Shape) (w : List ℕ) (ws words : List (List ℕ)) (before after : List ℕ) (r : Result A ValueFault) → words ≡ w ∷ ws → Appends (base_of kind w) r before after
+pub base_appended : {A : Type 0} (kind : Kind) (s : Shape) (w : List ℕ) (ws words : List (List ℕ)) (before after : List ℕ) (r : Result A ValueFault) → words ≡ w ∷ ws
+    → Appends (base_of kind w) r before after
     → Writes (wrote before (base_taken kind s words)) r after ws
 base_appended kind s w ws words before after (Ok u) e a = by_bytes (base_of kind w) refl a
   where
@@ -178,7 +180,8 @@ pub array_bad : (f : Shape → Taker Value) (s : Shape) (w : List ℕ) (ws : Lis
 array_bad f s w ws before a e = ap (wrote before) (by_marks f s true s.constant (w ∷ ws) a refl) ∙ rw e refl
 
 -- An array, after its count was written.
-pub array_after : (f : Shape → Taker Value) (s : Shape) (w : List ℕ) (ws words : List (List ℕ)) (before after : List ℕ) (n : ℕ) → words ≡ w ∷ ws → after ≡ before ++ spell n → s.array ≡ true → Some n ≡ id_after 91 w
+pub array_after : (f : Shape → Taker Value) (s : Shape) (w : List ℕ) (ws words : List (List ℕ)) (before after : List ℕ) (n : ℕ) → words ≡ w ∷ ws → after ≡ before ++ spell n → s.array ≡ true
+    → Some n ≡ id_after 91 w
     → wrote_all after (times_taken n (shape_taken f (item_of s)) ws) ≡ wrote before (shape_taken f s words)
 array_after f s w ws words before after n e h a q =
     ap (λ z. wrote_all z (times_taken n (shape_taken f (item_of s)) ws)) h ∙ (array_written f s w ws before n a (sym q) ∙ ap (λ z. wrote before (shape_taken f s z)) (sym e))

@@ -41,7 +41,8 @@ class_line event ws = with_word id_of (λ id us. with_word name_of (λ name vs. 
 
 -- A field: its name, the id of its class and its marks.
 abbrev pub field_line : List (List ℕ) → Option BuildLine
-field_line ws = with_word name_of (λ name us. with_word id_of (λ id vs. with_word marks_of (λ marks rest. at_end (Field name (record { class = id; constant = marks.0; array = marks.1 })) rest) vs) us) ws
+field_line ws = with_word name_of (λ name us. with_word id_of (λ id vs. with_word marks_of (λ marks rest. at_end (Field name (record { class = id; constant = marks.0; array = marks.1 })) rest) vs) us)
+    ws
 
 -- A constant: the id of its class, its key, and the words of its leaves.
 abbrev pub constant_line : List (List ℕ) → Option BuildLine

@@ -117,7 +117,8 @@ module _ (c : List ℕ) (long : 68 ≤ length c) (chains : (rs : List Framed) �
   entries_told : (d : Described c) → Tells (after_classes c d.chained.framing.records d.chained.chain d.body d.classes)
   entries_told d = by_result (entries_of c d.classes 0 (reverse d.chained.chain)) (entries_tell c d.classes 0 (reverse d.chained.chain) (links d.chained))
     where
-      by_result : (r : Result (List EntryAt) Flaw) → EntriesTell c d.classes 0 (reverse d.chained.chain) r → Tells (and_then r (after_entries c d.chained.framing.records d.chained.chain d.body d.classes))
+      by_result : (r : Result (List EntryAt) Flaw) → EntriesTell c d.classes 0 (reverse d.chained.chain) r
+          → Tells (and_then r (after_entries c d.chained.framing.records d.chained.chain d.body d.classes))
       by_result (Ok es) t = events_told (record { described = d; entries = es; valid = t })
       by_result (Err f) t = checkpoints d t
 
@@ -130,13 +131,15 @@ module _ (c : List ℕ) (long : 68 ≤ length c) (chains : (rs : List Framed) �
       i : IsRecord c m
       i = metadata_is h.framing
 
-      by_classes : (b : Body) (r : Result Classes Flaw) → Reads meta_format c (record_end m) m.body b (record_end m) → described b ≡ r → Tells (and_then r (after_classes c h.framing.records h.chain b))
+      by_classes : (b : Body) (r : Result Classes Flaw) → Reads meta_format c (record_end m) m.body b (record_end m) → described b ≡ r
+          → Tells (and_then r (after_classes c h.framing.records h.chain b))
       by_classes b (Err f) s e = metadata h (inr (b, s, e))
       by_classes b (Ok k) s e = entries_told (record { chained = h; body = b; classes = k; metadata = record { body = s; classes = e } })
 
       by_answer : (a : Answer Body) → ReadsOrFails meta_format c (record_end m) m.body a → Tells (and_then (body_by a) (after_body c h.framing.records h.chain))
       by_answer (Err f) s = metadata h (inl s)
-      by_answer (Ok g) s = by_classes g.value (described g.value) (subst (λ to. Reads meta_format c (record_end m) m.body g.value to) (meta_end c (record_end m) m.body g.value g.place i.covers s) s) refl
+      by_answer (Ok g) s = by_classes g.value (described g.value) (subst (λ to. Reads meta_format c (record_end m) m.body g.value to) (meta_end c (record_end m) m.body g.value g.place i.covers s) s)
+          refl
 
   chain_told : (f : Framing c) → Tells (after_last c f.records f.metadata f.last)
   chain_told f = by_result (chain_of c f.records f.last) ((chains f.records f.cover).tells (pools_at c) f.last f.last_there)
@@ -176,15 +179,19 @@ module _ (c : List ℕ) (long : 68 ≤ length c) (chains : (rs : List Framed) �
   metadata_to rs m cover s = framed_to rs cover ∙ ap (λ x. and_then (found_or no_metadata x) (after_metadata c rs)) (starts_there c rs (metadata_at c) 0 m (tiles_each c 68 (length c) rs cover) s)
 
   last_to : (f : Framing c) → read_parts c ≡ after_last c f.records f.metadata f.last
-  last_to f = metadata_to f.records f.metadata f.cover f.metadata_there ∙ ap (λ x. and_then (found_or no_pools x) (after_last c f.records f.metadata)) (starts_there c f.records (pools_at c) 1 f.last (each f) f.last_there)
+  last_to f = metadata_to f.records f.metadata f.cover f.metadata_there ∙ ap (λ x. and_then (found_or no_pools x) (after_last c f.records f.metadata))
+      (starts_there c f.records (pools_at c) 1 f.last (each f) f.last_there)
 
   chained_to : (h : Chained c) → read_parts c ≡ after_chain c h.framing.records h.framing.metadata h.chain
-  chained_to h = last_to h.framing ∙ ap (λ x. and_then x (after_chain c h.framing.records h.framing.metadata)) ((chains h.framing.records h.framing.cover).chain (pools_at c) h.chain h.framing.last h.framing.last_there h.links)
+  chained_to h = last_to h.framing ∙ ap (λ x. and_then x (after_chain c h.framing.records h.framing.metadata))
+      ((chains h.framing.records h.framing.cover).chain (pools_at c) h.chain h.framing.last h.framing.last_there h.links)
 
-  body_to : (h : Chained c) (b : Body) → Reads meta_format c (record_end h.framing.metadata) h.framing.metadata.body b (record_end h.framing.metadata) → read_parts c ≡ after_body c h.framing.records h.chain b
+  body_to : (h : Chained c) (b : Body) → Reads meta_format c (record_end h.framing.metadata) h.framing.metadata.body b (record_end h.framing.metadata)
+      → read_parts c ≡ after_body c h.framing.records h.chain b
   body_to h b r =
       let i = metadata_is h.framing in
-      chained_to h ∙ ap (λ x. and_then (body_by x) (after_body c h.framing.records h.chain)) (reads_computed c (record_end h.framing.metadata) i.within meta_format h.framing.metadata.body b (record_end h.framing.metadata) i.covers r)
+      chained_to h ∙ ap (λ x. and_then (body_by x) (after_body c h.framing.records h.chain))
+      (reads_computed c (record_end h.framing.metadata) i.within meta_format h.framing.metadata.body b (record_end h.framing.metadata) i.covers r)
 
   described_to : (d : Described c) → read_parts c ≡ after_classes c d.chained.framing.records d.chained.chain d.body d.classes
   described_to d = body_to d.chained d.body d.metadata.body ∙ ap (λ x. and_then x (after_classes c d.chained.framing.records d.chained.chain d.body)) d.metadata.classes
@@ -205,21 +212,38 @@ module _ (c : List ℕ) (long : 68 ≤ length c) (chains : (rs : List Framed) �
       last_to g ∙ ap (λ x. and_then x (after_chain c g.records g.metadata)) ((chains g.records g.cover).flaw (pools_at c) before f g.last g.last_there w)
   refused_read f (metadata h (inl w)) =
       let i = metadata_is h.framing in
-      chained_to h ∙ ap (λ x. and_then (body_by x) (after_body c h.framing.records h.chain)) (fails_computed c (record_end h.framing.metadata) i.within meta_format h.framing.metadata.body f.offset f.reason i.covers w)
+      chained_to h ∙ ap (λ x. and_then (body_by x) (after_body c h.framing.records h.chain))
+      (fails_computed c (record_end h.framing.metadata) i.within meta_format h.framing.metadata.body f.offset f.reason i.covers w)
   refused_read f (metadata h (inr w)) = body_to h w.0 w.1 ∙ ap (λ x. and_then x (after_classes c h.framing.records h.chain w.0)) w.2
   refused_read f (checkpoints d w) =
       described_to d ∙ ap (λ x. and_then x (after_entries c d.chained.framing.records d.chained.chain d.body d.classes)) (entries_err c d.classes 0 (reverse d.chained.chain) f (links d.chained) w)
   refused_read f (events p w) =
       pooled_to p
-      ∙ ap (λ x. and_then x λ all. Ok (record { bytes = c; records = p.described.chained.framing.records; chain = p.described.chained.chain; body = p.described.body; classes = p.described.classes; entries = p.entries }))
-      (events_err c p.described.classes (event_records p.described.classes p.described.chained.framing.records) (event_records p.described.classes p.described.chained.framing.records) f (event_each p.described.classes p.described.chained.framing) w)
+      ∙ ap (λ x. and_then x λ all. Ok (record {
+        bytes = c;
+        records = p.described.chained.framing.records;
+        chain = p.described.chained.chain;
+        body = p.described.body;
+        classes = p.described.classes;
+        entries = p.entries;
+      }))
+      (events_err c p.described.classes (event_records p.described.classes p.described.chained.framing.records) (event_records p.described.classes p.described.chained.framing.records) f
+      (event_each p.described.classes p.described.chained.framing) w)
 
   pooled_read : (p : Pooled c) → All (HasFields c p.described.classes) (event_records p.described.classes p.described.chained.framing.records)
       → read_parts c ≡ Ok (record { bytes = c; records = p.described.chained.framing.records; chain = p.described.chained.chain; body = p.described.body; classes = p.described.classes; entries = p.entries })
   pooled_read p w =
       pooled_to p
-      ∙ ap (λ x. and_then x λ all. Ok (record { bytes = c; records = p.described.chained.framing.records; chain = p.described.chained.chain; body = p.described.body; classes = p.described.classes; entries = p.entries }))
-      (events_ok c p.described.classes (event_records p.described.classes p.described.chained.framing.records) (event_records p.described.classes p.described.chained.framing.records) (event_each p.described.classes p.described.chained.framing)
+      ∙ ap (λ x. and_then x λ all. Ok (record {
+        bytes = c;
+        records = p.described.chained.framing.records;
+        chain = p.described.chained.chain;
+        body = p.described.body;
+        classes = p.described.classes;
+        entries = p.entries;
+      }))
+      (events_ok c p.described.classes (event_records p.described.classes p.described.chained.framing.records) (event_records p.described.classes p.described.chained.framing.records)
+      (event_each p.described.classes p.described.chained.framing)
       (recursion_from_All (HasFields c p.described.classes) (event_records p.described.classes p.described.chained.framing.records) w))
 
 -- The newest link's checkpoint is where the chain starts.

@@ -79,7 +79,8 @@ module _ (c : List ℕ) (k : Classes) (sound : Sound k) where
       let q : at < place = int_some c at place r.1 r.2 in
       let a = reads_parted (value_format k (inline class)) (λ value. Here λ end. Done (record { key = r.1; key_at = at; value_at = place; end = end; value = value })) c end place x to r.5 in
       let n = read_node k (inline class) c end place a.place a.value l r.3 a.first in
-      let w : length (leaves k c (record { shape = inline class; at = place; end = a.place })) ≤ a.place - place = node_leaves_within k sound c (record { shape = inline class; at = place; end = a.place }) a.value n.0 in
+      let w : length (leaves k c (record { shape = inline class; at = place; end = a.place })) ≤ a.place - place =
+      node_leaves_within k sound c (record { shape = inline class; at = place; end = a.place }) a.value n.0 in
       let o : place ≤ a.place = n.0.order in
       let e : to ≡ a.place = a.second.1 in
       subst (λ z. at + constant_weight class z ≤ to) (sym a.second.0) (omega arith)
@@ -91,7 +92,8 @@ module _ (c : List ℕ) (k : Classes) (sound : Sound k) where
       let s = r.5 in
       let q : r.0 ≤ s.0 = s.2.order in
       let a = reads_parted (times s.1 (constant_format k class)) (λ constants. Done (record { class = class; constants = constants })) c end s.0 x to s.5 in
-      let n : s.0 + total (constant_weight class) a.value ≤ a.place = times_total (constant_weight class) (constant_format k class) c end (constant_within end l class) s.1 s.0 a.value a.place s.3 a.first in
+      let n : s.0 + total (constant_weight class) a.value ≤ a.place =
+      times_total (constant_weight class) (constant_format k class) c end (constant_within end l class) s.1 s.0 a.value a.place s.3 a.first in
       let e : to ≡ a.place = a.second.1 in
       subst (λ z. at + pool_weight z ≤ to) (sym a.second.0) (omega arith)
 
@@ -197,7 +199,8 @@ apart c k p q [] t lo [] u a = omega (arith, t)
 apart c k p q [] t lo (l ∷ ls) u a = absurd a.0.0
 apart c k p q (r ∷ rs) t lo ls u a = by_test (is_event_class k r.type_id) refl (apart c k (record_end r) q rs t.2)
   where
-    by_place : (lo : ℕ) (l : Link) (ls : List Link) → Up lo (l ∷ ls) → AllByRecursion (Linked (r ∷ rs)) (l ∷ ls) → In (r ∷ rs) l.frame → Apart k (record_end r) q rs → p + (total record_size (event_records k rs) + (l.frame.size + total link_size ls)) ≤ q
+    by_place : (lo : ℕ) (l : Link) (ls : List Link) → Up lo (l ∷ ls) → AllByRecursion (Linked (r ∷ rs)) (l ∷ ls) → In (r ∷ rs) l.frame → Apart k (record_end r) q rs
+        → p + (total record_size (event_records k rs) + (l.frame.size + total link_size ls)) ≤ q
     by_place lo l ls u a (inl e) go =
         let b : r.at ≡ l.frame.at = ap (λ (z : Framed). z.at) e in
         let s : r.size ≡ l.frame.size = ap (λ (z : Framed). z.size) e in
@@ -207,7 +210,8 @@ apart c k p q (r ∷ rs) t lo ls u a = by_test (is_event_class k r.type_id) refl
     by_place lo l ls u a (inr j) go =
         let d : r.at ≡ p = t.0 in
         let m : r.at + r.size ≤ l.frame.at = at_least c (record_end r) q rs l.frame t.2 j in
-        let i : r.at + r.size + (total record_size (event_records k rs) + (l.frame.size + total link_size ls)) ≤ q = go lo (l ∷ ls) u ((j, a.0.1), behind r rs (l.frame.at + 1) ls (omega arith) u.1 a.1) in
+        let i : r.at + r.size + (total record_size (event_records k rs) + (l.frame.size + total link_size ls)) ≤ q =
+        go lo (l ∷ ls) u ((j, a.0.1), behind r rs (l.frame.at + 1) ls (omega arith) u.1 a.1) in
         omega arith
 
     by_link : (lo : ℕ) (ls : List Link) → Up lo ls → AllByRecursion (Linked (r ∷ rs)) ls → Apart k (record_end r) q rs → p + (total record_size (event_records k rs) + total link_size ls) ≤ q
@@ -235,7 +239,8 @@ module _ (c : List ℕ) (rs : List Framed) (records : AreRecords c rs) (at : ℕ
   entries_apart =
       let links = links_each c rs at ls chain in
       let up = (chain_rises c rs at ls chain).0 in
-      let a : 68 + (total record_size (event_records k rs) + total link_size (reverse ls)) ≤ length c = apart c k 68 (length c) rs records 0 (reverse ls) up (all_reverse (Linked rs) ls (linked c rs ls links)) in
+      let a : 68 + (total record_size (event_records k rs) + total link_size (reverse ls)) ≤ length c =
+      apart c k 68 (length c) rs records 0 (reverse ls) up (all_reverse (Linked rs) ls (linked c rs ls links)) in
       let each = all_reverse (λ (l : Link). IsRecord c l.frame) ls (links_record c rs (tiles_each c 68 (length c) rs records) ls links) in
       let b : total (entry_weight c k) es ≤ total link_size (reverse ls) = entries_within c k sound 0 (reverse ls) es each valid in
       let d = total_suc (leaves_of c k) es in

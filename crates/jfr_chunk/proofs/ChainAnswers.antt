@@ -17,7 +17,8 @@ use Rattle.jfr_chunk.proofs.AnswerLaws.{ChainTells, ChainAnswers, Tells, read_te
 
 pub chain_answers : (c : List ℕ) (rs : List Framed) → AreRecords c rs → ChainAnswers c rs
 chain_answers c rs cover = record {
-  tells = λ at r s. subst (λ z. ChainTells c rs z (chain_of c rs r)) s.place (told r.at (chain_of c rs r) (chain_tells c rs are r (there r.at r (record { listed = s.listed; place = refl; type_is = s.type_is }))));
+  tells = λ at r s. subst (λ z. ChainTells c rs z (chain_of c rs r)) s.place
+      (told r.at (chain_of c rs r) (chain_tells c rs are r (there r.at r (record { listed = s.listed; place = refl; type_is = s.type_is }))));
   chain = λ at ls r s h. chain_read c rs are one at ls h r (there at r s);
   flaw = λ at ls f r s h. chain_fails c rs are one at ls f.offset f.reason h r (there at r s);
 }

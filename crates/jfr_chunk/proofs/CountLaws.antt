@@ -124,7 +124,8 @@ module _ (k : Classes) (sound : Sound k) (c : List ℕ) where
       few : length (node_entries es k c (node_at (inline r.type_id) r.body end)) ≤ r.size
 
     fields_within : (r : Framed) (end : ℕ) → IsRecord c r → Ok end ≡ end_or_flaw (run (value_format k (inline r.type_id)) c (record_end r) r.body) → FieldsWithin r end
-    fields_within r end i e = by_answer (run (value_format k (inline r.type_id)) c (record_end r) r.body) (run_reads_or_fails (value_format k (inline r.type_id)) c (record_end r) r.body i.covers i.within) e
+    fields_within r end i e = by_answer (run (value_format k (inline r.type_id)) c (record_end r) r.body)
+        (run_reads_or_fails (value_format k (inline r.type_id)) c (record_end r) r.body i.covers i.within) e
       where
         by_answer : (a : Answer Value) → ReadsOrFails (value_format k (inline r.type_id)) c (record_end r) r.body a → Ok end ≡ end_or_flaw a → FieldsWithin r end
         by_answer (Err flaw) s e = cc
@@ -144,7 +145,8 @@ module _ (k : Classes) (sound : Sound k) (c : List ℕ) where
       pub numbers_fit : length more < 2 ^ 32
       pub counted : Counted c rs (n + 1) (length more)
 
-    pub counted_event : (rs : List Framed) (n end : ℕ) (r : Framed) (numbers more : List ℕ) → Whole c → AreRecords c rs → slice_get rs n ≡ Some r → Ok end ≡ end_or_flaw (run (value_format k (inline r.type_id)) c (record_end r) r.body)
+    pub counted_event : (rs : List Framed) (n end : ℕ) (r : Framed) (numbers more : List ℕ) → Whole c → AreRecords c rs → slice_get rs n ≡ Some r
+        → Ok end ≡ end_or_flaw (run (value_format k (inline r.type_id)) c (record_end r) r.body)
         → length more ≤ length numbers + length (node_entries es k c (node_at (inline r.type_id) r.body end)) → Counted c rs n (length numbers) → CountedEvent rs n end r more
     counted_event rs n end r numbers more w t g e m h =
         let f = fields_within r end (record_of c rs n r t g) e in

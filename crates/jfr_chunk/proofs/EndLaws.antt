@@ -55,7 +55,8 @@ before_other n early fields b = record {
   ahead = λ q h. b.ahead q (omega arith);
 }
 
-pub before_event : (n end : ℕ) (early later : BTreeMap ℕ ℕ) (fields : List EventIndexEntry) (f : EventIndexEntry) (r : Framed) → f.record ≡ n → EndIs early later n r end → AreBefore n early fields → AreBefore (n + 1) later (fields ++ f ∷ [])
+pub before_event : (n end : ℕ) (early later : BTreeMap ℕ ℕ) (fields : List EventIndexEntry) (f : EventIndexEntry) (r : Framed) → f.record ≡ n → EndIs early later n r end → AreBefore n early fields
+    → AreBefore (n + 1) later (fields ++ f ∷ [])
 before_event n end early later fields f r e i b = record {
   each = all_append (λ (f : EventIndexEntry). f.record < n + 1) fields (f ∷ []) (weaker n fields b.each) (omega arith, tt);
   ahead = λ q h. i.others q (λ d. (omega arith)) ∙ b.ahead q (omega arith);

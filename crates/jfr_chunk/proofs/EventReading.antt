@@ -68,14 +68,16 @@ module _ (c : List ℕ) (k : Classes) (rs : List Framed) where
   left_event n r e f = left_at n r e ∙ ap (λ b. cond b (r ∷ event_records k (drop (n + 1) rs)) (event_records k (drop (n + 1) rs))) f
 
   -- A record that is no event.
-  pub read_other : (n : ℕ) (early : BTreeMap ℕ ℕ) (fields : List EventIndexEntry) (r : Framed) → slice_get rs n ≡ Some r → is_event_class k r.type_id ≡ false → ReadTo n early fields → ReadTo (n + 1) early fields
+  pub read_other : (n : ℕ) (early : BTreeMap ℕ ℕ) (fields : List EventIndexEntry) (r : Framed) → slice_get rs n ≡ Some r → is_event_class k r.type_id ≡ false → ReadTo n early fields
+      → ReadTo (n + 1) early fields
   read_other n early fields r e f p = record { pending = subst (λ left. Pending left early fields) (left_other n r e f) p.pending; before = before_other n early fields p.before }
 
   abbrev answer : Framed → Answer Value
   answer r = run (value_format k (inline r.type_id)) c (record_end r) r.body
 
   -- An event whose record has all its fields.
-  pub read_event : (n : ℕ) (early later : BTreeMap ℕ ℕ) (fields : List EventIndexEntry) (r : Framed) (end refs_end : ℕ) → slice_get rs n ≡ Some r → is_event_class k r.type_id ≡ true → Ok end ≡ end_or_flaw (answer r) → EndIs early later n r end → ReadTo n early fields
+  pub read_event : (n : ℕ) (early later : BTreeMap ℕ ℕ) (fields : List EventIndexEntry) (r : Framed) (end refs_end : ℕ) → slice_get rs n ≡ Some r → is_event_class k r.type_id ≡ true
+      → Ok end ≡ end_or_flaw (answer r) → EndIs early later n r end → ReadTo n early fields
       → ReadTo (n + 1) later (fields ++ record { «record» = n; refs_end = refs_end } ∷ [])
   read_event n early later fields r end refs_end e f s i p = record {
     pending = by_answer (answer r) refl s p.before (subst (λ left. Pending left early fields) (left_event n r e f) p.pending);
@@ -108,8 +110,10 @@ module _ (c : List ℕ) (k : Classes) (rs : List Framed) where
   each t = filter_all (IsRecord c) (λ r. is_event_class k r.type_id) rs (tiles_each c 68 (length c) rs t)
 
   -- An event whose record doesn't have all its fields.
-  pub read_stops : (n : ℕ) (early : BTreeMap ℕ ℕ) (fields : List EventIndexEntry) (r : Framed) (flaw : Flaw) → AreRecords c rs → slice_get rs n ≡ Some r → is_event_class k r.type_id ≡ true → Err flaw ≡ end_or_flaw (answer r) → ReadTo n early fields → IsRefusedEvents c k rs flaw
-  read_stops n early fields r flaw t e f s p = subst (EventsTell c k all all) (by_answer (answer r) refl s (subst (λ left. Pending left early fields) (left_event n r e f) p.pending)) (events_tell c k all all (each t))
+  pub read_stops : (n : ℕ) (early : BTreeMap ℕ ℕ) (fields : List EventIndexEntry) (r : Framed) (flaw : Flaw) → AreRecords c rs → slice_get rs n ≡ Some r → is_event_class k r.type_id ≡ true
+      → Err flaw ≡ end_or_flaw (answer r) → ReadTo n early fields → IsRefusedEvents c k rs flaw
+  read_stops n early fields r flaw t e f s p =
+      subst (EventsTell c k all all) (by_answer (answer r) refl s (subst (λ left. Pending left early fields) (left_event n r e f) p.pending)) (events_tell c k all all (each t))
     where
       rest : List Framed
       rest = event_records k (drop (n + 1) rs)

@@ -96,7 +96,8 @@ module _ (c : List ℕ) (k : Classes) where
       let n = times_each (IsConstant class) (constant_format k class) c end (constant_is end l class) s.1 s.0 a.value a.place s.3 a.first in
       subst (λ (y : PoolAt). AllByRecursion (IsConstant y.class) y.constants) (sym a.second.0) n
 
-  checkpoint_is : (end : ℕ) → end ≤ length c → (at : ℕ) (xs : List PoolAt) (to : ℕ) → Reads (checkpoint_format k) c end at xs to → AllByRecursion (λ x. AllByRecursion (IsConstant x.class) x.constants) xs
+  checkpoint_is : (end : ℕ) → end ≤ length c → (at : ℕ) (xs : List PoolAt) (to : ℕ) → Reads (checkpoint_format k) c end at xs to
+      → AllByRecursion (λ x. AllByRecursion (IsConstant x.class) x.constants) xs
   unfolding checkpoint_format
   checkpoint_is end l at xs to r =
       let s = r.5.5.5.1 in
@@ -111,7 +112,8 @@ module _ (c : List ℕ) (k : Classes) where
   pools_are : (checkpoint pool : ℕ) (xs : List PoolAt) → AllByRecursion (λ x. AllByRecursion (IsConstant x.class) x.constants) xs → AllByRecursion IsEntryNode (entries_from checkpoint pool xs)
   pools_are checkpoint pool [] a = tt
   pools_are checkpoint pool (x ∷ xs) a =
-      all_append IsEntryNode (map (entry_of checkpoint pool x.class) x.constants) (entries_from checkpoint (pool + 1) xs) (constants_are checkpoint pool x.class x.constants a.0) (pools_are checkpoint (pool + 1) xs a.1)
+      all_append IsEntryNode (map (entry_of checkpoint pool x.class) x.constants) (entries_from checkpoint (pool + 1) xs) (constants_are checkpoint pool x.class x.constants a.0)
+      (pools_are checkpoint (pool + 1) xs a.1)
 
   entries_each : (number : ℕ) (ls : List Link) (es : List EntryAt) → AllByRecursion (λ l. record_end l.frame ≤ length c) ls → AreEntries c k number ls es → AllByRecursion IsEntryNode es
   entries_each number [] es a e = subst (AllByRecursion IsEntryNode) (sym e) tt
@@ -155,9 +157,11 @@ module _ (p : Parts) (parts : AreParts p) where
       let r = in_filter_map (event_of p.bytes p.classes) (event_records p.classes p.records) e i in
       let j = in_filter _ p.records r.0 r.1 in
       let k = all_in (IsRecord p.bytes) p.records r.0 recorded j in
-      by_answer r.0 j k (run (value_format p.classes (inline r.0.type_id)) p.bytes (record_end r.0) r.0.body) (run_reads_or_fails (value_format p.classes (inline r.0.type_id)) p.bytes (record_end r.0) r.0.body k.covers k.within) r.2
+      by_answer r.0 j k (run (value_format p.classes (inline r.0.type_id)) p.bytes (record_end r.0) r.0.body)
+      (run_reads_or_fails (value_format p.classes (inline r.0.type_id)) p.bytes (record_end r.0) r.0.body k.covers k.within) r.2
     where
-      by_answer : (r : Framed) → In p.records r → IsRecord p.bytes r → (a : Answer Value) → ReadsOrFails (value_format p.classes (inline r.type_id)) p.bytes (record_end r) r.body a → event_by r a ≡ Some e → IsEvent p e
+      by_answer : (r : Framed) → In p.records r → IsRecord p.bytes r → (a : Answer Value) → ReadsOrFails (value_format p.classes (inline r.type_id)) p.bytes (record_end r) r.body a
+          → event_by r a ≡ Some e → IsEvent p e
       by_answer r j k (Err f) s q = cc
       by_answer r j k (Ok g) s q =
           let n = read_node p.classes (inline r.type_id) p.bytes (record_end r) r.body g.place g.value k.within k.covers s in

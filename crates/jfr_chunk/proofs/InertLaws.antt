@@ -100,7 +100,8 @@ module _ (c : List ℕ) (rs : List Framed) (records : AllByRecursion (IsRecord c
   linked_type (l ∷ ls) a r i e = by_test (l.frame.at == r.at) refl e (linked_type ls a.1 r i)
     where
       by_test : (b : Bool) → (l.frame.at == r.at) ≡ b → (b || linked ls r) ≡ true → (linked ls r ≡ true → r.type_id ≡ 1) → r.type_id ≡ 1
-      by_test true f g h = sym (ap (λ (z : Framed). z.type_id) (record_one c l.frame r (recorded l.frame (contains_in rs l.frame a.0.framed)) (recorded r i) (starts l.frame.at r.at f))) ∙ a.0.checkpoint
+      by_test true f g h = sym (ap (λ (z : Framed). z.type_id) (record_one c l.frame r (recorded l.frame (contains_in rs l.frame a.0.framed)) (recorded r i) (starts l.frame.at r.at f)))
+          ∙ a.0.checkpoint
       by_test false f g h = h g
 
   linked_past : (at b : ℕ) (r : Framed) (ls : List Link) → IsChain c rs at ls → r.at ≡ b → at < b → linked ls r ≡ true → ⊥
@@ -117,7 +118,8 @@ module _ (c : List ℕ) (rs : List Framed) (records : AllByRecursion (IsRecord c
       by_test false g f k = k f
 
   count_link : (l : Link) → IsLink c rs l → count (λ r. l.frame.at == r.at) rs ≡ 1
-  count_link l i = count_place (λ r. l.frame.at == r.at) l.frame.at (λ r e. sym (starts l.frame.at r.at e)) (λ r e. is_eq l.frame.at r.at (sym e)) 0 rs l.frame rising (contains_in rs l.frame i.framed) refl
+  count_link l i = count_place (λ r. l.frame.at == r.at) l.frame.at (λ r e. sym (starts l.frame.at r.at e)) (λ r e. is_eq l.frame.at r.at (sym e)) 0 rs l.frame rising
+      (contains_in rs l.frame i.framed) refl
 
   -- Each link occurs once.
   count_chain : (at : ℕ) (ls : List Link) → IsChain c rs at ls → count (linked ls) rs ≡ length ls
@@ -146,17 +148,21 @@ count_events c k (r ∷ rs) a h =
     ∙ ap suc (count_events c k rs a.1 h.1)
 
 -- What is left when the events, the metadata record and the chained checkpoints are taken away.
-pub inert_counted : (p : Parts) (early : BTreeMap ℕ ℕ) (fields : List EventIndexEntry) (ls : List Link) → AreParts p → p.chain ≡ reverse ls → map (indexed_event p.records early) fields ≡ map Some (events_of p) → length (filter (is_inert p) p.records) + (length fields + (1 + length ls)) ≡ length p.records
+pub inert_counted : (p : Parts) (early : BTreeMap ℕ ℕ) (fields : List EventIndexEntry) (ls : List Link) → AreParts p → p.chain ≡ reverse ls
+    → map (indexed_event p.records early) fields ≡ map Some (events_of p) → length (filter (is_inert p) p.records) + (length fields + (1 + length ls)) ≡ length p.records
 unfolding events_of
 inert_counted p early fields ls a r e =
     let n : length p.chain ≡ length ls = ap length r ∙ length-reverse ls in
     let left : length (filter (is_inert p) p.records) + count (λ r. is_named r || linked p.chain r) p.records ≡ length p.records = count_not (λ r. is_named r || linked p.chain r) p.records in
     let both = count_or is_named (linked p.chain) p.records named_linked in
     let named = count_or is_event is_metadata p.records event_metadata in
-    let m : count is_metadata p.records ≡ 1 = count_place is_metadata (metadata_at p.bytes) (λ r e. starts r.at (metadata_at p.bytes) e) (λ r e. is_eq r.at (metadata_at p.bytes) e) 0 p.records a.metadata_record rising (contains_in p.records a.metadata_record a.metadata_there.listed) a.metadata_there.place in
+    let m : count is_metadata p.records ≡ 1 = count_place is_metadata (metadata_at p.bytes) (λ r e. starts r.at (metadata_at p.bytes) e)
+    (λ r e. is_eq r.at (metadata_at p.bytes) e) 0 p.records a.metadata_record rising (contains_in p.records a.metadata_record a.metadata_there.listed) a.metadata_there.place in
     let l : count (linked p.chain) p.records ≡ length p.chain = count_chain p.bytes p.records each rising (pools_at p.bytes) p.chain a.chain in
-    let f : length fields ≡ length (filter_map (event_of p.bytes p.classes) (event_records p.classes p.records)) = each_length (indexed_event p.records early) fields (filter_map (event_of p.bytes p.classes) (event_records p.classes p.records)) e in
-    let v : length (filter_map (event_of p.bytes p.classes) (event_records p.classes p.records)) ≡ count is_event p.records = count_events p.bytes p.classes (event_records p.classes p.records) (filter_all (IsRecord p.bytes) is_event p.records each) (recursion_from_All (HasFields p.bytes p.classes) (event_records p.classes p.records) a.events) in
+    let f : length fields ≡ length (filter_map (event_of p.bytes p.classes) (event_records p.classes p.records)) =
+    each_length (indexed_event p.records early) fields (filter_map (event_of p.bytes p.classes) (event_records p.classes p.records)) e in
+    let v : length (filter_map (event_of p.bytes p.classes) (event_records p.classes p.records)) ≡ count is_event p.records = count_events p.bytes p.classes (event_records p.classes p.records)
+    (filter_all (IsRecord p.bytes) is_event p.records each) (recursion_from_All (HasFields p.bytes p.classes) (event_records p.classes p.records) a.events) in
     omega (arith, left, both, named, m, l, f, v, n)
   where
     each : AllByRecursion (IsRecord p.bytes) p.records
@@ -181,7 +187,8 @@ inert_counted p early fields ls a r e =
     metadata_type r i e =
         let m = a.metadata_record in
         let s = all_in (IsRecord p.bytes) p.records m each (contains_in p.records m a.metadata_there.listed) in
-        ap (λ (z : Framed). z.type_id) (record_one p.bytes r m (all_in (IsRecord p.bytes) p.records r each i) s (starts r.at (metadata_at p.bytes) e ∙ sym a.metadata_there.place)) ∙ a.metadata_there.type_is
+        ap (λ (z : Framed). z.type_id) (record_one p.bytes r m (all_in (IsRecord p.bytes) p.records r each i) s (starts r.at (metadata_at p.bytes) e ∙ sym a.metadata_there.place))
+        ∙ a.metadata_there.type_is
 
     event_metadata : (r : Framed) → In p.records r → is_event r ≡ true → is_metadata r ≡ true → ⊥
     event_metadata r i e f = let s = metadata_type r i f in let t = event_type p.classes r.type_id e in omega (arith, s, t)

@@ -15,6 +15,7 @@ pub all_kept : (flags : List Bool) → (count_by (λ keep. keep) flags == length
 all_kept [] = refl
 all_kept (keep ∷ flags) = ap (λ n. n == suc (length flags)) (sum_by-cons (λ keep. cond keep 1 0) keep flags) ∙ by_flag keep (all_kept flags)
   where
-    by_flag : (keep : Bool) → (count_by (λ keep. keep) flags == length flags) ≡ list_all (λ keep. keep) flags → (cond keep 1 0 + count_by (λ keep. keep) flags == suc (length flags)) ≡ list_all (λ keep. keep) (keep ∷ flags)
+    by_flag : (keep : Bool) → (count_by (λ keep. keep) flags == length flags) ≡ list_all (λ keep. keep) flags
+        → (cond keep 1 0 + count_by (λ keep. keep) flags == suc (length flags)) ≡ list_all (λ keep. keep) (keep ∷ flags)
     by_flag true e = one_more (count_by (λ keep. keep) flags) (length flags) ∙ e
     by_flag false e = one_less (count_by (λ keep. keep) flags) (length flags) (count_by-le-length (λ keep. keep) flags)

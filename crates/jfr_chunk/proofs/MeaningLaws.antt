@@ -46,8 +46,10 @@ pub record SameFields (c d : List ℕ) (r s : Framed) : Type 0 where
 pub same_fields : (c d : List ℕ) (r s : Framed) → IsRecord c r → IsRecord d s → record_bytes c r ≡ record_bytes d s → SameFields c d r s
 same_fields c d r s i j e =
     let q = sym (record_split c r i) ∙ (e ∙ record_split d s j) in
-    let size = one_front 8 (slice_range c r.at r.type_at) (slice_range d s.at s.type_at) (slice_range c r.type_at r.body ++ body_bytes c r) (slice_range d s.type_at s.body ++ body_bytes d s) i.size_spelled.spelled.form j.size_spelled.spelled.form q in
-    let rest = (one_run (slice_range c r.at r.type_at) (slice_range d s.at s.type_at) (slice_range c r.type_at r.body ++ body_bytes c r) (slice_range d s.type_at s.body ++ body_bytes d s) q (ap length size)).1 in
+    let size = one_front 8 (slice_range c r.at r.type_at) (slice_range d s.at s.type_at) (slice_range c r.type_at r.body ++ body_bytes c r)
+    (slice_range d s.type_at s.body ++ body_bytes d s) i.size_spelled.spelled.form j.size_spelled.spelled.form q in
+    let rest = (one_run (slice_range c r.at r.type_at) (slice_range d s.at s.type_at) (slice_range c r.type_at r.body ++ body_bytes c r) (slice_range d s.type_at s.body ++ body_bytes d s) q
+    (ap length size)).1 in
     let type = one_front 8 (slice_range c r.type_at r.body) (slice_range d s.type_at s.body) (body_bytes c r) (body_bytes d s) i.type_spelled.spelled.form j.type_spelled.spelled.form rest in
     record {
       width = sym (range_length c r.at r.type_at i.size_spelled.within) ∙ (ap length size ∙ range_length d s.at s.type_at j.size_spelled.within);
@@ -65,7 +67,8 @@ module _ (p q : Parts) where
       let g : value_format q.classes other ≡ value_format p.classes shape = ap (λ t. value_format q.classes (inline t)) (sym h.class) ∙ sym (value_agree p.classes q.classes shape h.agree) in
       let x = range_split p.bytes e.record_of.body e.node.end (record_end e.record_of) a.order a.within in
       let y = range_split q.bytes f.record_of.body f.node.end (record_end f.record_of) b.order b.within in
-      let same = exact_same (value_format p.classes shape) (slice_range p.bytes e.record_of.body e.node.end) (slice_range q.bytes f.record_of.body f.node.end) (slice_range p.bytes e.node.end (record_end e.record_of)) (slice_range q.bytes f.node.end (record_end f.record_of)) i.value j.value
+      let same = exact_same (value_format p.classes shape) (slice_range p.bytes e.record_of.body e.node.end) (slice_range q.bytes f.record_of.body f.node.end)
+      (slice_range p.bytes e.node.end (record_end e.record_of)) (slice_range q.bytes f.node.end (record_end f.record_of)) i.value j.value
       a.exact (subst (λ z. Exactly z (slice_range q.bytes f.record_of.body f.node.end) j.value) g b.exact)
       (sym x ∙ ((same_fields p.bytes q.bytes e.record_of f.record_of r s h.bytes).body ∙ y)) in
       ap (λ z. slice_range p.bytes z e.node.end) i.at ∙ (same ∙ ap (λ z. slice_range q.bytes z f.node.end) (sym j.at))

@@ -65,21 +65,25 @@ notes_then ts us event a b c x y = record {
     first_by m (inl i) = inl i
     first_by m (inr i) = inr (i.0, left_contains ts us (pair_of m) i.1)
 
-    only_by : c.lacks ≡ false → (m : MissingRef) → Contains b.refs.items m ⊎ ((m.event ≡ event) × Contains us (pair_of m)) → Contains a.refs.items m ⊎ ((m.event ≡ event) × Contains (ts ++ us) (pair_of m))
+    only_by : c.lacks ≡ false → (m : MissingRef) → Contains b.refs.items m ⊎ ((m.event ≡ event) × Contains us (pair_of m))
+        → Contains a.refs.items m ⊎ ((m.event ≡ event) × Contains (ts ++ us) (pair_of m))
     only_by h m (inl i) = first_by m (x.only (y.lacked_none h) m i)
     only_by h m (inr i) = inr (i.0, right_contains ts us (pair_of m) i.1)
 
 -- Targets that are taken note those that have no entry.
-takes_missing : (es : List EntryAt) (ts : List (ℕ × ℕ)) (old new : ConstantRefs) → TakesAll (λ t a b. TakesRefs es (t ∷ []) a b) ts old new → Notes (filter (is_missing es) ts) old.event old.missing new.missing
+takes_missing : (es : List EntryAt) (ts : List (ℕ × ℕ)) (old new : ConstantRefs) → TakesAll (λ t a b. TakesRefs es (t ∷ []) a b) ts old new
+    → Notes (filter (is_missing es) ts) old.event old.missing new.missing
 takes_missing es [] old new h = subst (λ (z : ConstantRefs). Notes [] old.event old.missing z.missing) h (notes_none old.event old.missing)
 takes_missing es (t ∷ ts) old new h =
     let x = h.1 in
-    let y : Notes (filter (is_missing es) ts) old.event h.0.missing new.missing = subst (λ z. Notes (filter (is_missing es) ts) z h.0.missing new.missing) x.same_event (takes_missing es ts h.0 new h.2) in
+    let y : Notes (filter (is_missing es) ts) old.event h.0.missing new.missing =
+    subst (λ z. Notes (filter (is_missing es) ts) z h.0.missing new.missing) x.same_event (takes_missing es ts h.0 new h.2) in
     subst (λ z. Notes z old.event old.missing new.missing) (sym (filter-append (is_missing es) (t ∷ []) ts))
     (notes_then (filter (is_missing es) (t ∷ [])) (filter (is_missing es) ts) old.event old.missing h.0.missing new.missing x.missing y)
 
 -- What is noted of a value.
-pub all_missing : (es : List EntryAt) (ts : ℕ → List (ℕ × ℕ)) (old new : ConstantRefs) (r : Result ℕ Flaw) → IfOk r (λ to. TakesAll (λ t a b. TakesRefs es (t ∷ []) a b) (ts to) old new) → IfOk r (λ to. Notes (filter (is_missing es) (ts to)) old.event old.missing new.missing)
+pub all_missing : (es : List EntryAt) (ts : ℕ → List (ℕ × ℕ)) (old new : ConstantRefs) (r : Result ℕ Flaw) → IfOk r (λ to. TakesAll (λ t a b. TakesRefs es (t ∷ []) a b) (ts to) old new)
+    → IfOk r (λ to. Notes (filter (is_missing es) (ts to)) old.event old.missing new.missing)
 all_missing es ts old new (Ok to) h = takes_missing es (ts to) old new h
 all_missing es ts old new (Err flaw) h = h
 
@@ -93,7 +97,8 @@ slice_get_last : {X : Type 0} (xs : List X) (x : X) → slice_get (xs ++ x ∷ [
 slice_get_last [] x = refl
 slice_get_last (z ∷ xs) x = slice_get_last xs x
 
-noted_more : (events : List (List (ℕ × ℕ))) (ts : List (ℕ × ℕ)) (event : ℕ) (old new : MissingRefs) → event ≡ length events → AreNotedIn events old → Notes ts event old new → AreNotedIn (events ++ ts ∷ []) new
+noted_more : (events : List (List (ℕ × ℕ))) (ts : List (ℕ × ℕ)) (event : ℕ) (old new : MissingRefs) → event ≡ length events → AreNotedIn events old → Notes ts event old new
+    → AreNotedIn (events ++ ts ∷ []) new
 noted_more events ts event old new e a n = λ h. record {
   all = λ us c t d. all_by h t us d (contains_cases events (ts ∷ []) us c);
   only = λ m c. only_by h m (n.only h m c);
@@ -103,7 +108,8 @@ noted_more events ts event old new e a n = λ h. record {
     all_by h t us d (inl c) = let i = (a (n.lacked_none h)).all us c t d in (i.0, n.grows h i.0 i.1, i.2)
     all_by h t us d (inr c) = n.added h t (subst (λ z. Contains z t) (sym (contains_one ts us c)) d)
 
-    only_by : new.lacks ≡ false → (m : MissingRef) → Contains old.refs.items m ⊎ ((m.event ≡ event) × Contains ts (pair_of m)) → (us : List (ℕ × ℕ)) × (slice_get (events ++ ts ∷ []) m.event ≡ Some us) × Contains us (pair_of m)
+    only_by : new.lacks ≡ false → (m : MissingRef) → Contains old.refs.items m ⊎ ((m.event ≡ event) × Contains ts (pair_of m))
+        → (us : List (ℕ × ℕ)) × (slice_get (events ++ ts ∷ []) m.event ≡ Some us) × Contains us (pair_of m)
     only_by h m (inl c) = let i = (a (n.lacked_none h)).only m c in (i.0, slice_get_left events (ts ∷ []) m.event i.0 i.1, i.2)
     only_by h m (inr c) = (ts, ap (slice_get (events ++ ts ∷ [])) (c.0 ∙ e) ∙ slice_get_last events ts, c.1)
 
@@ -142,13 +148,15 @@ event_noted es k c rs early later n end refs_end event r fields old new e i befo
     lists = map-append (indexed_missing es k c rs later) fields (f ∷ []) ∙ (λ j. same fields before j ++ ap refers (this_event rs early later n end r i f refl e) j ∷ [])
 
 -- The lists of the entries of the index are those of the events.
-pub missing_events : (p : Parts) (early : BTreeMap ℕ ℕ) (fs : List EventIndexEntry) → map (indexed_event p.records early) fs ≡ map Some (events_of p) → map (indexed_missing p.entries p.classes p.bytes p.records early) fs ≡ missing_by_event p
+pub missing_events : (p : Parts) (early : BTreeMap ℕ ℕ) (fs : List EventIndexEntry) → map (indexed_event p.records early) fs ≡ map Some (events_of p)
+    → map (indexed_missing p.entries p.classes p.bytes p.records early) fs ≡ missing_by_event p
 missing_events p early fs e = each fs (events_of p) e
   where
     refers : Option EventAt → List (ℕ × ℕ)
     refers o = option_map_or (λ (e : EventAt). node_missing p.entries p.classes p.bytes e.node) o []
 
-    each : (fs : List EventIndexEntry) (xs : List EventAt) → map (indexed_event p.records early) fs ≡ map Some xs → map (indexed_missing p.entries p.classes p.bytes p.records early) fs ≡ map (λ (e : EventAt). node_missing p.entries p.classes p.bytes e.node) xs
+    each : (fs : List EventIndexEntry) (xs : List EventAt) → map (indexed_event p.records early) fs ≡ map Some xs
+        → map (indexed_missing p.entries p.classes p.bytes p.records early) fs ≡ map (λ (e : EventAt). node_missing p.entries p.classes p.bytes e.node) xs
     each [] [] e = refl
     each [] (x ∷ xs) e = cc
     each (f ∷ fs) [] e = cc
@@ -158,7 +166,8 @@ missing_events p early fs e = each fs (events_of p) e
         λ j. ap refers h j ∷ each fs xs t j
 
 -- If all are noted, the list is that of the events.
-pub all_noted : (p q : Parts) (early : BTreeMap ℕ ℕ) (fs : List EventIndexEntry) (list : MissingRefs) (o : Option (Bor (List MissingRef))) → p ≡ q → map (indexed_event p.records early) fs ≡ map Some (events_of p) → AreNotedIn (map (indexed_missing p.entries p.classes p.bytes p.records early) fs) list
+pub all_noted : (p q : Parts) (early : BTreeMap ℕ ℕ) (fs : List EventIndexEntry) (list : MissingRefs) (o : Option (Bor (List MissingRef))) → p ≡ q
+    → map (indexed_event p.records early) fs ≡ map Some (events_of p) → AreNotedIn (map (indexed_missing p.entries p.classes p.bytes p.records early) fs) list
     → IfSome o (λ refs. (refs.now ≡ list.refs.items) × (list.lacks ≡ false)) → IfSome o (λ refs. AreMissing (missing_by_event q) refs.now)
 all_noted p q early fs list None e m a h = tt
 all_noted p q early fs list (Some refs) e m a h =

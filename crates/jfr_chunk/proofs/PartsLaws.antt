@@ -74,7 +74,8 @@ module _ (c : List ℕ) (rs : List Framed) (each : AllByRecursion (IsRecord c) r
       let g : Ok k ≡ Ok m = sym x.classes ∙ (ap described f ∙ y.classes) in
       (f, cc)
 
-entries_one : (c : List ℕ) (k : Classes) (number : ℕ) (ls : List Link) (es fs : List EntryAt) → AllByRecursion (λ l. IsRecord c l.frame) ls → AreEntries c k number ls es → AreEntries c k number ls fs → es ≡ fs
+entries_one : (c : List ℕ) (k : Classes) (number : ℕ) (ls : List Link) (es fs : List EntryAt) → AllByRecursion (λ l. IsRecord c l.frame) ls → AreEntries c k number ls es → AreEntries c k number ls fs
+    → es ≡ fs
 entries_one c k number [] es fs r a b = a ∙ sym b
 entries_one c k number (l ∷ ls) es fs r a b =
     let p : a.0 ≡ b.0 = ((has_one_answer (checkpoint_format k) c (record_end l.frame) l.frame.body r.0.covers r.0.within).one_reading a.0 b.0 (record_end l.frame) (record_end l.frame) a.1 b.1).0 in
@@ -93,10 +94,12 @@ one_parts p q a b e =
     let each = tiles_each c 68 (length c) p.records a.records in
     let h : IsChain c p.records (pools_at c) q.chain = subst (λ z. IsChain z p.records (pools_at z) q.chain) (sym e) (subst (λ z. IsChain q.bytes z (pools_at q.bytes) q.chain) r b.chain) in
     let l : p.chain ≡ q.chain = chain_one c p.records each (pools_at c) p.chain q.chain a.chain h in
-    let s : StartsAt p.records (metadata_at c) 0 b.metadata_record = subst (λ z. StartsAt p.records (metadata_at z) 0 b.metadata_record) (sym e) (subst (λ z. StartsAt z (metadata_at q.bytes) 0 b.metadata_record) r b.metadata_there) in
+    let s : StartsAt p.records (metadata_at c) 0 b.metadata_record =
+    subst (λ z. StartsAt p.records (metadata_at z) 0 b.metadata_record) (sym e) (subst (λ z. StartsAt z (metadata_at q.bytes) 0 b.metadata_record) r b.metadata_there) in
     let m : IsMetadata c b.metadata_record q.body q.classes = subst (λ z. IsMetadata z b.metadata_record q.body q.classes) (sym e) b.metadata in
     let d = body_one c p.records each a.metadata_record b.metadata_record p.body q.body p.classes q.classes (metadata_at c) a.metadata_there s a.metadata m in
     let x : AreEntries c p.classes 0 (reverse p.chain) q.entries =
-    subst (λ z. AreEntries c p.classes 0 (reverse z) q.entries) (sym l) (subst (λ z. AreEntries c z 0 (reverse q.chain) q.entries) (sym d.1) (subst (λ z. AreEntries z q.classes 0 (reverse q.chain) q.entries) (sym e) b.entries)) in
+    subst (λ z. AreEntries c p.classes 0 (reverse z) q.entries) (sym l)
+    (subst (λ z. AreEntries c z 0 (reverse q.chain) q.entries) (sym d.1) (subst (λ z. AreEntries z q.classes 0 (reverse q.chain) q.entries) (sym e) b.entries)) in
     let n = all_reverse (λ l. IsRecord c l.frame) p.chain (links_record c p.records each p.chain (links_each c p.records (pools_at c) p.chain a.chain)) in
     parts_path p q e (sym r) l d.0 d.1 (entries_one c p.classes 0 (reverse p.chain) p.entries q.entries n a.entries x)

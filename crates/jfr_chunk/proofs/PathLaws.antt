@@ -116,7 +116,8 @@ module _ (p q : Parts) (s : HasNodes p) (r : HasNodes q) where
       b : target q.classes q.bytes o ≡ own_target x.value
       b = target_is q.classes q.bytes o x.value r.sound x.right
 
-      by_target : (y : Option (ℕ × ℕ)) → own_target x.value ≡ y → Both Pair (option_and_then (λ t. option_map entry_node (in_force p.entries t)) y) (option_and_then (λ t. option_map entry_node (in_force q.entries t)) y)
+      by_target : (y : Option (ℕ × ℕ)) → own_target x.value ≡ y
+          → Both Pair (option_and_then (λ t. option_map entry_node (in_force p.entries t)) y) (option_and_then (λ t. option_map entry_node (in_force q.entries t)) y)
       by_target None e = tt
       by_target (Some t) e = entry_pair t (subst (Agree p.classes q.classes) (own_class x.value t e) x.agree) (h t (a ∙ e))
 

@@ -43,7 +43,8 @@ pub leads_append : (p : Parts) (a b : List Step) (n : NodeAt) → leads p n (a +
 leads_append p [] b n = refl
 leads_append p (s ∷ a) b n = by_step (step p n s) (λ m. leads_append p a b m)
   where
-    by_step : (o : Option NodeAt) → ((m : NodeAt) → leads p m (a ++ b) ≡ option_and_then (λ m. leads p m b) (leads p m a)) → option_and_then (λ m. leads p m (a ++ b)) o ≡ option_and_then (λ m. leads p m b) (option_and_then (λ m. leads p m a) o)
+    by_step : (o : Option NodeAt) → ((m : NodeAt) → leads p m (a ++ b) ≡ option_and_then (λ m. leads p m b) (leads p m a))
+        → option_and_then (λ m. leads p m (a ++ b)) o ≡ option_and_then (λ m. leads p m b) (option_and_then (λ m. leads p m a) o)
     by_step None h = refl
     by_step (Some m) h = h m
 
@@ -64,21 +65,24 @@ module _ (p : Parts) (s : HasNodes p) where
   child_node n u v st i e = some_right (IsNode p.classes p.bytes) (child p.classes p.bytes n st) (part v st) u (child_is p.classes p.bytes n v s.sound i st) e
 
   -- What a field or an item refers to, the node does.
-  child_in : (n u : NodeAt) (v : Value) (st : Step) (t : ℕ × ℕ) → IsNode p.classes p.bytes n v → child p.classes p.bytes n st ≡ Some u → Contains (targets p.classes p.bytes u) t → Contains (targets p.classes p.bytes n) t
+  child_in : (n u : NodeAt) (v : Value) (st : Step) (t : ℕ × ℕ) → IsNode p.classes p.bytes n v → child p.classes p.bytes n st ≡ Some u → Contains (targets p.classes p.bytes u) t
+      → Contains (targets p.classes p.bytes n) t
   child_in n u v st t i e c =
       let w = child_node n u v st i e in
       let a = in_inside p.classes s.sound p.bytes u w.0 w.1 t c in
       inside_in p.classes s.sound p.bytes n v i (st ∷ a.0) a.1 t (ap (option_and_then (λ m. inside p.classes p.bytes m a.0)) e ∙ a.2) a.3
 
   -- A target is what a path leads to.
-  pub target_path : (n : NodeAt) (v : Value) (t : ℕ × ℕ) → IsNode p.classes p.bytes n v → Contains (targets p.classes p.bytes n) t → (path : List Step) × (m : NodeAt) × (leads p n path ≡ Some m) × (target p.classes p.bytes m ≡ Some t)
+  pub target_path : (n : NodeAt) (v : Value) (t : ℕ × ℕ) → IsNode p.classes p.bytes n v → Contains (targets p.classes p.bytes n) t
+      → (path : List Step) × (m : NodeAt) × (leads p n path ≡ Some m) × (target p.classes p.bytes m ≡ Some t)
   target_path n v t i c = let a = in_inside p.classes s.sound p.bytes n v i t c in (a.0, a.1, inside_leads p a.0 n a.1 a.2, a.3)
 
   pub follow_is : (n : NodeAt) (t : ℕ × ℕ) (e : EntryAt) → target p.classes p.bytes n ≡ Some t → in_force p.entries t ≡ Some e → follow p n ≡ Some (entry_node e)
   follow_is n t e q r = ap (option_and_then (λ t. option_map entry_node (in_force p.entries t))) q ∙ ap (option_map entry_node) r
 
   -- A path to a reference, followed by a path from the entry in force for it.
-  pub leads_on : (n m o : NodeAt) (t : ℕ × ℕ) (e : EntryAt) (a b : List Step) → leads p n a ≡ Some m → target p.classes p.bytes m ≡ Some t → in_force p.entries t ≡ Some e → leads p (entry_node e) b ≡ Some o → leads p n (a ++ (steps.Follow ∷ b)) ≡ Some o
+  pub leads_on : (n m o : NodeAt) (t : ℕ × ℕ) (e : EntryAt) (a b : List Step) → leads p n a ≡ Some m → target p.classes p.bytes m ≡ Some t → in_force p.entries t ≡ Some e
+      → leads p (entry_node e) b ≡ Some o → leads p n (a ++ (steps.Follow ∷ b)) ≡ Some o
   leads_on n m o t e a b x y z w =
       let l : leads p m (steps.Follow ∷ b) ≡ Some o = ap (option_and_then (λ m. leads p m b)) (follow_is m t e y z) ∙ w in
       leads_append p a (steps.Follow ∷ b) n ∙ (ap (option_and_then (λ m. leads p m (steps.Follow ∷ b))) x ∙ l)

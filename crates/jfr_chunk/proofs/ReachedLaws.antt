@@ -74,7 +74,8 @@ module _ (p : Parts) where
     closed : (t u : ℕ × ℕ) (e : EntryAt) → AllFound t → in_force p.entries t ≡ Some e → Contains (targets p.classes p.bytes (entry_node e)) u → AllFound u
     closed t u e a q c i r =
         let n = numbered p.entries t e q in
-        let m : In (entry_targets p n.number) u = subst (λ o. In (option_map_or (λ e. targets p.classes p.bytes (entry_node e)) o []) u) (sym n.there) (contains_in (targets p.classes p.bytes (entry_node e)) u c) in
+        let m : In (entry_targets p n.number) u =
+        subst (λ o. In (option_map_or (λ e. targets p.classes p.bytes (entry_node e)) o []) u) (sym n.there) (contains_in (targets p.classes p.bytes (entry_node e)) u c) in
         more (a n.number n.forced) (those_in (number_in_force p.entries) (entry_targets p n.number) u i m r)
 
     -- And back.

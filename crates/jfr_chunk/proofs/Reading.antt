@@ -140,7 +140,8 @@ module _ (c : List ℕ) (h : Header) (rs : List Framed) (m : Framed) (n : Named 
         described = record { chained = chained; body = b; classes = k; metadata = d }
 
         each : AllByRecursion (λ l. IsRecord c l.frame) ls
-        each = subst (AllByRecursion (λ l. IsRecord c l.frame)) (reverse-reverse ls) (all_reverse (λ l. IsRecord c l.frame) (reverse ls) (links_record c rs (tiles_each c 68 (length c) rs n.records) (reverse ls) (links_each c rs (pools_at c) (reverse ls) links)))
+        each = subst (AllByRecursion (λ l. IsRecord c l.frame)) (reverse-reverse ls)
+            (all_reverse (λ l. IsRecord c l.frame) (reverse ls) (links_record c rs (tiles_each c 68 (length c) rs n.records) (reverse ls) (links_each c rs (pools_at c) (reverse ls) links)))
 
         pub entries_refused : (fault : ReadFault) → TellsFlaw (entries_of c k 0 ls) fault → IfFlawed (Refused c) fault
         entries_refused (Flawed flaw) r = checkpoints described (subst (λ z. EntriesTell c k 0 z (Err flaw)) (sym (reverse-reverse ls)) (subst (EntriesTell c k 0 ls) r (entries_tell c k 0 ls each)))
@@ -159,7 +160,8 @@ module _ (c : List ℕ) (h : Header) (rs : List Framed) (m : Framed) (n : Named 
           entries_within = entries_few c rs n.records (pools_at c) (reverse ls) links k (described_sound b k d.classes) es there
 
           pub indexed : (index : EventIndex) → Whole c → AreFields c k rs index.fields.items index.early → AreRefs (indexed_refs es k c rs index.early) 0 index.fields.items index.numbers.items
-              → AreNotedIn (map (indexed_missing es k c rs index.early) index.fields.items) index.missing → ((id : ℕ) → is_in index.used.ids id ≡ used_in rs index.fields.items id) → IsIndexed (parts_in c rs ls b k es) h m index
+              → AreNotedIn (map (indexed_missing es k c rs index.early) index.fields.items) index.missing → ((id : ℕ) → is_in index.used.ids id ≡ used_in rs index.fields.items id)
+              → IsIndexed (parts_in c rs ls b k es) h m index
           unfolding events_of
           indexed index whole f refs_end missing used = record {
             whole = whole;

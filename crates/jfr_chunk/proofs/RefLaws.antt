@@ -43,7 +43,8 @@ takes_refs es ts old new h = takes_those AddsRefs refs_none refs_then (number_in
 
 module _ (indexed_refs : EventIndexEntry → List ℕ) where
   -- One event more.
-  pub refs_more : (from : ℕ) (fs : List EventIndexEntry) (numbers : List ℕ) (f : EventIndexEntry) → AreRefs indexed_refs from fs numbers → f.refs_end ≡ from + length (numbers ++ indexed_refs f) → AreRefs indexed_refs from (fs ++ f ∷ []) (numbers ++ indexed_refs f)
+  pub refs_more : (from : ℕ) (fs : List EventIndexEntry) (numbers : List ℕ) (f : EventIndexEntry) → AreRefs indexed_refs from fs numbers → f.refs_end ≡ from + length (numbers ++ indexed_refs f)
+      → AreRefs indexed_refs from (fs ++ f ∷ []) (numbers ++ indexed_refs f)
   refs_more from [] numbers f a e = ([], ap (λ z. z ++ indexed_refs f) a ∙ sym (append-nil (indexed_refs f)), e ∙ ap (λ z. from + length (z ++ indexed_refs f)) a, refl)
   refs_more from (g ∷ fs) numbers f a e =
       let rest : List ℕ = a.0 in
@@ -103,7 +104,9 @@ module _ (indexed_refs : EventIndexEntry → List ℕ) where
       record {
         order = omega arith;
         within = omega arith;
-        range = ap (λ z. slice_range z start f.refs_end) i.parts ∙ (ap (λ z. slice_range (i.before ++ (indexed_refs f ++ i.after)) z f.refs_end) p ∙ (ap (λ z. slice_range (i.before ++ (indexed_refs f ++ i.after)) (length i.before) z) q ∙ range_within i.before (indexed_refs f) i.after));
+        range = ap (λ z. slice_range z start f.refs_end) i.parts
+            ∙ (ap (λ z. slice_range (i.before ++ (indexed_refs f ++ i.after)) z f.refs_end) p
+            ∙ (ap (λ z. slice_range (i.before ++ (indexed_refs f ++ i.after)) (length i.before) z) q ∙ range_within i.before (indexed_refs f) i.after));
       }
     where
       range_within : (xs ys zs : List ℕ) → slice_range (xs ++ (ys ++ zs)) (length xs) (length xs + length ys) ≡ ys
@@ -119,12 +122,14 @@ range_got None xs a b (inr h) order within = absurd (omega arith)
 range_got (Some x) xs a b h order within = ap (λ z. Some z) h.2
 
 -- The numbers that are noted of a value.
-pub all_refs : (es : List EntryAt) (ts : ℕ → List (ℕ × ℕ)) (old new : ConstantRefs) (r : Result ℕ Flaw) → IfOk r (λ to. TakesAll (λ t a b. TakesRefs es (t ∷ []) a b) (ts to) old new) → IfOk r (λ to. AddsRefs (those (number_in_force es) (ts to)) old new)
+pub all_refs : (es : List EntryAt) (ts : ℕ → List (ℕ × ℕ)) (old new : ConstantRefs) (r : Result ℕ Flaw) → IfOk r (λ to. TakesAll (λ t a b. TakesRefs es (t ∷ []) a b) (ts to) old new)
+    → IfOk r (λ to. AddsRefs (those (number_in_force es) (ts to)) old new)
 all_refs es ts old new (Ok to) h = takes_refs es (ts to) old new h
 all_refs es ts old new (Err flaw) h = h
 
 -- Numbers that are indexed_refs by another count are the same.
-due_same : (indexed_refs other : EventIndexEntry → List ℕ) (P : EventIndexEntry → Type 0) → ((f : EventIndexEntry) → P f → other f ≡ indexed_refs f) → (from : ℕ) (fs : List EventIndexEntry) (numbers : List ℕ) → AllByRecursion P fs → AreRefs indexed_refs from fs numbers → AreRefs other from fs numbers
+due_same : (indexed_refs other : EventIndexEntry → List ℕ) (P : EventIndexEntry → Type 0) → ((f : EventIndexEntry) → P f → other f ≡ indexed_refs f)
+    → (from : ℕ) (fs : List EventIndexEntry) (numbers : List ℕ) → AllByRecursion P fs → AreRefs indexed_refs from fs numbers → AreRefs other from fs numbers
 due_same indexed_refs other P same from [] numbers p a = a
 due_same indexed_refs other P same from (f ∷ fs) numbers p a =
     let e = sym (same f p.0) in
@@ -137,7 +142,8 @@ pub event_refs : (es : List EntryAt) (k : Classes) (c : List ℕ) (rs : List Fra
 event_refs es k c rs early later n end refs_end r fields numbers more e i before x y a =
     let f : EventIndexEntry = record { «record» = n; refs_end = refs_end } in
     let refers = λ (o : Option EventAt). option_map_or (λ (e : EventAt). node_entries es k c e.node) o [] in
-    let b = due_same (indexed_refs es k c rs early) (indexed_refs es k c rs later) (λ (f : EventIndexEntry). f.record < n) (λ f h. ap refers (same_event rs early later n end r i f h)) 0 fields numbers before a in
+    let b = due_same (indexed_refs es k c rs early) (indexed_refs es k c rs later) (λ (f : EventIndexEntry). f.record < n)
+    (λ f h. ap refers (same_event rs early later n end r i f h)) 0 fields numbers before a in
     let d : indexed_refs es k c rs later f ≡ node_entries es k c (node_at (inline r.type_id) r.body end) = ap refers (this_event rs early later n end r i f refl e) in
     let m : more ≡ numbers ++ indexed_refs es k c rs later f = x ∙ ap (λ z. numbers ++ z) (sym d) in
     let l : refs_end ≡ 0 + length (numbers ++ indexed_refs es k c rs later f) = (let l = ap length m in omega arith) in

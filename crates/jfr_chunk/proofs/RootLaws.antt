@@ -23,7 +23,8 @@ takes_those R none both f (t ∷ ts) old new h = by_number (f t) (those f ts) h.
 module _ (p : Parts) where
   targets_append : (xs ys : List EventAt) → all_targets p (nodes_of (xs ++ ys)) ≡ all_targets p (nodes_of xs) ++ all_targets p (nodes_of ys)
   targets_append [] ys = refl
-  targets_append (x ∷ xs) ys = ap (λ z. targets p.classes p.bytes x.node ++ z) (targets_append xs ys) ∙ sym (append_assoc (targets p.classes p.bytes x.node) (all_targets p (nodes_of xs)) (all_targets p (nodes_of ys)))
+  targets_append (x ∷ xs) ys = ap (λ z. targets p.classes p.bytes x.node ++ z) (targets_append xs ys)
+      ∙ sym (append_assoc (targets p.classes p.bytes x.node) (all_targets p (nodes_of xs)) (all_targets p (nodes_of ys)))
 
   -- Two lists of events.
   pub roots_append : (xs ys : List EventAt) → roots p (xs ++ ys) ≡ roots p xs ++ roots p ys

@@ -49,25 +49,31 @@ each_some f (z ∷ xs) (y ∷ ys) (suc n) x e g = each_some f xs ys n x (tails (
     tails c d cs ds e = cc
 
 -- The event of an index entry.
-pub event_found : (p : Parts) (early : BTreeMap ℕ ℕ) (fs : List EventIndexEntry) (n : ℕ) (f : EventIndexEntry) (r : Framed) → map (indexed_event p.records early) fs ≡ map Some (events_of p) → slice_get fs n ≡ Some f → slice_get p.records f.record ≡ Some r
+pub event_found : (p : Parts) (early : BTreeMap ℕ ℕ) (fs : List EventIndexEntry) (n : ℕ) (f : EventIndexEntry) (r : Framed) → map (indexed_event p.records early) fs ≡ map Some (events_of p)
+    → slice_get fs n ≡ Some f → slice_get p.records f.record ≡ Some r
     → Some (event_with (end_in early f.record r) r) ≡ slice_get (events_of p) n
-event_found p early fs n f r e g h = sym (ap (λ o. option_and_then (indexed_event p.records early) o) g ∙ by_record (slice_get p.records f.record) h) ∙ each_get (indexed_event p.records early) fs (events_of p) n e
+event_found p early fs n f r e g h = sym (ap (λ o. option_and_then (indexed_event p.records early) o) g ∙ by_record (slice_get p.records f.record) h)
+    ∙ each_get (indexed_event p.records early) fs (events_of p) n e
   where
     by_record : (o : Option Framed) → o ≡ Some r → option_and_then (λ x. Some (event_with (end_in early f.record x) x)) o ≡ Some (event_with (end_in early f.record r) r)
     by_record o q = ap (λ z. option_and_then (λ x. Some (event_with (end_in early f.record x) x)) z) q
 
 -- Or there is none.
-pub event_missed : (p : Parts) (early : BTreeMap ℕ ℕ) (fs : List EventIndexEntry) (n : ℕ) (f : EventIndexEntry) → map (indexed_event p.records early) fs ≡ map Some (events_of p) → slice_get fs n ≡ Some f → slice_get p.records f.record ≡ None
+pub event_missed : (p : Parts) (early : BTreeMap ℕ ℕ) (fs : List EventIndexEntry) (n : ℕ) (f : EventIndexEntry) → map (indexed_event p.records early) fs ≡ map Some (events_of p)
+    → slice_get fs n ≡ Some f → slice_get p.records f.record ≡ None
     → None ≡ slice_get (events_of p) n
-event_missed p early fs n f e g h = sym (ap (λ o. option_and_then (indexed_event p.records early) o) g ∙ by_record (slice_get p.records f.record) h) ∙ each_get (indexed_event p.records early) fs (events_of p) n e
+event_missed p early fs n f e g h = sym (ap (λ o. option_and_then (indexed_event p.records early) o) g ∙ by_record (slice_get p.records f.record) h)
+    ∙ each_get (indexed_event p.records early) fs (events_of p) n e
   where
     by_record : (o : Option Framed) → o ≡ None → option_and_then (λ x. Some (event_with (end_in early f.record x) x)) o ≡ None
     by_record o q = ap (λ z. option_and_then (λ x. Some (event_with (end_in early f.record x) x)) z) q
 
 -- What holds of the record of an event is found at the record that the index names.
-pub event_framed : {X : Type 0} (h : Framed → X) (p : Parts) (early : BTreeMap ℕ ℕ) (fs : List EventIndexEntry) (n : ℕ) (f : EventIndexEntry) → map (indexed_event p.records early) fs ≡ map Some (events_of p) → slice_get fs n ≡ Some f
+pub event_framed : {X : Type 0} (h : Framed → X) (p : Parts) (early : BTreeMap ℕ ℕ) (fs : List EventIndexEntry) (n : ℕ) (f : EventIndexEntry)
+    → map (indexed_event p.records early) fs ≡ map Some (events_of p) → slice_get fs n ≡ Some f
     → option_map h (slice_get p.records f.record) ≡ option_map (λ (e : EventAt). h e.record_of) (slice_get (events_of p) n)
-event_framed h p early fs n f e g = by_record (slice_get p.records f.record) ∙ ap (option_map (λ (e : EventAt). h e.record_of)) (sym (ap (option_and_then (indexed_event p.records early)) g) ∙ each_get (indexed_event p.records early) fs (events_of p) n e)
+event_framed h p early fs n f e g = by_record (slice_get p.records f.record) ∙ ap (option_map (λ (e : EventAt). h e.record_of))
+    (sym (ap (option_and_then (indexed_event p.records early)) g) ∙ each_get (indexed_event p.records early) fs (events_of p) n e)
   where
     by_record : (o : Option Framed) → option_map h o ≡ option_map (λ (e : EventAt). h e.record_of) (option_map (λ r. event_with (end_in early f.record r) r) o)
     by_record None = refl
@@ -78,22 +84,27 @@ pub event_due : (p : Parts) (early : BTreeMap ℕ ℕ) (fs : List EventIndexEntr
     → Some (indexed_refs p.entries p.classes p.bytes p.records early f) ≡ option_map (λ (e : EventAt). node_entries p.entries p.classes p.bytes e.node) (slice_get (events_of p) n)
 event_due p early fs n f e g =
     let m = each_some (indexed_event p.records early) fs (events_of p) n f e g in
-    ap (λ o. Some (option_map_or (λ (e : EventAt). node_entries p.entries p.classes p.bytes e.node) o [])) m.1 ∙ sym (ap (option_map (λ (e : EventAt). node_entries p.entries p.classes p.bytes e.node)) m.2)
+    ap (λ o. Some (option_map_or (λ (e : EventAt). node_entries p.entries p.classes p.bytes e.node) o [])) m.1
+    ∙ sym (ap (option_map (λ (e : EventAt). node_entries p.entries p.classes p.bytes e.node)) m.2)
 
 -- And all that is noted is what the events refer to.
-pub all_due : (p : Parts) (early : BTreeMap ℕ ℕ) (from : ℕ) (fs : List EventIndexEntry) (es : List EventAt) (numbers : List ℕ) → map (indexed_event p.records early) fs ≡ map Some es → AreRefs (indexed_refs p.entries p.classes p.bytes p.records early) from fs numbers → numbers ≡ roots p es
+pub all_due : (p : Parts) (early : BTreeMap ℕ ℕ) (from : ℕ) (fs : List EventIndexEntry) (es : List EventAt) (numbers : List ℕ) → map (indexed_event p.records early) fs ≡ map Some es
+    → AreRefs (indexed_refs p.entries p.classes p.bytes p.records early) from fs numbers → numbers ≡ roots p es
 all_due p early from [] [] numbers e a = a
 all_due p early from [] (x ∷ es) numbers e a = cc
 all_due p early from (f ∷ fs) [] numbers e a = cc
 all_due p early from (f ∷ fs) (x ∷ es) numbers e a =
     let h : indexed_event p.records early f ≡ Some x = cc in
     let t : map (indexed_event p.records early) fs ≡ map Some es = cc in
-    let d : indexed_refs p.entries p.classes p.bytes p.records early f ≡ node_entries p.entries p.classes p.bytes x.node = ap (λ o. option_map_or (λ (e : EventAt). node_entries p.entries p.classes p.bytes e.node) o []) h in
+    let d : indexed_refs p.entries p.classes p.bytes p.records early f ≡ node_entries p.entries p.classes p.bytes x.node =
+    ap (λ o. option_map_or (λ (e : EventAt). node_entries p.entries p.classes p.bytes e.node) o []) h in
     let r : a.0 ≡ roots p es = all_due p early f.refs_end fs es a.0 t a.3 in
-    a.1 ∙ (ap (λ z. z ++ a.0) d ∙ (ap (λ z. node_entries p.entries p.classes p.bytes x.node ++ z) r ∙ sym (those_append (number_in_force p.entries) (targets p.classes p.bytes x.node) (all_targets p (nodes_of es)))))
+    a.1 ∙ (ap (λ z. z ++ a.0) d ∙ (ap (λ z. node_entries p.entries p.classes p.bytes x.node ++ z) r
+    ∙ sym (those_append (number_in_force p.entries) (targets p.classes p.bytes x.node) (all_targets p (nodes_of es)))))
 
 -- The record of an index entry is that of its event.
-pub event_recorded : (p : Parts) (early : BTreeMap ℕ ℕ) (fs : List EventIndexEntry) (n : ℕ) (f : EventIndexEntry) → map (indexed_event p.records early) fs ≡ map Some (events_of p) → slice_get fs n ≡ Some f
+pub event_recorded : (p : Parts) (early : BTreeMap ℕ ℕ) (fs : List EventIndexEntry) (n : ℕ) (f : EventIndexEntry) → map (indexed_event p.records early) fs ≡ map Some (events_of p)
+    → slice_get fs n ≡ Some f
     → Some (slice_get p.records f.record) ≡ option_map (λ (e : EventAt). Some e.record_of) (slice_get (events_of p) n)
 event_recorded p early fs n f e g =
     let m = each_some (indexed_event p.records early) fs (events_of p) n f e g in

@@ -60,7 +60,8 @@ there_starts rs at type_id r e =
 
 pub none_starts : (rs : List Framed) (at type_id : ℕ) → record_there rs at type_id ≡ None → (r : Framed) → StartsAt rs at type_id r → ⊥
 none_starts rs at type_id e r s =
-    none_found (λ (z : Framed). (z.at == at) && (z.type_id == type_id)) rs r e (contains_in rs r s.listed) (ap (λ b. b && (r.type_id == type_id)) (is_eq r.at at s.place) ∙ is_eq r.type_id type_id s.type_is)
+    none_found (λ (z : Framed). (z.at == at) && (z.type_id == type_id)) rs r e (contains_in rs r s.listed)
+    (ap (λ b. b && (r.type_id == type_id)) (is_eq r.at at s.place) ∙ is_eq r.type_id type_id s.type_is)
 
 pub starts_there : (c : List ℕ) (rs : List Framed) (at type_id : ℕ) (r : Framed) → AllByRecursion (IsRecord c) rs → StartsAt rs at type_id r → record_there rs at type_id ≡ Some r
 starts_there c rs at type_id r each s = by_found (record_there rs at type_id) refl
@@ -110,9 +111,11 @@ module _ (c : List ℕ) (k : Classes) (all : List Framed) where
   pub events_tell : (rs : List Framed) → AllByRecursion (IsRecord c) rs → EventsTell rs (events_checked c k all rs)
   events_tell [] i = tt
   events_tell (r ∷ rs) i =
-      by_answer (run (value_format k (inline r.type_id)) c (record_end r) r.body) (events_checked c k all rs) (run_reads_or_fails (value_format k (inline r.type_id)) c (record_end r) r.body i.0.covers i.0.within) (events_tell rs i.1)
+      by_answer (run (value_format k (inline r.type_id)) c (record_end r) r.body) (events_checked c k all rs)
+      (run_reads_or_fails (value_format k (inline r.type_id)) c (record_end r) r.body i.0.covers i.0.within) (events_tell rs i.1)
     where
-      by_answer : (a : Answer Value) (later : Result (List Framed) Flaw) → ReadsOrFails (value_format k (inline r.type_id)) c (record_end r) r.body a → EventsTell rs later → EventsTell (r ∷ rs) (fields_by a later)
+      by_answer : (a : Answer Value) (later : Result (List Framed) Flaw) → ReadsOrFails (value_format k (inline r.type_id)) c (record_end r) r.body a → EventsTell rs later
+          → EventsTell (r ∷ rs) (fields_by a later)
       by_answer (Ok g) (Ok es) s t = ((g.value, g.place, s), t)
       by_answer (Ok g) (Err f) s t = first_more (HasFields c k) FieldsFail r rs f (g.value, g.place, s) t
       by_answer (Err e) later s t = first_here (HasFields c k) FieldsFail r rs e s
@@ -123,7 +126,8 @@ module _ (c : List ℕ) (k : Classes) (all : List Framed) where
       ap (λ a. fields_by a (events_checked c k all rs)) (reads_computed c (record_end r) i.0.within (value_format k (inline r.type_id)) r.body h.0.0 h.0.1 i.0.covers h.0.2)
       ∙ events_ok rs i.1 h.1
 
-  events_first : (before : List Framed) (r : Framed) (after : List Framed) (f : Flaw) → AllByRecursion (IsRecord c) (before ++ r ∷ after) → All (HasFields c k) before → FieldsFail r f.offset f.reason → events_checked c k all (before ++ r ∷ after) ≡ Err f
+  events_first : (before : List Framed) (r : Framed) (after : List Framed) (f : Flaw) → AllByRecursion (IsRecord c) (before ++ r ∷ after) → All (HasFields c k) before → FieldsFail r f.offset f.reason
+      → events_checked c k all (before ++ r ∷ after) ≡ Err f
   events_first [] r after f i g b =
       ap (λ a. fields_by a (events_checked c k all after)) (fails_computed c (record_end r) i.0.within (value_format k (inline r.type_id)) r.body f.offset f.reason i.0.covers b)
   events_first (x ∷ before) r after f i g b =
@@ -159,9 +163,11 @@ module _ (c : List ℕ) (k : Classes) where
   pub entries_tell : (number : ℕ) (ls : List Link) → AllByRecursion LinkRecord ls → EntriesTell number ls (entries_of c k number ls)
   entries_tell number [] i = refl
   entries_tell number (l ∷ ls) i =
-      by_answer (run (checkpoint_format k) c (record_end l.frame) l.frame.body) (entries_of c k (number + 1) ls) (run_reads_or_fails (checkpoint_format k) c (record_end l.frame) l.frame.body i.0.covers i.0.within) (entries_tell (number + 1) ls i.1)
+      by_answer (run (checkpoint_format k) c (record_end l.frame) l.frame.body) (entries_of c k (number + 1) ls)
+      (run_reads_or_fails (checkpoint_format k) c (record_end l.frame) l.frame.body i.0.covers i.0.within) (entries_tell (number + 1) ls i.1)
     where
-      by_answer : (a : Answer (List PoolAt)) (later : Result (List EntryAt) Flaw) → ReadsOrFails (checkpoint_format k) c (record_end l.frame) l.frame.body a → EntriesTell (number + 1) ls later → EntriesTell number (l ∷ ls) (entries_by number a later)
+      by_answer : (a : Answer (List PoolAt)) (later : Result (List EntryAt) Flaw) → ReadsOrFails (checkpoint_format k) c (record_end l.frame) l.frame.body a → EntriesTell (number + 1) ls later
+          → EntriesTell number (l ∷ ls) (entries_by number a later)
       by_answer (Ok g) (Ok es) s t =
           let r = subst (λ to. Reads (checkpoint_format k) c (record_end l.frame) l.frame.body g.value to) (checkpoint_end k c (record_end l.frame) l.frame.body g.value g.place s) s in
           (g.value, r, es, refl, t)
@@ -170,7 +176,8 @@ module _ (c : List ℕ) (k : Classes) where
           first_more IsRead BodyFails l ls f (read_alone l g.value r) t
       by_answer (Err e) later s t = first_here IsRead BodyFails l ls e s
 
-  computed : (l : Link) (pools : List PoolAt) → IsRecord c l.frame → Reads (checkpoint_format k) c (record_end l.frame) l.frame.body pools (record_end l.frame) → run (checkpoint_format k) c (record_end l.frame) l.frame.body ≡ Ok (record { value = pools; place = record_end l.frame })
+  computed : (l : Link) (pools : List PoolAt) → IsRecord c l.frame → Reads (checkpoint_format k) c (record_end l.frame) l.frame.body pools (record_end l.frame)
+      → run (checkpoint_format k) c (record_end l.frame) l.frame.body ≡ Ok (record { value = pools; place = record_end l.frame })
   computed l pools i r = reads_computed c (record_end l.frame) i.within (checkpoint_format k) l.frame.body pools (record_end l.frame) i.covers r
 
   pub entries_ok : (number : ℕ) (ls : List Link) (es : List EntryAt) → AllByRecursion LinkRecord ls → AreEntries c k number ls es → entries_of c k number ls ≡ Ok es
@@ -179,7 +186,8 @@ module _ (c : List ℕ) (k : Classes) where
       ap (λ a. entries_by number a (entries_of c k (number + 1) ls)) (computed l h.0 i.0 h.1)
       ∙ (ap (before_entries (entries_from number 0 h.0)) (entries_ok (number + 1) ls h.2 i.1 h.4) ∙ ap (λ z. Ok z) (sym h.3))
 
-  entries_first : (number : ℕ) (before : List Link) (l : Link) (after : List Link) (f : Flaw) → AllByRecursion LinkRecord (before ++ l ∷ after) → All IsRead before → BodyFails l f.offset f.reason → entries_of c k number (before ++ l ∷ after) ≡ Err f
+  entries_first : (number : ℕ) (before : List Link) (l : Link) (after : List Link) (f : Flaw) → AllByRecursion LinkRecord (before ++ l ∷ after) → All IsRead before → BodyFails l f.offset f.reason
+      → entries_of c k number (before ++ l ∷ after) ≡ Err f
   entries_first number [] l after f i g b =
       ap (λ a. entries_by number a (entries_of c k (number + 1) after)) (fails_computed c (record_end l.frame) i.0.within (checkpoint_format k) l.frame.body f.offset f.reason i.0.covers b)
   entries_first number (x ∷ before) l after f i g b =

@@ -42,7 +42,8 @@ module _ (V : Type 0) where
   no_value m q v e is = let n : None ≡ Some v = sym (get-values_in m q ∙ ap (lookup (is_at (λ k. slice_cmp nat_cmp q (string_bytes k)))) e) ∙ is in cc
 
   -- A change at one text.
-  pub changed : (m n : BTreeMap (String Global) V) (text : List ℕ) (v : V) → UpdatesBy string_cmp (λ k. slice_cmp nat_cmp text (string_bytes k)) m n (Some v) → (q : List ℕ) → fin.get (values_in n) q ≡ cond (bytes_eq text q) (Some v) (fin.get (values_in m) q)
+  pub changed : (m n : BTreeMap (String Global) V) (text : List ℕ) (v : V) → UpdatesBy string_cmp (λ k. slice_cmp nat_cmp text (string_bytes k)) m n (Some v) → (q : List ℕ)
+      → fin.get (values_in n) q ≡ cond (bytes_eq text q) (Some v) (fin.get (values_in m) q)
   changed m n text v u q = get-values_in n q ∙ (btree_map_updates_text text m n (Some v) u q ∙ ap (cond (bytes_eq text q) (Some v)) (sym (get-values_in m q)))
 
   -- Texts that ascend are in the order of the finite map.
@@ -60,5 +61,6 @@ module _ (V : Type 0) where
   entries-values_in m h =
       let es : List (List ℕ × V) = map by_bytes m.entries in
       let s = texts_sorted m.entries h in
-      let same : values_in m ≡ fin.from_sorted es = same_map nat_list_cmp_total (slice_cmp-IsAntisymmetric nat_cmp-IsAntisymmetric) _ _ (λ q. get-from_entries nat_list_cmp_total es q ∙ sym (get-from_sorted (slice_cmp nat_cmp) es q s)) in
+      let same : values_in m ≡ fin.from_sorted es =
+      same_map nat_list_cmp_total (slice_cmp-IsAntisymmetric nat_cmp-IsAntisymmetric) _ _ (λ q. get-from_entries nat_list_cmp_total es q ∙ sym (get-from_sorted (slice_cmp nat_cmp) es q s)) in
       ap fin.entries same ∙ entries-from_sorted (slice_cmp nat_cmp) es s

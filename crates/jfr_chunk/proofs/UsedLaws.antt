@@ -25,8 +25,10 @@ pub used_next : (rs : List Framed) (fs new : List EventIndexEntry) (n to id : �
 used_next rs fs new n to id r e p old now h g =
     let a : EventIndexEntry → Bool = λ f. option_map_or (λ x. x.type_id == id) (slice_get rs f.record) false in
     let last : option_map_or (λ (x : Framed). x.type_id == id) (slice_get rs n) false ≡ (r.type_id == id) = ap (λ o. option_map_or (λ (x : Framed). x.type_id == id) o false) e in
-    let more : used_in rs (fs ++ record { «record» = n; refs_end = to } ∷ []) id ≡ (used_in rs fs id || used_in rs (record { «record» = n; refs_end = to } ∷ []) id) = list_any-append a fs (record { «record» = n; refs_end = to } ∷ []) in
-    g ∙ ((λ i. h i || sym last i) ∙ (ap (λ z. used_in rs fs id || z) (sym (or_false (option_map_or (λ (x : Framed). x.type_id == id) (slice_get rs n) false))) ∙ (sym more ∙ ap (λ z. used_in rs z id) (sym p))))
+    let more : used_in rs (fs ++ record { «record» = n; refs_end = to } ∷ []) id ≡ (used_in rs fs id || used_in rs (record { «record» = n; refs_end = to } ∷ []) id) =
+    list_any-append a fs (record { «record» = n; refs_end = to } ∷ []) in
+    g ∙ ((λ i. h i || sym last i) ∙ (ap (λ z. used_in rs fs id || z) (sym (or_false (option_map_or (λ (x : Framed). x.type_id == id) (slice_get rs n) false)))
+    ∙ (sym more ∙ ap (λ z. used_in rs z id) (sym p))))
 
 heads : {C : Type 0} (c d : C) (cs ds : List C) → (c ∷ cs) ≡ (d ∷ ds) → c ≡ d
 heads c d cs ds e = cc
@@ -54,7 +56,8 @@ none_held ids zero = refl
 none_held ids (suc n) = none_held ids n
 
 -- An id in the cache that isn't 0 is in the set.
-pub held_in : (ids : Ids) (recent : List ℕ) (place other id : ℕ) → list_all (may_hold ids) recent ≡ true → place < length recent → slice_index_or recent place other ≡ id → (id ≡ 0 → ⊥) → is_in ids id ≡ true
+pub held_in : (ids : Ids) (recent : List ℕ) (place other id : ℕ) → list_all (may_hold ids) recent ≡ true → place < length recent → slice_index_or recent place other ≡ id → (id ≡ 0 → ⊥)
+    → is_in ids id ≡ true
 held_in ids [] place other id h k e n = absurd (omega arith)
 held_in ids (x ∷ recent) zero other id h k e n = by_test (x == 0) refl (is_in ids x) refl h
   where
@@ -69,7 +72,8 @@ held_in ids (x ∷ recent) (suc place) other id h k e n = held_in ids recent pla
     rest false b h = cc
 
 -- An id that is added may be held in any slot.
-pub held_more : (old new : Ids) (recent : List ℕ) (place id : ℕ) → list_all (may_hold old) recent ≡ true → ((other : ℕ) → is_in new other ≡ (is_in old other || (id == other))) → list_all (may_hold new) (slice_set recent place id) ≡ true
+pub held_more : (old new : Ids) (recent : List ℕ) (place id : ℕ) → list_all (may_hold old) recent ≡ true → ((other : ℕ) → is_in new other ≡ (is_in old other || (id == other)))
+    → list_all (may_hold new) (slice_set recent place id) ≡ true
 held_more old new recent place id r h = set recent place (all recent r)
   where
     rest : (a b : Bool) → (a && b) ≡ true → b ≡ true
@@ -109,4 +113,5 @@ held_more old new recent place id r h = set recent place (all recent r)
     set : (xs : List ℕ) (place : ℕ) → list_all (may_hold new) xs ≡ true → list_all (may_hold new) (slice_set xs place id) ≡ true
     set [] place r = refl
     set (x ∷ xs) zero r = both (may_hold new id) (list_all (may_hold new) xs) own (rest (may_hold new x) (list_all (may_hold new) xs) r)
-    set (x ∷ xs) (suc place) r = both (may_hold new x) (list_all (may_hold new) (slice_set xs place id)) (first (may_hold new x) (list_all (may_hold new) xs) r) (set xs place (rest (may_hold new x) (list_all (may_hold new) xs) r))
+    set (x ∷ xs) (suc place) r = both (may_hold new x) (list_all (may_hold new) (slice_set xs place id)) (first (may_hold new x) (list_all (may_hold new) xs) r)
+        (set xs place (rest (may_hold new x) (list_all (may_hold new) xs) r))

@@ -61,15 +61,19 @@ pub data Refused (c : List ℕ) (flaw : Flaw) : Type 0 where
   -- No metadata record starts at the position in the header.
   metadata_position : (rs : List Framed) → AreRecords c rs → ((r : Framed) → StartsAt rs (metadata_at c) 0 r → ⊥) → flaw ≡ record { offset = 24; reason = MetadataPosition } → Refused c flaw
   -- No checkpoint starts at the position in the header.
-  pool_position : (rs : List Framed) → AreRecords c rs → (m : Framed) → StartsAt rs (metadata_at c) 0 m → ((r : Framed) → StartsAt rs (pools_at c) 1 r → ⊥) → flaw ≡ record { offset = 16; reason = PoolPosition } → Refused c flaw
+  pool_position : (rs : List Framed) → AreRecords c rs → (m : Framed) → StartsAt rs (metadata_at c) 0 m → ((r : Framed) → StartsAt rs (pools_at c) 1 r → ⊥)
+      → flaw ≡ record { offset = 16; reason = PoolPosition } → Refused c flaw
   -- A chained checkpoint's head or delta is faulty.
   chain : (f : Framing c) (before : List Link) → ChainFlaw c f.records (pools_at c) before flaw.offset flaw.reason → Refused c flaw
   -- The metadata's body or its classes are faulty.
   metadata : (h : Chained c) → IsMetadataFlaw c h.framing.metadata flaw → Refused c flaw
   -- A chained checkpoint's body is faulty; it is the first such one in file order.
-  checkpoints : (d : Described c) → FirstFails (λ l. (es : List EntryAt) × AreEntries c d.classes 0 (l ∷ []) es) (λ l. Fails (checkpoint_format d.classes) c (record_end l.frame) l.frame.body) (reverse d.chained.chain) flaw → Refused c flaw
+  checkpoints : (d : Described c)
+      → FirstFails (λ l. (es : List EntryAt) × AreEntries c d.classes 0 (l ∷ []) es) (λ l. Fails (checkpoint_format d.classes) c (record_end l.frame) l.frame.body) (reverse d.chained.chain) flaw
+      → Refused c flaw
   -- An event's fields are faulty; it is the first such event in file order.
-  events : (p : Pooled c) → FirstFails (HasFields c p.described.classes) (λ r. Fails (value_format p.described.classes (inline r.type_id)) c (record_end r) r.body) (event_records p.described.classes p.described.chained.framing.records) flaw → Refused c flaw
+  events : (p : Pooled c)
+      → FirstFails (HasFields c p.described.classes) (λ r. Fails (value_format p.described.classes (inline r.type_id)) c (record_end r) r.body) (event_records p.described.classes p.described.chained.framing.records) flaw → Refused c flaw
 
 -- In the computation, a stage gets what the one before found; if that was a flaw, it is the result.
 abbrev pub and_then : {A B : Type 0} → Result A Flaw → (A → Result B Flaw) → Result B Flaw

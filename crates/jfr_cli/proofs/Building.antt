@@ -20,7 +20,8 @@ use Rattle.jfr_cli.proofs.Checking.{stand_kept}
 use Rattle.jfr_cli.proofs.Counting.{lifted}
 use Rattle.jfr_cli.proofs.Leaving.{known_by}
 
-left_build : (text output : List ℕ) (steady : Bool) (ended : CommandEnd) (w v : World) (s t : Snapshot) → Outcome steady (building output (file w text)) (λ s t. (t ≡ s) × IsUnread steady text w v) ended s t → WorkOutcome steady (Builds text output) ended w v s t
+left_build : (text output : List ℕ) (steady : Bool) (ended : CommandEnd) (w v : World) (s t : Snapshot)
+    → Outcome steady (building output (file w text)) (λ s t. (t ≡ s) × IsUnread steady text w v) ended s t → WorkOutcome steady (Builds text output) ended w v s t
 left_build text output steady (Ends e) w v s t h = h
 left_build text output steady NotRead w v s t h = h
 left_build text output steady NotWritten w v s t h = h
@@ -32,12 +33,14 @@ module _ (text output t o : List ℕ) (a b : State) (s : SinkState) (is_text : t
   renamed : (P : List ℕ → List ℕ → Type 0) → P t o → P (file_name text) (file_name output)
   renamed P p = subst (λ x. P x (file_name output)) is_text (subst (λ x. P t x) is_output p)
 
-  carried : (e : Ending) → Ran (builds t o) e (without_sink a) (without_sink b) → (e ≡ ending.Done → IfKnown a.contents b.contents (streams.Builds t o)) → (CanCreate (file_name output) a → e ≢ ending.WriteFault) → Carries (orders.Build text output) e (outside a s) (outside b s)
+  carried : (e : Ending) → Ran (builds t o) e (without_sink a) (without_sink b) → (e ≡ ending.Done → IfKnown a.contents b.contents (streams.Builds t o))
+      → (CanCreate (file_name output) a → e ≢ ending.WriteFault) → Carries (orders.Build text output) e (outside a s) (outside b s)
   carried e known wrote create =
       let ran = renamed (λ x y. Ran (builds x y) e (without_sink a) (without_sink b)) known in
       record {
         leaves =
-            known_by a.contents b.contents (λ w v. Outcome a.steady (building (file_name output) (file w (file_name text))) (λ s t. (t ≡ s) × IsUnread a.steady (file_name text) w v) (command_end e) (snapshot w None) (snapshot v None))
+            known_by a.contents b.contents (λ w v. Outcome a.steady (building (file_name output) (file w (file_name text))) (λ s t. (t ≡ s) × IsUnread a.steady (file_name text) w v) (command_end e)
+            (snapshot w None) (snapshot v None))
             (λ w v. WorkOutcome a.steady (Builds (file_name text) (file_name output)) (command_end e) w v (snapshot w None) (snapshot v None)) ran.contents
             (λ w v. left_build (file_name text) (file_name output) a.steady (command_end e) w v (snapshot w None) (snapshot v None));
         counts = lifted (command_end e) a b s ran.counts;
@@ -49,7 +52,8 @@ module _ (text output t o : List ℕ) (a b : State) (s : SinkState) (is_text : t
         can_create = create;
       }
 
-  pub build_done : Ran (builds t o) ending.Done (without_sink a) (without_sink b) → IfKnown a.contents b.contents (streams.Builds t o) → Carries (orders.Build text output) ending.Done (outside a s) (outside b s)
+  pub build_done : Ran (builds t o) ending.Done (without_sink a) (without_sink b) → IfKnown a.contents b.contents (streams.Builds t o)
+      → Carries (orders.Build text output) ending.Done (outside a s) (outside b s)
   build_done ran wrote = carried ending.Done ran (λ is. wrote) (λ can. (λ is. cc))
 
   pub build_halted : Ran (builds t o) ending.ReadFault (without_sink a) (without_sink b) → Carries (orders.Build text output) ending.ReadFault (outside a s) (outside b s)
@@ -68,7 +72,8 @@ module _ (text output t o : List ℕ) (a b : State) (s : SinkState) (is_text : t
       record {
         build = tt;
         refused =
-            known_by a.contents b.contents (λ w v. IsRefusedText (file w (file_name text)) line reason × IsKept w v) (λ w v. IsRefusedText (file w (file_name text)) line reason × (snapshot v None ≡ snapshot w None)) r.text_is
+            known_by a.contents b.contents (λ w v. IsRefusedText (file w (file_name text)) line reason × IsKept w v)
+            (λ w v. IsRefusedText (file w (file_name text)) line reason × (snapshot v None ≡ snapshot w None)) r.text_is
             (λ w v h. (h.0, stand_kept w v None None h.1 refl));
         sink = refl;
         counts = (r.counts.0, r.counts.1, refl, r.counts.3);

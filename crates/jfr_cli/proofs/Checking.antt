@@ -24,7 +24,8 @@ use Rattle.jfr_cli.specs.Runs.{Carries, Doubts}
 
 -- Without a change of the files and of the open output, only the text can have changed.
 pub stand_kept : (w v : World) (x y : Option (List ℕ)) → IsKept w v → y ≡ x → snapshot v y ≡ snapshot w x
-stand_kept w v x y k e = ap (λ f. record { files = f; output = v.output; text = y; sound = true }) k.0 ∙ (ap (λ o. record { files = w.files; output = o; text = y; sound = true }) k.1 ∙ ap (snapshot w) e)
+stand_kept w v x y k e = ap (λ f. record { files = f; output = v.output; text = y; sound = true }) k.0
+    ∙ (ap (λ o. record { files = w.files; output = o; text = y; sound = true }) k.1 ∙ ap (snapshot w) e)
 
 module _ (g : Given) (input output receipt : List ℕ) (a b : State) (s z : SinkState) (kept : IfContentsKnown a b IsKept) where
   abbrev files : World → Three
@@ -34,7 +35,8 @@ module _ (g : Given) (input output receipt : List ℕ) (a b : State) (s z : Sink
   work = Checks g (file_name input) (file_name output) (file_name receipt)
 
   -- What a check leaves, from what is known of the files.
-  leaves_by : (Known : World → Type 0) (Q : World → World → Snapshot → Snapshot → Type 0) → IfSome a.contents Known → ((w v : World) → IsKept w v → Known w → Q w v (snapshot w s.written) (snapshot v z.written)) → IfKnown a.contents b.contents (λ w v. Q w v (snapshot w s.written) (snapshot v z.written))
+  leaves_by : (Known : World → Type 0) (Q : World → World → Snapshot → Snapshot → Type 0) → IfSome a.contents Known
+      → ((w v : World) → IsKept w v → Known w → Q w v (snapshot w s.written) (snapshot v z.written)) → IfKnown a.contents b.contents (λ w v. Q w v (snapshot w s.written) (snapshot v z.written))
   leaves_by Known Q known f = by_told a.contents b.contents kept known
     where
       by_told : (t u : Option World) → IfKnown t u IsKept → IfSome t Known → IfKnown t u (λ w v. Q w v (snapshot w s.written) (snapshot v z.written))
@@ -47,7 +49,8 @@ module _ (g : Given) (input output receipt : List ℕ) (a b : State) (s z : Sink
   all_known (Some w) = tt
 
   -- A steady place with the three files doesn't lack one.
-  has_all : (x : Verdict) → (IsTrue a.steady → x ≡ verdicts.ReadFault → IfSome a.contents (λ w. LacksOne (files w))) → CanCheck (file_name input) (file_name output) (file_name receipt) a → x ≡ verdicts.ReadFault → ⊥
+  has_all : (x : Verdict) → (IsTrue a.steady → x ≡ verdicts.ReadFault → IfSome a.contents (λ w. LacksOne (files w))) → CanCheck (file_name input) (file_name output) (file_name receipt) a
+      → x ≡ verdicts.ReadFault → ⊥
   has_all x lacks can e = by_lack (subst (λ t. IfSome t (λ w. LacksOne (files w))) can.contents (lacks can.steady e))
     where
       by_lack : LacksOne (files can.world) → ⊥
@@ -56,7 +59,8 @@ module _ (g : Given) (input output receipt : List ℕ) (a b : State) (s z : Sink
       by_lack (no_receipt h) = let x : IsSome {T = List ℕ} None = subst (λ o. IsSome {T = List ℕ} o) h can.has_receipt in cc
 
   -- All chunks are verified, and their number is written, or couldn't be.
-  pub check_verified : (n : ℕ) (e : Ending) → IfSome a.contents (λ w. VerdictOf g (files w) (verdicts.Verified n)) → IfSome a.contents (λ w. AllVerified g (files w) n) → Counts (verdicts.Verified n) a b → IsWritten (verified_line n) e s z
+  pub check_verified : (n : ℕ) (e : Ending) → IfSome a.contents (λ w. VerdictOf g (files w) (verdicts.Verified n)) → IfSome a.contents (λ w. AllVerified g (files w) n)
+      → Counts (verdicts.Verified n) a b → IsWritten (verified_line n) e s z
       → Carries (orders.Verify g input output receipt) e (outside a s) (outside b z)
   check_verified n Done is all counts w = record {
     leaves =
@@ -77,7 +81,20 @@ module _ (g : Given) (input output receipt : List ℕ) (a b : State) (s z : Sink
   check_verified n WriteFault is all counts w = record {
     leaves =
         leaves_by (λ w. VerdictOf g (files w) (verdicts.Verified n)) (λ w v. WorkOutcome a.steady work NotWritten w v) is
-        (λ x y k h. (verdicts.Verified n, h, record { first = []; failed = Write (verified_line n); rest = []; bytes = w.0.0; parts = refl; holds = stand_kept x y z.written z.written k refl ∙ ap (snapshot x) w.0.1; cause = λ h. tt }));
+        (λ x y k h. (
+          verdicts.Verified n,
+          h,
+          record {
+            first = [];
+            failed = Write (verified_line n);
+            rest = [];
+            bytes = w.0.0;
+            parts = refl;
+            holds = stand_kept x y z.written z.written k refl
+                ∙ ap (snapshot x) w.0.1;
+            cause = λ h. tt;
+          },
+        ));
     counts = (counts.reads, counts.writes, w.1, counts.same);
     sink = tt;
     text = tt;
@@ -112,7 +129,8 @@ module _ (g : Given) (input output receipt : List ℕ) (a b : State) (s : SinkSt
   pub check_refused : (r : Refusal) → IfSome a.contents (λ w. VerdictOf g (files_of w) (verdicts.Refused r)) → Counts (verdicts.Refused r) a b → Carries order (Refused r) (outside a s) (outside b s)
   check_refused r is counts = record {
     leaves =
-        leaves_by g input output receipt a b s s kept (λ w. VerdictOf g (files_of w) (verdicts.Refused r)) (λ w v. WorkOutcome a.steady (Checks g (file_name input) (file_name output) (file_name receipt)) (Ends (ends.Refused r)) w v) is
+        leaves_by g input output receipt a b s s kept (λ w. VerdictOf g (files_of w) (verdicts.Refused r))
+        (λ w v. WorkOutcome a.steady (Checks g (file_name input) (file_name output) (file_name receipt)) (Ends (ends.Refused r)) w v) is
         (λ x y k h. (verdicts.Refused r, h, record { end = refl; holds = stand_kept x y s.written s.written k refl }));
     counts = (tt, (counts.reads, counts.writes, refl, counts.same));
     sink = tt;
@@ -123,11 +141,13 @@ module _ (g : Given) (input output receipt : List ℕ) (a b : State) (s : SinkSt
     can_create = λ can. absurd can;
   }
 
-  pub check_halted : (IsTrue a.steady → verdicts.ReadFault ≡ verdicts.ReadFault → IfSome a.contents (λ w. HasNoVerdict g (files_of w))) → (IsTrue a.steady → verdicts.ReadFault ≡ verdicts.ReadFault → IfSome a.contents (λ w. LacksOne (files_of w)))
+  pub check_halted : (IsTrue a.steady → verdicts.ReadFault ≡ verdicts.ReadFault → IfSome a.contents (λ w. HasNoVerdict g (files_of w)))
+      → (IsTrue a.steady → verdicts.ReadFault ≡ verdicts.ReadFault → IfSome a.contents (λ w. LacksOne (files_of w)))
       → Counts verdicts.ReadFault a b → Carries order ReadFault (outside a s) (outside b s)
   check_halted none lacks counts = record {
     leaves =
-        leaves_by g input output receipt a b s s kept (λ w. IsTrue a.steady → HasNoVerdict g (files_of w)) (λ w v. WorkOutcome a.steady (Checks g (file_name input) (file_name output) (file_name receipt)) NotRead w v) (by_told a.contents (λ h. none h refl))
+        leaves_by g input output receipt a b s s kept (λ w. IsTrue a.steady → HasNoVerdict g (files_of w))
+        (λ w v. WorkOutcome a.steady (Checks g (file_name input) (file_name output) (file_name receipt)) NotRead w v) (by_told a.contents (λ h. none h refl))
         (λ x y k h. (stand_kept x y s.written s.written k refl, h));
     counts = (counts.reads, counts.writes, refl, counts.same);
     sink = tt;
@@ -145,7 +165,8 @@ module _ (g : Given) (input output receipt : List ℕ) (a b : State) (s : SinkSt
   pub check_short : Counts verdicts.Memory a b → Carries order Memory (outside a s) (outside b s)
   check_short counts = record {
     leaves =
-        leaves_by g input output receipt a b s s kept (λ w. Unit {0}) (λ w v. WorkOutcome a.steady (Checks g (file_name input) (file_name output) (file_name receipt)) RanOut w v) (all_known g input output receipt a b s s kept a.contents)
+        leaves_by g input output receipt a b s s kept (λ w. Unit {0}) (λ w v. WorkOutcome a.steady (Checks g (file_name input) (file_name output) (file_name receipt)) RanOut w v)
+        (all_known g input output receipt a b s s kept a.contents)
         (λ x y k h. stand_kept x y s.written s.written k refl);
     counts = (counts.reads, counts.writes, refl, counts.same);
     sink = tt;
@@ -156,7 +177,8 @@ module _ (g : Given) (input output receipt : List ℕ) (a b : State) (s : SinkSt
     can_create = λ can. absurd can;
   }
 
-  pub check_doubted : (chunk : ℕ) (doubt : Doubt) → IfSome a.contents (λ w. VerdictOf g (files_of w) (verdicts.Doubted chunk doubt)) → Counts (verdicts.Doubted chunk doubt) a b → Doubts (Checks g (file_name input) (file_name output) (file_name receipt)) chunk doubt (outside a s) (outside b s)
+  pub check_doubted : (chunk : ℕ) (doubt : Doubt) → IfSome a.contents (λ w. VerdictOf g (files_of w) (verdicts.Doubted chunk doubt)) → Counts (verdicts.Doubted chunk doubt) a b
+      → Doubts (Checks g (file_name input) (file_name output) (file_name receipt)) chunk doubt (outside a s) (outside b s)
   check_doubted chunk doubt is counts = record {
     check = tt;
     verdict =

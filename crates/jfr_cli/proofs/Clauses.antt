@@ -64,12 +64,15 @@ unchanged k a = Prefix (by_work k)
     same (Some w) P h = h w
 
     by_work : (k : Work) → WorkPartly k a a
-    by_work (Over r input) = same a.place.contents (λ w v. StopsAs (Over r input) w (snapshot w (text_on r.target a.sink)) (snapshot v (text_on r.target a.sink))) (λ w. nothing (effects (plan_in r input w).steps) (snapshot w (text_on r.target a.sink)))
-    by_work (Joins folder output) = same a.place.contents (λ w v. StopsAs (Joins folder output) w (snapshot w None) (snapshot v None)) (λ w. nothing (effects (assembling folder output w.files).steps) (snapshot w None))
+    by_work (Over r input) = same a.place.contents (λ w v. StopsAs (Over r input) w (snapshot w (text_on r.target a.sink)) (snapshot v (text_on r.target a.sink)))
+        (λ w. nothing (effects (plan_in r input w).steps) (snapshot w (text_on r.target a.sink)))
+    by_work (Joins folder output) = same a.place.contents (λ w v. StopsAs (Joins folder output) w (snapshot w None) (snapshot v None))
+        (λ w. nothing (effects (assembling folder output w.files).steps) (snapshot w None))
     by_work (Planned p) = λ w. nothing (effects p.steps) (snapshot w a.sink.written)
     by_work (Checks g input output receipt) = same a.place.contents (λ w v. snapshot v a.sink.written ≡ snapshot w a.sink.written) (λ w. refl)
     by_work (Masks k) = same a.place.contents (λ w v. StopsAs (Masks k) w (snapshot w None) (snapshot v None)) (λ w. nothing (effects (mask_plan k w).steps) (snapshot w None))
-    by_work (Builds text output) = same a.place.contents (λ w v. StopsAs (Builds text output) w (snapshot w None) (snapshot v None)) (λ w. nothing (effects (building output (file w text)).steps) (snapshot w None))
+    by_work (Builds text output) = same a.place.contents (λ w v. StopsAs (Builds text output) w (snapshot w None) (snapshot v None))
+        (λ w. nothing (effects (building output (file w text)).steps) (snapshot w None))
 
 -- A doubt changes nothing.
 doubt_partly : (k : Work) (chunk : ℕ) (doubt : Doubt) (a b : Outside) → Doubts k chunk doubt a b → IsPartlyDone k a b
@@ -78,7 +81,8 @@ doubt_partly (Joins folder output) chunk doubt a b d = absurd d.check
 doubt_partly (Planned p) chunk doubt a b d = absurd d.check
 doubt_partly (Checks g input output receipt) chunk doubt a b d =
     Prefix
-    (known_by a.place.contents b.place.contents (λ w v. VerdictOf g (three input output receipt w) (verdicts.Doubted chunk doubt) × (snapshot v b.sink.written ≡ snapshot w a.sink.written)) (λ w v. snapshot v b.sink.written ≡ snapshot w a.sink.written) d.verdict
+    (known_by a.place.contents b.place.contents (λ w v. VerdictOf g (three input output receipt w) (verdicts.Doubted chunk doubt) × (snapshot v b.sink.written ≡ snapshot w a.sink.written))
+    (λ w v. snapshot v b.sink.written ≡ snapshot w a.sink.written) d.verdict
     (λ w v x. x.1))
 doubt_partly (Builds text output) chunk doubt a b d = absurd d.check
 doubt_partly (Masks k) chunk doubt a b d = absurd d.check
@@ -92,7 +96,8 @@ refusal_partly (Checks g input output receipt) line reason a b d = absurd d.buil
 refusal_partly (Masks k) line reason a b d = absurd d.build
 refusal_partly (Builds text output) line reason a b d =
     Prefix
-    (known_by a.place.contents b.place.contents (λ w v. IsRefusedText (file w text) line reason × (snapshot v None ≡ snapshot w None)) (λ w v. SomeDone (effects (building output (file w text)).steps) (snapshot w None) (snapshot v None)) d.refused
+    (known_by a.place.contents b.place.contents (λ w v. IsRefusedText (file w text) line reason × (snapshot v None ≡ snapshot w None))
+    (λ w v. SomeDone (effects (building output (file w text)).steps) (snapshot w None) (snapshot v None)) d.refused
     (λ w v x. record { first = []; rest = effects (building output (file w text)).steps; parts = refl; holds = x.1 }))
 
 -- If memory ran out, any end may be planned.
@@ -222,7 +227,8 @@ built_end text output w r x p h = by_build (option_map build_of (file w text)) r
 
 -- The ending is the plan's, and its status is answered.
 planned : (k : Work) (a b : Outside) (r : ℕ) (x : End) → r ≡ status_of_end x → WorkEnded k x a b → IfSome a.place.contents (HasStatus k r)
-planned k a b r x p h = from_files k a b (λ w v s t. Plans k w (λ q. AllDone q x s t)) (HasStatus k r) h (λ w v. by_work k w (snapshot w (text_on (target_of k) a.sink)) (snapshot v (text_on (target_of k) b.sink)))
+planned k a b r x p h = from_files k a b (λ w v s t. Plans k w (λ q. AllDone q x s t)) (HasStatus k r) h
+    (λ w v. by_work k w (snapshot w (text_on (target_of k) a.sink)) (snapshot v (text_on (target_of k) b.sink)))
   where
     by_work : (k : Work) (w : World) (s t : Snapshot) → Plans k w (λ q. AllDone q x s t) → HasStatus k r w
     by_work (Over rule input) w s t d = ByEnd x d.end p
@@ -238,7 +244,8 @@ doubted_status (Over rule input) chunk doubt a b r p d = absurd d.check
 doubted_status (Joins folder output) chunk doubt a b r p d = absurd d.check
 doubted_status (Planned q) chunk doubt a b r p d = absurd d.check
 doubted_status (Checks g input output receipt) chunk doubt a b r p d =
-    from_told a.place.contents b.place.contents (λ w v. VerdictOf g (three input output receipt w) (verdicts.Doubted chunk doubt) × (snapshot v b.sink.written ≡ snapshot w a.sink.written)) (HasStatus (Checks g input output receipt) r) d.verdict
+    from_told a.place.contents b.place.contents (λ w v. VerdictOf g (three input output receipt w) (verdicts.Doubted chunk doubt) × (snapshot v b.sink.written ≡ snapshot w a.sink.written))
+    (HasStatus (Checks g input output receipt) r) d.verdict
     (λ w v x. runs.ByVerdict (verdicts.Doubted chunk doubt) x.0 p)
 doubted_status (Builds text output) chunk doubt a b r p d = absurd d.check
 doubted_status (Masks k) chunk doubt a b r p d = absurd d.check
@@ -254,7 +261,8 @@ unbuilt_status (Builds text output) line reason a b r p d =
     from_told a.place.contents b.place.contents (λ w v. IsRefusedText (file w text) line reason × (snapshot v None ≡ snapshot w None)) (HasStatus (Builds text output) r) d.refused
     (λ w v x. runs.ByRefusal (record { line = line; reason = reason }) x.0 p)
 
-complete_by : (k : Work) (end : Ending) (a b : Outside) (r : ℕ) (e f : SinkState) → IsAnswered (status_of end) (line_of end) r e f → IsAfterWork k (command_end end) a b → Tallied (target_of k) (command_end end) a b
+complete_by : (k : Work) (end : Ending) (a b : Outside) (r : ℕ) (e f : SinkState) → IsAnswered (status_of end) (line_of end) r e f → IsAfterWork k (command_end end) a b
+    → Tallied (target_of k) (command_end end) a b
     → (Rose a.place.read_faults b.place.read_faults → ⊥) → (Rose (write_count (target_of k) a) (write_count (target_of k) b) → ⊥) → IfSome a.place.contents (HasStatus k r)
 complete_by k end a b r e f (answers.ForMemory p q) l t no_read no_write = any_end a.place.contents k p
 complete_by k Done a b r e f (Fully p q) l t no_read no_write = planned k a b r Fine p l
@@ -422,9 +430,11 @@ pub data Answers (words : List (List ℕ)) (answer : ℕ) (a b : Outside) (e f :
   Usage : order_of words ≡ None → b ≡ a → IsAnswered 1 (Some usage_line) answer e f → Answers words answer a b e f
   Unread : b ≡ a → IsAnswered 5 (Some memory_line) answer e f → Answers words answer a b e f
   Carried : (o : Order) → order_of words ≡ Some o → (end : Ending) → Carries o end a b → IsAnswered (status_of end) (line_of end) answer e f → Answers words answer a b e f
-  Stayed : (o : Order) → order_of words ≡ Some o → (x : Answer) → CarriesTo o x a b → Judged o (answer_status x) a b → IsAnswered (answer_status x) (answer_line x) answer e f → Answers words answer a b e f
+  Stayed : (o : Order) → order_of words ≡ Some o → (x : Answer) → CarriesTo o x a b → Judged o (answer_status x) a b → IsAnswered (answer_status x) (answer_line x) answer e f
+      → Answers words answer a b e f
 
-pub answers_by : (words : List (List ℕ)) (x : Answer) (answer : ℕ) (a b : Outside) (e f : SinkState) → Obeys words x a b → IsAnswered (answer_status x) (answer_line x) answer e f → Answers words answer a b e f
+pub answers_by : (words : List (List ℕ)) (x : Answer) (answer : ℕ) (a b : Outside) (e f : SinkState) → Obeys words x a b → IsAnswered (answer_status x) (answer_line x) answer e f
+    → Answers words answer a b e f
 answers_by words x answer a b e f (NoOrder o is s) t = Usage o s (subst (λ x. IsAnswered (answer_status x) (answer_line x) answer e f) is t)
 answers_by words x answer a b e f (NotRead is s) t = Unread s (subst (λ x. IsAnswered (answer_status x) (answer_line x) answer e f) is t)
 answers_by words answer_kinds.Usage answer a b e f (CarriedOut o known c) t = absurd c
@@ -433,7 +443,8 @@ answers_by words (answer_kinds.Doubted chunk doubt) answer a b e f (CarriedOut o
 answers_by words (answer_kinds.Unbuilt line reason) answer a b e f (CarriedOut o known c) t = Stayed o known (answer_kinds.Unbuilt line reason) c (judged_refusal o line reason a b c) t
 
 -- The status of such an answer is its own, or 5 if memory ran out.
-not_stayed : {o : Order} {r : ℕ} {a b : Outside} {e f : SinkState} (x : Answer) → Judged o (answer_status x) a b → IsAnswered (answer_status x) (answer_line x) r e f → (7 ≤ r → r ≤ 8 → ⊥) → (r ≡ 5 → ⊥) → ⊥
+not_stayed : {o : Order} {r : ℕ} {a b : Outside} {e f : SinkState} (x : Answer) → Judged o (answer_status x) a b → IsAnswered (answer_status x) (answer_line x) r e f → (7 ≤ r → r ≤ 8 → ⊥)
+    → (r ≡ 5 → ⊥) → ⊥
 not_stayed x j (Fully p q) no_judgement room = no_judgement (omega (arith, j.low, p)) (omega (arith, j.high, p))
 not_stayed x j (answers.ForMemory p q) no_judgement room = room p
 
@@ -494,11 +505,15 @@ module _ {ws : List (List ℕ)} {r : ℕ} {a b : Outside} {e f : SinkState} wher
       let d = read_status k.end k.status_is in
       ((k.order, k.is, left ws 3 a b e f k ReadFault d), said_by ws 3 a b e f k ReadFault d, plan.read_rose (target_of (work_of k.order)) ReadFault a b (counted ws 3 a b e f k ReadFault d) refl)
 
-  pub broken_told : Answers ws r a b e f → r ≡ 4 → Under ws (λ o. WorkBroken (work_of o) a b) × IsLineWritten write_line e f × Under ws (λ o. Rose (write_count (target_of (work_of o)) a) (write_count (target_of (work_of o)) b))
+  pub broken_told : Answers ws r a b e f → r ≡ 4
+      → Under ws (λ o. WorkBroken (work_of o) a b) × IsLineWritten write_line e f × Under ws (λ o. Rose (write_count (target_of (work_of o)) a) (write_count (target_of (work_of o)) b))
   broken_told x h =
       let k = obeyed x 4 h (λ z. omega (arith, z)) (λ z. omega (arith, z)) (λ y z. omega (arith, y, z)) in
-      let d = write_status k.end k.status_is in
-      ((k.order, k.is, left ws 4 a b e f k WriteFault d), said_by ws 4 a b e f k WriteFault d, (k.order, k.is, plan.write_rose (target_of (work_of k.order)) WriteFault a b (counted ws 4 a b e f k WriteFault d) refl))
+      let d = write_status k.end k.status_is in (
+        (k.order, k.is, left ws 4 a b e f k WriteFault d),
+        said_by ws 4 a b e f k WriteFault d,
+        (k.order, k.is, plan.write_rose (target_of (work_of k.order)) WriteFault a b (counted ws 4 a b e f k WriteFault d) refl),
+      )
 
   pub parts_told : Answers ws r a b e f → r ≡ 6 → Under ws (λ o. WorkEnded (work_of o) ends.TooMany a b) × IsLineWritten parts_line e f
   parts_told x h =
@@ -613,14 +628,16 @@ module _ {ws : List (List ℕ)} {r : ℕ} {a b : Outside} {e f : SinkState} wher
   same_told (Carried o is end c t) = plan.same_clause (target_of (work_of o)) (command_end end) a b c.counts
   same_told (Stayed o is x d j t) = j.counts.3
 
-  pub complete : Answers ws r a b e f → (o : Order) → order_of ws ≡ Some o → (Rose a.place.read_faults b.place.read_faults → ⊥) → (Rose (write_count (target_of (work_of o)) a) (write_count (target_of (work_of o)) b) → ⊥) → IfSome a.place.contents (HasStatus (work_of o) r)
+  pub complete : Answers ws r a b e f → (o : Order) → order_of ws ≡ Some o → (Rose a.place.read_faults b.place.read_faults → ⊥)
+      → (Rose (write_count (target_of (work_of o)) a) (write_count (target_of (work_of o)) b) → ⊥) → IfSome a.place.contents (HasStatus (work_of o) r)
   complete (Usage p s t) o is h i = cc
   complete (Unread s t) o is h i = any_end a.place.contents (work_of o) (five t)
   complete (Carried p known end c t) o is h i =
       let same = order_same ws p o known is in
       subst (λ z. IfSome a.place.contents (HasStatus (work_of z) r)) same
       (complete_by (work_of p) end a b r e f t c.leaves c.counts h (subst (λ z. Rose (write_count (target_of (work_of z)) a) (write_count (target_of (work_of z)) b) → ⊥) (sym same) i))
-  complete (Stayed p known x d j (Fully m q)) o is h i = subst (λ z. IfSome a.place.contents (HasStatus (work_of z) r)) (order_same ws p o known is) (subst (λ n. IfSome a.place.contents (HasStatus (work_of p) n)) (sym m) j.has_status)
+  complete (Stayed p known x d j (Fully m q)) o is h i =
+      subst (λ z. IfSome a.place.contents (HasStatus (work_of z) r)) (order_same ws p o known is) (subst (λ n. IfSome a.place.contents (HasStatus (work_of p) n)) (sym m) j.has_status)
   complete (Stayed p known x d j (answers.ForMemory m q)) o is h i = any_end a.place.contents (work_of o) m
 
   pub can_read : Answers ws r a b e f → (o : Order) → order_of ws ≡ Some o → CanReadAll (work_of o) a.place → (r ≡ 3 → ⊥) × (b.place.read_faults ≡ a.place.read_faults)
@@ -656,10 +673,12 @@ module _ {ws : List (List ℕ)} {r : ℕ} {a b : Outside} {e f : SinkState} wher
   text_told x (inl h) g i o p is =
       let k = obeyed x 2 h (λ z. omega (arith, z)) (λ z. omega (arith, z)) (λ y z. omega (arith, y, z)) in
       let d = refused_status k.end k.status_is in
-      subst (λ z. KeepsText (work_of z) (Refused d.0) a.sink b.sink) (order_same ws k.order (orders.Verify g i o p) k.is is) (subst (λ z. KeepsText (work_of k.order) z a.sink b.sink) d.1 k.carries.text)
+      subst (λ z. KeepsText (work_of z) (Refused d.0) a.sink b.sink) (order_same ws k.order (orders.Verify g i o p) k.is is)
+      (subst (λ z. KeepsText (work_of k.order) z a.sink b.sink) d.1 k.carries.text)
   text_told x (inr h) g i o p is =
       let k = obeyed x 3 h (λ z. omega (arith, z)) (λ z. omega (arith, z)) (λ y z. omega (arith, y, z)) in
-      subst (λ z. KeepsText (work_of z) ReadFault a.sink b.sink) (order_same ws k.order (orders.Verify g i o p) k.is is) (subst (λ z. KeepsText (work_of k.order) z a.sink b.sink) (read_status k.end k.status_is) k.carries.text)
+      subst (λ z. KeepsText (work_of z) ReadFault a.sink b.sink) (order_same ws k.order (orders.Verify g i o p) k.is is)
+      (subst (λ z. KeepsText (work_of k.order) z a.sink b.sink) (read_status k.end k.status_is) k.carries.text)
 
   -- What an order wrote that ended as its plan does.
   wrote_told : Answers ws r a b e f → (r ≡ 0) ⊎ (r ≡ 2) → (k : Order) → order_of ws ≡ Some k → (end : Ending) × IsByPlan end × runs.Wrote k end a.place b.place
@@ -676,13 +695,16 @@ module _ {ws : List (List ℕ)} {r : ℕ} {a b : Outside} {e f : SinkState} wher
       planned_status m (inl h) = inl (sym m ∙ h)
       planned_status m (inr h) = inr (sym m ∙ h)
 
-  pub headline_told : Answers ws r a b e f → (r ≡ 0) ⊎ (r ≡ 2) → (g : Given) (i o : List ℕ) → order_of ws ≡ Some (orders.Scrub g false i o) → IfKnown a.place.contents b.place.contents (Scrubs g (file_name i) (file_name o))
+  pub headline_told : Answers ws r a b e f → (r ≡ 0) ⊎ (r ≡ 2) → (g : Given) (i o : List ℕ) → order_of ws ≡ Some (orders.Scrub g false i o)
+      → IfKnown a.place.contents b.place.contents (Scrubs g (file_name i) (file_name o))
   headline_told x h g i o is = let w = wrote_told x h (orders.Scrub g false i o) is in w.2 w.1
 
-  pub renumbered_told : Answers ws r a b e f → (r ≡ 0) ⊎ (r ≡ 2) → (g : Given) (i o : List ℕ) → order_of ws ≡ Some (orders.Scrub g true i o) → IfKnown a.place.contents b.place.contents (Renumbers g (file_name i) (file_name o))
+  pub renumbered_told : Answers ws r a b e f → (r ≡ 0) ⊎ (r ≡ 2) → (g : Given) (i o : List ℕ) → order_of ws ≡ Some (orders.Scrub g true i o)
+      → IfKnown a.place.contents b.place.contents (Renumbers g (file_name i) (file_name o))
   renumbered_told x h g i o is = let w = wrote_told x h (orders.Scrub g true i o) is in w.2 w.1
 
-  pub masked_told : Answers ws r a b e f → (r ≡ 0) ⊎ (r ≡ 2) → (g : Given) (s : List (List ℕ)) (x : Option (List (List ℕ))) (k t : Option (List ℕ)) (i o : List ℕ) → order_of ws ≡ Some (orders.Mask g s x k t i o)
+  pub masked_told : Answers ws r a b e f → (r ≡ 0) ⊎ (r ≡ 2) → (g : Given) (s : List (List ℕ)) (x : Option (List (List ℕ))) (k t : Option (List ℕ)) (i o : List ℕ)
+      → order_of ws ≡ Some (orders.Mask g s x k t i o)
       → IfKnown a.place.contents b.place.contents (masks.Masks (mask_work g s x k t i o))
   masked_told answered h g s x k t i o is = let w = wrote_told answered h (orders.Mask g s x k t i o) is in w.2.output w.1
 
@@ -693,26 +715,31 @@ module _ {ws : List (List ℕ)} {r : ℕ} {a b : Outside} {e f : SinkState} wher
       let w = subst (λ z. runs.Wrote z d.end a.place b.place) (order_same ws d.order (orders.Mask g s x k t i o) d.is is) d.carries.wrote in
       w.table (done_status d.end d.status_is)
 
-  pub verified_told : Answers ws r a b e f → r ≡ 0 → (g : Given) (i o p : List ℕ) → order_of ws ≡ Some (orders.Verify g i o p) → IfSome a.place.contents (λ w. (count : ℕ) × AllVerified g (three (file_name i) (file_name o) (file_name p) w) count)
+  pub verified_told : Answers ws r a b e f → r ≡ 0 → (g : Given) (i o p : List ℕ) → order_of ws ≡ Some (orders.Verify g i o p)
+      → IfSome a.place.contents (λ w. (count : ℕ) × AllVerified g (three (file_name i) (file_name o) (file_name p) w) count)
   verified_told x h g i o p is =
       let k = obeyed x 0 h (λ z. omega (arith, z)) (λ z. omega (arith, z)) (λ y z. omega (arith, y, z)) in
       let w = subst (λ z. runs.Wrote z k.end a.place b.place) (order_same ws k.order (orders.Verify g i o p) k.is is) k.carries.wrote in
       w (done_status k.end k.status_is)
 
-  pub built_told : Answers ws r a b e f → r ≡ 0 → (text output : List ℕ) → order_of ws ≡ Some (orders.Build text output) → IfKnown a.place.contents b.place.contents (streams.Builds (file_name text) (file_name output))
+  pub built_told : Answers ws r a b e f → r ≡ 0 → (text output : List ℕ) → order_of ws ≡ Some (orders.Build text output)
+      → IfKnown a.place.contents b.place.contents (streams.Builds (file_name text) (file_name output))
   built_told x h text output is =
       let k = obeyed x 0 h (λ z. omega (arith, z)) (λ z. omega (arith, z)) (λ y z. omega (arith, y, z)) in
       let w = subst (λ z. runs.Wrote z k.end a.place b.place) (order_same ws k.order (orders.Build text output) k.is is) k.carries.wrote in
       w (done_status k.end k.status_is)
 
-  pub scrubs_told : ((g : Given) (t : Three) → HasOneVerdict g t) → ((g : Given) (t : Three) → HasVerifiedScrubs g t) → Answers ws r a b e f → (g : Given) (i o p : List ℕ) → order_of ws ≡ Some (orders.Verify g i o p)
-      → (Rose a.place.read_faults b.place.read_faults → ⊥) → (Rose a.sink.faults b.sink.faults → ⊥) → IfSome a.place.contents (λ w. AreScrubs g (three (file_name i) (file_name o) (file_name p) w) → (r ≡ 0) ⊎ (r ≡ 5))
+  pub scrubs_told : ((g : Given) (t : Three) → HasOneVerdict g t) → ((g : Given) (t : Three) → HasVerifiedScrubs g t) → Answers ws r a b e f → (g : Given) (i o p : List ℕ)
+      → order_of ws ≡ Some (orders.Verify g i o p)
+      → (Rose a.place.read_faults b.place.read_faults → ⊥) → (Rose a.sink.faults b.sink.faults → ⊥)
+      → IfSome a.place.contents (λ w. AreScrubs g (three (file_name i) (file_name o) (file_name p) w) → (r ≡ 0) ⊎ (r ≡ 5))
   scrubs_told one verified x g i o p is reads texts = by_told a.place.contents (complete x (orders.Verify g i o p) is reads texts)
     where
       by_status : (t : Three) → IsVerdictStatus g t r → AreScrubs g t → (r ≡ 0) ⊎ (r ≡ 5)
       by_status t (runs.ForMemory m) scrubs = inr m
       by_status t (runs.ByVerdict v is m) scrubs = inl (m ∙ ap status_of_verdict (one g t v (verdicts.Verified (length (recording_of scrubs.input).parts)) is (verified g t scrubs)))
 
-      by_told : (t : Option World) → IfSome t (HasStatus (Checks g (file_name i) (file_name o) (file_name p)) r) → IfSome t (λ w. AreScrubs g (three (file_name i) (file_name o) (file_name p) w) → (r ≡ 0) ⊎ (r ≡ 5))
+      by_told : (t : Option World) → IfSome t (HasStatus (Checks g (file_name i) (file_name o) (file_name p)) r)
+          → IfSome t (λ w. AreScrubs g (three (file_name i) (file_name o) (file_name p) w) → (r ≡ 0) ⊎ (r ≡ 5))
       by_told None h = tt
       by_told (Some w) h = by_status (three (file_name i) (file_name o) (file_name p) w) h

@@ -6,7 +6,8 @@ use Rattle.jfr_outside.specs.Counts.{Rose}
 use Rattle.jfr_cli.specs.Answers.{IsAnswered, Fully, ForMemory, Part, IsMemoryLineWritten, Line, Silent, memory_line}
 
 -- A write that failed leaves a part of the line.
-pub said_partly : (line bytes : List ℕ) (status : ℕ) (a b : SinkState) → bytes ≡ line → (k : ℕ) × (b.written ≡ option_map (added (take k bytes)) a.written) → (a.faults ≤ b.faults) × Rose a.faults b.faults → IsAnswered status (Some line) status a b
+pub said_partly : (line bytes : List ℕ) (status : ℕ) (a b : SinkState) → bytes ≡ line → (k : ℕ) × (b.written ≡ option_map (added (take k bytes)) a.written)
+    → (a.faults ≤ b.faults) × Rose a.faults b.faults → IsAnswered status (Some line) status a b
 said_partly line bytes status a b e t f = Fully refl (Part f.1 t.0 (t.1 ∙ ap (λ z. option_map (added (take t.0 z)) a.written) e))
 
 -- The line for running out of memory in place of another.

@@ -43,6 +43,7 @@ module _ (seed events : ℕ) (a : State) (s z : SinkState) where
   carries_sample (MaskTooLong k) w = absurd w
 
 -- What a write of a text leaves, by its ending.
-pub written_by : (bytes : List ℕ) (fault : Fault) (e : Ending) (s z : SinkState) → e ≡ after_write fault → IsAfterAppend {T = Unit {0}} (Err fault) s.written z.written bytes added → Counts {T = Unit {0}} (Err fault) s.faults z.faults → IsWritten bytes e s z
+pub written_by : (bytes : List ℕ) (fault : Fault) (e : Ending) (s z : SinkState) → e ≡ after_write fault → IsAfterAppend {T = Unit {0}} (Err fault) s.written z.written bytes added
+    → Counts {T = Unit {0}} (Err fault) s.faults z.faults → IsWritten bytes e s z
 written_by bytes faults.Failed e s z after contents counts = rw after (contents, counts)
 written_by bytes faults.Memory e s z after contents counts = rw after (contents, counts)

@@ -8,7 +8,8 @@ use Rattle.jfr_filter.specs.Patterns.{after_last_dot}
 abbrev pub named : List ℕ → List ℕ → List ℕ
 named rest found = option_map_or (λ r. r) (after_last_dot rest) found
 
-by_rest : (o : Option (List ℕ)) (cs found : List ℕ) (t : Bool) → option_map_or (λ r. r) (option_map_or (λ (r : List ℕ). Some r) o (if t then Some cs else None)) found ≡ option_map_or (λ r. r) o (if t then cs else found)
+by_rest : (o : Option (List ℕ)) (cs found : List ℕ) (t : Bool)
+    → option_map_or (λ r. r) (option_map_or (λ (r : List ℕ). Some r) o (if t then Some cs else None)) found ≡ option_map_or (λ r. r) o (if t then cs else found)
 by_rest None cs found true = refl
 by_rest None cs found false = refl
 by_rest (Some r) cs found t = refl

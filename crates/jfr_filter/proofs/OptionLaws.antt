@@ -97,7 +97,19 @@ patterns_found entries from to Describe = looked_up entries Describe
 
 -- A filter whose options have these patterns.
 abbrev given_by : (Side → Option (List (List ℕ))) → Option ℤ → Option ℤ → Given
-given_by f from to = record { include_events = f IncludeEvents; exclude_events = f ExcludeEvents; include_categories = f IncludeCategories; exclude_categories = f ExcludeCategories; include_threads = f IncludeThreads; exclude_threads = f ExcludeThreads; from = from; to = to; always = f Always; describe = f Describe }
+given_by f from to = record {
+  include_events = f IncludeEvents;
+  exclude_events = f ExcludeEvents;
+  include_categories = f IncludeCategories;
+  exclude_categories = f ExcludeCategories;
+  include_threads =
+      f IncludeThreads;
+  exclude_threads = f ExcludeThreads;
+  from = from;
+  to = to;
+  always = f Always;
+  describe = f Describe;
+}
 
 same_given : (f g : Side → Option (List (List ℕ))) (from to : Option ℤ) → ((side : Side) → f side ≡ g side) → given_by f from to ≡ given_by g from to
 same_given f g from to h =
@@ -111,7 +123,8 @@ same_given f g from to h =
     let e7 : f Describe ≡ g Describe = h Describe in
     cc
 
-with_one : (f : Side → Option (List (List ℕ))) (from to : Option ℤ) (side : Side) (patterns : List (List ℕ)) → given_by (λ other. cond (is_at (cmp-value.it side) other) (Some patterns) (f other)) from to ≡ with_patterns side patterns (given_by f from to)
+with_one : (f : Side → Option (List (List ℕ))) (from to : Option ℤ) (side : Side) (patterns : List (List ℕ))
+    → given_by (λ other. cond (is_at (cmp-value.it side) other) (Some patterns) (f other)) from to ≡ with_patterns side patterns (given_by f from to)
 with_one f from to IncludeEvents patterns = refl
 with_one f from to ExcludeEvents patterns = refl
 with_one f from to IncludeCategories patterns = refl
@@ -122,7 +135,10 @@ with_one f from to Always patterns = refl
 with_one f from to Describe patterns = refl
 
 -- An option that is set in the map has these patterns, and the others have theirs.
-pub patterns_set : (old new : List (Side × List (List ℕ))) (from to : Option ℤ) (side : Side) (patterns : List (List ℕ)) → ((other : Side) → lookup (is_at (cmp-value.it other)) new ≡ cond (is_at (cmp-value.it side) other) (Some patterns) (lookup (is_at (cmp-value.it other)) old)) → given_of new from to ≡ with_patterns side patterns (given_of old from to)
+pub patterns_set : (old new : List (Side × List (List ℕ))) (from to : Option ℤ) (side : Side) (patterns : List (List ℕ))
+    → ((other : Side) → lookup (is_at (cmp-value.it other)) new ≡ cond (is_at (cmp-value.it side) other) (Some patterns) (lookup (is_at (cmp-value.it other)) old))
+    → given_of new from to ≡ with_patterns side patterns (given_of old from to)
 patterns_set old new from to side patterns h =
-    same_given (patterns_at new) (λ other. cond (is_at (cmp-value.it side) other) (Some patterns) (patterns_at old other)) from to (λ other. sym (looked_up new other) ∙ h other ∙ ap (cond (is_at (cmp-value.it side) other) (Some patterns)) (looked_up old other))
+    same_given (patterns_at new) (λ other. cond (is_at (cmp-value.it side) other) (Some patterns) (patterns_at old other)) from to
+    (λ other. sym (looked_up new other) ∙ h other ∙ ap (cond (is_at (cmp-value.it side) other) (Some patterns)) (looked_up old other))
     ∙ with_one (patterns_at old) from to side patterns

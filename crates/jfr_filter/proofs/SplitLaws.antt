@@ -55,7 +55,8 @@ unfolding encode
 split_encodes [] = refl
 split_encodes (c ∷ cs) = by_test (cases_Bool (comma c)) (split_encodes cs)
   where
-    by_test : ((comma c ≡ true) ⊎ (comma c ≡ false)) → slice_split comma (encodes cs) ≡ map encodes (slice_split comma cs) → slice_split comma (encodes (c ∷ cs)) ≡ map encodes (slice_split comma (c ∷ cs))
+    by_test : ((comma c ≡ true) ⊎ (comma c ≡ false)) → slice_split comma (encodes cs) ≡ map encodes (slice_split comma cs)
+        → slice_split comma (encodes (c ∷ cs)) ≡ map encodes (slice_split comma (c ∷ cs))
     by_test (inl t) i =
         let e : c ≡ 44 = eqb-true c 44 t in
         subst (λ d. slice_split comma (encodes (d ∷ cs)) ≡ map encodes (slice_split comma (d ∷ cs))) (sym e) (ap (λ z. [] ∷ z) i)

@@ -45,7 +45,8 @@ of_categories : (texts : List (List ℕ)) (include exclude : Option (List (List 
 of_categories texts None None = ap not (sym (none_given glob_of texts))
 of_categories texts None (Some xs) = ap not (swapped texts xs)
 of_categories texts (Some is) None = ap (λ b. b && true) (swapped texts is) ∙ ap (λ b. list_any (given_matches glob_of (Some is)) texts && not b) (sym (none_given glob_of texts))
-of_categories texts (Some is) (Some xs) = ap (λ b. b && not (list_any (category_matches texts) xs)) (swapped texts is) ∙ ap (λ b. list_any (given_matches glob_of (Some is)) texts && not b) (swapped texts xs)
+of_categories texts (Some is) (Some xs) =
+    ap (λ b. b && not (list_any (category_matches texts) xs)) (swapped texts is) ∙ ap (λ b. list_any (given_matches glob_of (Some is)) texts && not b) (swapped texts xs)
 
 -- A class is allowed by its name and by its categories, each by itself.
 pub class_by_texts : (g : Given) (name : List ℕ) (categories : List (List ℕ))

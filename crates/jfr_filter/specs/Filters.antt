@@ -21,7 +21,18 @@ pub record Given : Type 0 where
 
 -- No option is given.
 abbrev pub nothing_given : Given
-nothing_given = record { include_events = None; exclude_events = None; include_categories = None; exclude_categories = None; include_threads = None; exclude_threads = None; from = None; to = None; always = None; describe = None }
+nothing_given = record {
+  include_events = None;
+  exclude_events = None;
+  include_categories = None;
+  exclude_categories = None;
+  include_threads = None;
+  exclude_threads = None;
+  from = None;
+  to = None;
+  always = None;
+  describe = None;
+}
 
 -- The patterns of an option.
 abbrev pub given_at : Side → Given → Option (List (List ℕ))

@@ -24,4 +24,16 @@ patterns_at entries side = lookup (is_at (λ other. nat_cmp (place_of side) (pla
 
 -- What the options say.
 abbrev pub given_of : List (Side × List (List ℕ)) → Option ℤ → Option ℤ → Given
-given_of entries from to = record { include_events = patterns_at entries IncludeEvents; exclude_events = patterns_at entries ExcludeEvents; include_categories = patterns_at entries IncludeCategories; exclude_categories = patterns_at entries ExcludeCategories; include_threads = patterns_at entries IncludeThreads; exclude_threads = patterns_at entries ExcludeThreads; from = from; to = to; always = patterns_at entries Always; describe = patterns_at entries Describe }
+given_of entries from to = record {
+  include_events = patterns_at entries IncludeEvents;
+  exclude_events = patterns_at entries ExcludeEvents;
+  include_categories = patterns_at entries IncludeCategories;
+  exclude_categories = patterns_at entries ExcludeCategories;
+  include_threads = patterns_at entries IncludeThreads;
+  exclude_threads = patterns_at entries ExcludeThreads;
+  from = from;
+  to =
+      to;
+  always = patterns_at entries Always;
+  describe = patterns_at entries Describe;
+}

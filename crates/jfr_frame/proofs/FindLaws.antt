@@ -47,7 +47,8 @@ there_at p (x ∷ rs) (suc n) at t h i e =
     rw f (there_at (x.at + 1) rs n at t h.1 (omega arith) e)
 
 -- A search among starts by their places is one among the places.
-pub by_places : (starts : List Start) (at : ℕ) (r : Result ℕ ℕ) → IsBinarySearchResult (λ (s : Start). nat_cmp s.at at) starts r → IsBinarySearchResult (λ place. nat_cmp place at) (kept_places starts) r
+pub by_places : (starts : List Start) (at : ℕ) (r : Result ℕ ℕ) → IsBinarySearchResult (λ (s : Start). nat_cmp s.at at) starts r
+    → IsBinarySearchResult (λ place. nat_cmp place at) (kept_places starts) r
 by_places starts at r h = by_answer r h
   where
     start_at : ℕ → Start
@@ -77,20 +78,23 @@ pub records_rise : (c : List ℕ) (starts : List Start) (all : List Framed) → 
 records_rise c starts all h v = rising_of c 68 68 (length c) all (omega arith) (subst (AreRecords c) v h.cover)
 
 -- The record at the place that a binary search found.
-pub there_found : (all : List Framed) (at t n : ℕ) (o : Option Framed) (r : Result ℕ ℕ) → Rising 68 all → IsBinarySearchResult (λ place. nat_cmp place at) (places_of all) r → result_ok r ≡ Some n → o ≡ slice_get all n → record_there all at t ≡ option_and_then (if_type t) o
+pub there_found : (all : List Framed) (at t n : ℕ) (o : Option Framed) (r : Result ℕ ℕ) → Rising 68 all → IsBinarySearchResult (λ place. nat_cmp place at) (places_of all) r → result_ok r ≡ Some n
+    → o ≡ slice_get all n → record_there all at t ≡ option_and_then (if_type t) o
 there_found all at t n o (Err m) rising s is g = cc
 there_found all at t n o (Ok m) rising s is g =
     let f = found_in all at (Ok n) rising (subst (λ (k : Option ℕ). IfSome k (λ i. IsBinarySearchResult (λ place. nat_cmp place at) (places_of all) (Ok i))) is s) in
     there_at 68 all n at t rising f.0 f.1 ∙ ap (option_and_then (if_type t)) (sym g)
 
 -- No record starts at an offset for which a binary search found none.
-pub there_not_found : (all : List Framed) (at t : ℕ) (r : Result ℕ ℕ) → Rising 68 all → IsBinarySearchResult (λ place. nat_cmp place at) (places_of all) r → result_ok r ≡ None → record_there all at t ≡ None
+pub there_not_found : (all : List Framed) (at t : ℕ) (r : Result ℕ ℕ) → Rising 68 all → IsBinarySearchResult (λ place. nat_cmp place at) (places_of all) r → result_ok r ≡ None
+    → record_there all at t ≡ None
 there_not_found all at t (Ok n) rising s is = cc
 there_not_found all at t (Err n) rising s is =
     let m = found_in all at (Err n) rising s in
     there_nowhere all at t (λ k i is. other all k i is (cases_lt k n) m)
   where
-    other : (rs : List Framed) (k : ℕ) → k < length (places_of rs) → get_or (places_of rs) k 0 ≡ at → ((k < n) ⊎ (n ≤ k)) → (n ≤ length (places_of rs)) × ((k : ℕ) → k < n → get_or (places_of rs) k 0 < at) × ((k : ℕ) → n ≤ k → k < length (places_of rs) → at < get_or (places_of rs) k 0) → ⊥
+    other : (rs : List Framed) (k : ℕ) → k < length (places_of rs) → get_or (places_of rs) k 0 ≡ at → ((k < n) ⊎ (n ≤ k))
+        → (n ≤ length (places_of rs)) × ((k : ℕ) → k < n → get_or (places_of rs) k 0 < at) × ((k : ℕ) → n ≤ k → k < length (places_of rs) → at < get_or (places_of rs) k 0) → ⊥
     other rs k i is (inl l) m = let a : get_or (places_of rs) k 0 < at = m.1 k l in omega arith
     other rs k i is (inr l) m = let a : at < get_or (places_of rs) k 0 = m.2 k l i in omega arith
 

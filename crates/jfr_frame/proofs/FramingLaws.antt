@@ -37,7 +37,8 @@ within_says (suc n) c p h i = by_end (cases_lt p (length c)) (λ q j k. within_s
         let a : r.at ≡ p = s.0 in
         says_before c p r (records_within n c (record_end r)) a s.1 (next (record_end r) (omega arith) s.1.within)
 
-    by_end : ((p < length c) ⊎ (length c ≤ p)) → ((q : ℕ) → p < q → q ≤ length c → Says c q (records_within n c q)) → Says c p (if nat_le (length c) p then Ok [] else records_by p (record_at c p) (records_within n c))
+    by_end : ((p < length c) ⊎ (length c ≤ p)) → ((q : ℕ) → p < q → q ≤ length c → Says c q (records_within n c q))
+        → Says c p (if nat_le (length c) p then Ok [] else records_by p (record_at c p) (records_within n c))
     by_end (inl j) next = let t : nat_le (length c) p ≡ false = grind arith in rw t (by_record j (record_at c p) refl next)
     by_end (inr j) next = let t : nat_le (length c) p ≡ true = grind arith in rw t (omega arith)
 

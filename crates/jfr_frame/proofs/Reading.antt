@@ -27,7 +27,8 @@ read_none c h = record { tiles = refl; within = h; kept = refl }
 at_more : (c : List ℕ) (starts : List Start) (r : Framed) → IsRecord c r → records_at c (starts ++ start_of r ∷ []) ≡ records_at c starts ++ r ∷ []
 at_more c starts r s = filter_map-append (λ (z : Start). record_at c z.at) starts (start_of r ∷ []) ∙ ap (λ o. records_at c starts ++ cons_option o []) (record_found c r.at r refl s)
 
-pub read_more : (c : List ℕ) (starts more : List Start) (at : ℕ) (r : Framed) (start : Start) → Read c starts at → (r.at ≡ at) × IsRecord c r → start ≡ start_of r → more ≡ starts ++ start ∷ [] → Read c more (record_end r)
+pub read_more : (c : List ℕ) (starts more : List Start) (at : ℕ) (r : Framed) (start : Start) → Read c starts at → (r.at ≡ at) × IsRecord c r → start ≡ start_of r → more ≡ starts ++ start ∷ []
+    → Read c more (record_end r)
 read_more c starts more at r start h s k e = subst (λ ps. Read c ps (record_end r)) (sym (e ∙ ap (λ x. starts ++ x ∷ []) k)) added
   where
     added : Read c (starts ++ start_of r ∷ []) (record_end r)
@@ -43,7 +44,8 @@ read_all c starts at h e = record { cover = subst (Tiles c 68 (records_at c star
 pub read_computed : (c : List ℕ) (starts : List Start) (at : ℕ) → Read c starts at → at ≡ length c → records_of c ≡ Ok (records_at c starts)
 read_computed c starts at h e = records_ok c (records_at c starts) (read_all c starts at h e).cover
 
-pub read_stops : (c : List ℕ) (starts : List Start) (at : ℕ) (flaw : Flaw) → 68 ≤ length c → Read c starts at → (flaw ≡ record { offset = at; reason = RecordSize }) × (at < length c) × NoRecord c at → record_at c at ≡ None → RefusedAt c (Flawed flaw)
+pub read_stops : (c : List ℕ) (starts : List Start) (at : ℕ) (flaw : Flaw) → 68 ≤ length c → Read c starts at → (flaw ≡ record { offset = at; reason = RecordSize }) × (at < length c) × NoRecord c at
+    → record_at c at ≡ None → RefusedAt c (Flawed flaw)
 read_stops c starts at flaw l h e n =
     let is : Flaw = record { offset = at; reason = RecordSize } in
     let all : RefusedAt c (Flawed is) = (refl, record { before = (records_at c starts, h.tiles); more = e.1; none = e.2 }, records_err c (records_at c starts) at l h.tiles e.1 n) in

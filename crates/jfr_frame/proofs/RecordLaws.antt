@@ -23,10 +23,13 @@ record_one c r s p q e =
     framed_path r s e a.1 a.0 b.1 b.0
 
 -- The record that is computed is there.
-covers_within : (c : List ℕ) (at : ℕ) (size id : Var) (r : Framed) → covering c at size id ≡ Some r → (id.end ≤ at + size.value) × (at + size.value ≤ length c) × (record { at = at; size = size.value; type_at = size.end; type_id = id.value; body = id.end } ≡ r)
+covers_within : (c : List ℕ) (at : ℕ) (size id : Var) (r : Framed) → covering c at size id ≡ Some r
+    → (id.end ≤ at + size.value) × (at + size.value ≤ length c) × (record { at = at; size = size.value; type_at = size.end; type_id = id.value; body = id.end } ≡ r)
 covers_within c at size id r e = by_test (nat_le id.end (at + size.value)) refl (nat_le (at + size.value) (length c)) refl e
   where
-    by_test : (s : Bool) → nat_le id.end (at + size.value) ≡ s → (t : Bool) → nat_le (at + size.value) (length c) ≡ t → (if s && t then Some (record { at = at; size = size.value; type_at = size.end; type_id = id.value; body = id.end }) else None) ≡ Some r → (id.end ≤ at + size.value) × (at + size.value ≤ length c) × (record { at = at; size = size.value; type_at = size.end; type_id = id.value; body = id.end } ≡ r)
+    by_test : (s : Bool) → nat_le id.end (at + size.value) ≡ s → (t : Bool) → nat_le (at + size.value) (length c) ≡ t
+        → (if s && t then Some (record { at = at; size = size.value; type_at = size.end; type_id = id.value; body = id.end }) else None) ≡ Some r
+        → (id.end ≤ at + size.value) × (at + size.value ≤ length c) × (record { at = at; size = size.value; type_at = size.end; type_id = id.value; body = id.end } ≡ r)
     by_test true p true q f = (grind (arith, p), grind (arith, q), cc)
     by_test true p false q f = cc
     by_test false p t q f = cc
@@ -60,7 +63,8 @@ record_none c at h e r a p = by_size (int_at c at (length c)) refl e
     made : Var → Var → Framed
     made size id = record { at = at; size = size.value; type_at = size.end; type_id = id.value; body = id.end }
 
-    by_test : (size id : Var) → (r.type_at ≡ size.end) × (r.size ≡ size.value) → (r.body ≡ id.end) × (r.type_id ≡ id.value) → (s : Bool) → nat_le id.end (at + size.value) ≡ s → (t : Bool) → nat_le (at + size.value) (length c) ≡ t → (if s && t then Some (made size id) else None) ≡ None → ⊥
+    by_test : (size id : Var) → (r.type_at ≡ size.end) × (r.size ≡ size.value) → (r.body ≡ id.end) × (r.type_id ≡ id.value) → (s : Bool) → nat_le id.end (at + size.value) ≡ s → (t : Bool)
+        → nat_le (at + size.value) (length c) ≡ t → (if s && t then Some (made size id) else None) ≡ None → ⊥
     by_test size id u v true q true w f = cc
     by_test size id u v true q false w f = let i : r.at + r.size ≤ length c = p.within in let k : length c < at + size.value = grind (arith, w) in omega (arith, u.1)
     by_test size id u v false q t w f = let i : r.body ≤ r.at + r.size = p.covers in let k : at + size.value < id.end = grind (arith, q) in omega (arith, u.1, v.0)

@@ -47,23 +47,27 @@ kept_among c p q (r ∷ rs) (suc n) s t e =
     let k = kept_among c (record_end r) q rs n s t.2 e in
     (k.0, record { got = k.1.got; below = let i = k.1.below in omega arith; start = k.1.start; holds = k.1.holds })
 
-pub kept_record : (c : List ℕ) (starts : List Start) (all : List Framed) (n : ℕ) (s : Start) → AreStarts c starts → records_at c starts ≡ all → option_map start_of (slice_get all n) ≡ Some s → (r : Framed) × Keeps c all n s r
+pub kept_record : (c : List ℕ) (starts : List Start) (all : List Framed) (n : ℕ) (s : Start) → AreStarts c starts → records_at c starts ≡ all → option_map start_of (slice_get all n) ≡ Some s
+    → (r : Framed) × Keeps c all n s r
 kept_record c starts all n s h v e = kept_among c 68 (length c) all n s (subst (AreRecords c) v h.cover) e
 
 -- As much is kept as there are records, and at each number what is kept of its record.
 pub kept_count : (c : List ℕ) (starts : List Start) (all : List Framed) → AreStarts c starts → records_at c starts ≡ all → length starts ≡ length all
 kept_count c starts all h v = ap length (h.kept ∙ ap (map start_of) v) ∙ length-map all start_of
 
-pub kept_at : (c : List ℕ) (starts : List Start) (all : List Framed) (n : ℕ) (s : Start) → AreStarts c starts → records_at c starts ≡ all → n < length all → s ≡ get_or starts n s → option_map start_of (slice_get all n) ≡ Some s
+pub kept_at : (c : List ℕ) (starts : List Start) (all : List Framed) (n : ℕ) (s : Start) → AreStarts c starts → records_at c starts ≡ all → n < length all → s ≡ get_or starts n s
+    → option_map start_of (slice_get all n) ≡ Some s
 kept_at c starts all n s h v l e =
     sym (slice_get-map start_of all n)
     ∙ (ap (λ z. slice_get z n) (sym (h.kept ∙ ap (map start_of) v)) ∙ (slice_get-get_or starts n s (omega (arith, kept_count c starts all h v)) ∙ ap (λ z. Some z) (sym e)))
 
 -- What is kept says all but its end.
-kept_parts : (c : List ℕ) (all : List Framed) (n : ℕ) (s : Start) (r : Framed) → Keeps c all n s r → (s.at ≡ r.at) × (s.at + s.type_at ≡ r.type_at) × (s.at + s.body ≡ r.body) × (s.type_id ≡ min r.type_id (2 ^ 16 - 1))
+kept_parts : (c : List ℕ) (all : List Framed) (n : ℕ) (s : Start) (r : Framed) → Keeps c all n s r
+    → (s.at ≡ r.at) × (s.at + s.type_at ≡ r.type_at) × (s.at + s.body ≡ r.body) × (s.type_id ≡ min r.type_id (2 ^ 16 - 1))
 kept_parts c all n s r k =
     let h = head_short c r k.holds in
-    subst (λ (z : Start). (z.at ≡ r.at) × (z.at + z.type_at ≡ r.type_at) × (z.at + z.body ≡ r.body) × (z.type_id ≡ min r.type_id (2 ^ 16 - 1))) (sym k.start) (refl, omega (arith, h.0), omega (arith, h.0, h.1), refl)
+    subst (λ (z : Start). (z.at ≡ r.at) × (z.at + z.type_at ≡ r.type_at) × (z.at + z.body ≡ r.body) × (z.type_id ≡ min r.type_id (2 ^ 16 - 1))) (sym k.start)
+    (refl, omega (arith, h.0), omega (arith, h.0, h.1), refl)
 
 -- So its type and its body start within the chunk.
 pub parts_fit : (c : List ℕ) (all : List Framed) (n : ℕ) (s : Start) (r : Framed) → Keeps c all n s r → (s.at + s.type_at ≤ length c) × (s.at + s.body ≤ length c)
@@ -102,13 +106,15 @@ abbrev pub next_place : ℕ → Option Start → ℕ
 next_place q None = q
 next_place q (Some s) = s.at
 
-end_among : (c : List ℕ) (p q : ℕ) (rs : List Framed) (n : ℕ) → Tiles c p rs q → n < length rs → option_map record_end (slice_get rs n) ≡ Some (next_place q (option_map start_of (slice_get rs (suc n))))
+end_among : (c : List ℕ) (p q : ℕ) (rs : List Framed) (n : ℕ) → Tiles c p rs q → n < length rs
+    → option_map record_end (slice_get rs n) ≡ Some (next_place q (option_map start_of (slice_get rs (suc n))))
 end_among c p q [] n t h = absurd (omega arith)
 end_among c p q (r ∷ []) zero t h = let e : record_end r ≡ q = t.2 in ap Some e
 end_among c p q (r ∷ s ∷ rs) zero t h = let e : s.at ≡ record_end r = t.2.0 in ap Some (sym e)
 end_among c p q (r ∷ rs) (suc n) t h = end_among c (record_end r) q rs n t.2 (omega arith)
 
-pub end_of : (c : List ℕ) (starts : List Start) (all : List Framed) (n : ℕ) (next : Option Start) → AreStarts c starts → records_at c starts ≡ all → n < length all → option_map start_of (slice_get all (n + 1)) ≡ next → option_map record_end (slice_get all n) ≡ Some (next_place (length c) next)
+pub end_of : (c : List ℕ) (starts : List Start) (all : List Framed) (n : ℕ) (next : Option Start) → AreStarts c starts → records_at c starts ≡ all → n < length all
+    → option_map start_of (slice_get all (n + 1)) ≡ next → option_map record_end (slice_get all n) ≡ Some (next_place (length c) next)
 end_of c starts all n next h v i e =
     let m : suc n ≡ n + 1 = omega arith in
     end_among c 68 (length c) all n (subst (AreRecords c) v h.cover) i ∙ ap (λ o. Some (next_place (length c) o)) (ap (λ k. option_map start_of (slice_get all k)) m ∙ e)

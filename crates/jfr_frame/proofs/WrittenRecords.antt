@@ -37,7 +37,8 @@ pub record IsWrittenRecord (c : List ℕ) (width at type : ℕ) (rest : List ℕ
   pub body : Holds c (record_end (framed width at type rest)) (at + width + length (spell type)) rest
 
 -- These bytes are a record.
-pub written_record : (c : List ℕ) (width at type : ℕ) (rest : List ℕ) → 1 ≤ width → width ≤ 9 → length c < 2 ^ (7 * width) → Holds c (length c) at (record_in width (spell type ++ rest)) → IsWrittenRecord c width at type rest
+pub written_record : (c : List ℕ) (width at type : ℕ) (rest : List ℕ) → 1 ≤ width → width ≤ 9 → length c < 2 ^ (7 * width) → Holds c (length c) at (record_in width (spell type ++ rest))
+    → IsWrittenRecord c width at type rest
 written_record c width at type rest some most small h =
     let body : List ℕ = spell type ++ rest in
     let n : ℕ = width + length body in

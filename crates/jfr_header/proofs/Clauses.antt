@@ -18,7 +18,8 @@ decided Failed old new w v c n = all_some w.input _ (λ rest. tt)
 decided Memory old new w v c n = all_some w.input _ (λ rest. tt)
 
 -- The front of what is left decides.
-pub decides : (r : Cut) (old new : Cutter) (b a : Option World) → CutOf r old new → IfKnown b a (NextOf r old new) → IfSome b (λ w. IfSome w.input (λ rest. IsDue r (answer_to old.number (ahead_of old rest))))
+pub decides : (r : Cut) (old new : Cutter) (b a : Option World) → CutOf r old new → IfKnown b a (NextOf r old new)
+    → IfSome b (λ w. IfSome w.input (λ rest. IsDue r (answer_to old.number (ahead_of old rest))))
 decides r old new None a c t = tt
 decides r old new (Some w) None c t = absurd t
 decides r old new (Some w) (Some v) c t = decided r old new w v c t
@@ -32,7 +33,8 @@ taken Failed old new b a t e = cc
 taken Memory old new b a t e = cc
 
 -- After a flaw of the header exactly its bytes were taken.
-pub header_taken : (r : Cut) (old new : Cutter) (b a : Option World) → IfKnown b a (NextOf r old new) → IfRefused r (λ refusal. is_header refusal.reason ≡ true → IfKnown b a (Takes (λ taken most. taken ≡ 68)))
+pub header_taken : (r : Cut) (old new : Cutter) (b a : Option World) → IfKnown b a (NextOf r old new)
+    → IfRefused r (λ refusal. is_header refusal.reason ≡ true → IfKnown b a (Takes (λ taken most. taken ≡ 68)))
 header_taken Chunk old new b a t = tt
 header_taken End old new b a t = tt
 header_taken (Refused r) old new b a t = λ h. map_known b a _ _ t (λ w v n. (n.bytes, n.found.took, all_some w.input _ (λ rest. n.exact h)))

@@ -22,7 +22,9 @@ pub front_fits : (rest : List ℕ) (s : ℕ) (f : Bool) → Fits rest (front res
 unfolding front
 front_fits rest s f = let h = fits_headed rest (take 68 rest) (header_flaw (take 68 rest)) refl refl in grind (arith, common_steps, h)
 
-same_fuel_by : (n m : ℕ) (rest : List ℕ) (s : ℕ) (f : Front) → Fits rest f → length rest ≤ n → length rest ≤ m → ((r : List ℕ) (t : ℕ) → length r < n → length r < m → cut_within n r t false ≡ cut_within m r t false) → cut_by f (λ c. cut_within n (drop (length c) rest) (s + length c) false) ≡ cut_by f (λ c. cut_within m (drop (length c) rest) (s + length c) false)
+same_fuel_by : (n m : ℕ) (rest : List ℕ) (s : ℕ) (f : Front) → Fits rest f → length rest ≤ n → length rest ≤ m
+    → ((r : List ℕ) (t : ℕ) → length r < n → length r < m → cut_within n r t false ≡ cut_within m r t false)
+    → cut_by f (λ c. cut_within n (drop (length c) rest) (s + length c) false) ≡ cut_by f (λ c. cut_within m (drop (length c) rest) (s + length c) false)
 same_fuel_by n m rest s (Bad f) k a b h = refl
 same_fuel_by n m rest s End k a b h = refl
 same_fuel_by n m rest s (Chunk c) k a b h =
@@ -39,7 +41,8 @@ pub cut_open : (rest : List ℕ) (s : ℕ) (f : Bool) → cut rest s f ≡ cut_b
 unfolding cut cut_within
 cut_open rest s f = refl
 
-refuel : (rest : List ℕ) (c : List ℕ) (s : ℕ) → 0 < length c → length c ≤ length rest → cut_within (length rest) (drop (length c) rest) (s + length c) false ≡ cut (drop (length c) rest) (s + length c) false
+refuel : (rest : List ℕ) (c : List ℕ) (s : ℕ) → 0 < length c → length c ≤ length rest
+    → cut_within (length rest) (drop (length c) rest) (s + length c) false ≡ cut (drop (length c) rest) (s + length c) false
 unfolding cut
 refuel rest c s a b =
     let d : length (drop (length c) rest) < length rest = grind (arith, common_steps) in
@@ -58,7 +61,8 @@ pub cut_chunk : (rest c left : List ℕ) (s : ℕ) (f : Bool) → front rest s f
 cut_chunk rest c left s f e p =
     let k : Fits rest (Chunk c) = subst (Fits rest) e (front_fits rest s f) in
     let d : drop (length c) rest ≡ left = ap (drop (length c)) p ∙ drop_front c left in
-    cut_open rest s f ∙ ap (λ (x : Front). cut_by x (λ c. cut_within (length rest) (drop (length c) rest) (s + length c) false)) e ∙ ap (more c) (refuel rest c s k.0 k.1 ∙ ap (λ (l : List ℕ). cut l (s + length c) false) d)
+    cut_open rest s f ∙ ap (λ (x : Front). cut_by x (λ c. cut_within (length rest) (drop (length c) rest) (s + length c) false)) e
+    ∙ ap (more c) (refuel rest c s k.0 k.1 ∙ ap (λ (l : List ℕ). cut l (s + length c) false) d)
 
 pub joined_snoc : (cs : List (List ℕ)) (c : List ℕ) → joined (cs ++ c ∷ []) ≡ joined cs ++ c
 joined_snoc [] c = append-nil c

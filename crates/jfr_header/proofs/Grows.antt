@@ -10,7 +10,8 @@ use Rattle.jfr_header.proofs.Numbers.{put_front}
 abbrev pub Reads : ℕ → List ℕ → World → Type 0
 Reads n buf w = IfSome w.input (λ left. (n ≤ length left) × (take n buf ≡ take n left))
 
-kept_one : (bytes buf : List ℕ) (n : ℕ) (o : Option (List ℕ)) → IfSome o (λ left. (n ≤ length left) × (take n buf ≡ take n left)) → option_map (λ l. (bytes ++ take n buf) ++ l) (option_map (drop n) o) ≡ option_map (λ l. bytes ++ l) o
+kept_one : (bytes buf : List ℕ) (n : ℕ) (o : Option (List ℕ)) → IfSome o (λ left. (n ≤ length left) × (take n buf ≡ take n left))
+    → option_map (λ l. (bytes ++ take n buf) ++ l) (option_map (drop n) o) ≡ option_map (λ l. bytes ++ l) o
 kept_one bytes buf n None h = refl
 kept_one bytes buf n (Some left) h =
     ap Some (append_assoc bytes (take n buf) (drop n left) ∙ ap (λ (l : List ℕ). bytes ++ l) (ap (λ (l : List ℕ). l ++ drop n left) h.1 ∙ take-append-drop n left))
@@ -26,7 +27,8 @@ in_hand count n k memory into h i =
     ∙ put_front count n k memory (take n into) (drop n into) h (length-take-le n into i)
 
 -- Bytes that were read into the room after others are added to the buffer.
-pub moved_read : (a d : Option World) (bytes memory into : List ℕ) (count n k : ℕ) → take count memory ≡ bytes → count ≤ length memory → n ≤ length into → d ≡ option_map (taken n) a → IfSome a (Reads n into)
+pub moved_read : (a d : Option World) (bytes memory into : List ℕ) (count n k : ℕ) → take count memory ≡ bytes → count ≤ length memory → n ≤ length into → d ≡ option_map (taken n) a
+    → IfSome a (Reads n into)
     → IfKnown a d (Moved bytes (take (count + n) (put_mid count k memory into)))
 moved_read a d bytes memory into count n k is h i e reads =
     subst (λ (l : List ℕ). IfKnown a d (Moved bytes l)) (sym (in_hand count n k memory into h i ∙ ap (λ (l : List ℕ). l ++ take n into) is)) (moved_one a d bytes into n e reads)

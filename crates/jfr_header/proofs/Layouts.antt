@@ -19,13 +19,16 @@ pub record IsInRange (h : Header) : Type 0 where
   pub in_ticks_per_second : h.ticks_per_second < 2 ^ 64
   pub in_flags : h.flags < 2 ^ 16
 
-same_header : (a0 a1 a2 a3 a4 a5 a6 a7 a8 a9 a10 a11 b0 b1 b2 b3 b4 b5 b6 b7 b8 b9 b10 b11 : ℕ) → a0 ≡ b0 → a1 ≡ b1 → a2 ≡ b2 → a3 ≡ b3 → a4 ≡ b4 → a5 ≡ b5 → a6 ≡ b6 → a7 ≡ b7 → a8 ≡ b8 → a9 ≡ b9 → a10 ≡ b10 → a11 ≡ b11
+same_header : (a0 a1 a2 a3 a4 a5 a6 a7 a8 a9 a10 a11 b0 b1 b2 b3 b4 b5 b6 b7 b8 b9 b10 b11 : ℕ) → a0 ≡ b0 → a1 ≡ b1 → a2 ≡ b2 → a3 ≡ b3 → a4 ≡ b4 → a5 ≡ b5 → a6 ≡ b6 → a7 ≡ b7 → a8 ≡ b8 → a9 ≡ b9
+    → a10 ≡ b10 → a11 ≡ b11
     → ◌≡◌ {A = Header} (record { major = a0; minor = a1; size = a2; pools = a3; metadata = a4; start_nanos = a5; duration_nanos = a6; start_ticks = a7; ticks_per_second = a8; state = a9; padding = a10; flags = a11 }) (record { major = b0; minor = b1; size = b2; pools = b3; metadata = b4; start_nanos = b5; duration_nanos = b6; start_ticks = b7; ticks_per_second = b8; state = b9; padding = b10; flags = b11 })
 same_header a0 a1 a2 a3 a4 a5 a6 a7 a8 a9 a10 a11 b0 b1 b2 b3 b4 b5 b6 b7 b8 b9 b10 b11 e0 e1 e2 e3 e4 e5 e6 e7 e8 e9 e10 e11 = cc
 
 pub header_of-bytes : (h : Header) → IsInRange h → header_of (header_bytes h) ≡ h
 header_of-bytes h r =
-    same_header (header_of (header_bytes h)).major (header_of (header_bytes h)).minor (header_of (header_bytes h)).size (header_of (header_bytes h)).pools (header_of (header_bytes h)).metadata (header_of (header_bytes h)).start_nanos (header_of (header_bytes h)).duration_nanos (header_of (header_bytes h)).start_ticks (header_of (header_bytes h)).ticks_per_second (header_of (header_bytes h)).state (header_of (header_bytes h)).padding (header_of (header_bytes h)).flags
+    same_header (header_of (header_bytes h)).major (header_of (header_bytes h)).minor (header_of (header_bytes h)).size (header_of (header_bytes h)).pools (header_of (header_bytes h)).metadata
+    (header_of (header_bytes h)).start_nanos (header_of (header_bytes h)).duration_nanos (header_of (header_bytes h)).start_ticks (header_of (header_bytes h)).ticks_per_second
+    (header_of (header_bytes h)).state (header_of (header_bytes h)).padding (header_of (header_bytes h)).flags
     h.major h.minor h.size h.pools h.metadata h.start_nanos h.duration_nanos h.start_ticks h.ticks_per_second h.state h.padding h.flags
     (big_number-reads_back 2 h.major (drop 6 (header_bytes h)) r.in_major)
     (big_number-reads_back 2 h.minor (drop 8 (header_bytes h)) r.in_minor)

@@ -22,7 +22,8 @@ map_known (Some w) None P Q t f = absurd t
 map_known (Some w) (Some v) P Q t f = f w v t
 
 -- One claim from another, and from two facts of the place afterwards, the second under a premise.
-pub with_both : (b a : Option World) (F G : World → Type 0) (L : Type 0) (P Q : World → World → Type 0) → IfKnown b a P → IfSome a F → (L → IfSome a G) → ((w v : World) → P w v → F v → (L → G v) → Q w v) → IfKnown b a Q
+pub with_both : (b a : Option World) (F G : World → Type 0) (L : Type 0) (P Q : World → World → Type 0) → IfKnown b a P → IfSome a F → (L → IfSome a G)
+    → ((w v : World) → P w v → F v → (L → G v) → Q w v) → IfKnown b a Q
 with_both None a F G L P Q t h k f = tt
 with_both (Some w) None F G L P Q t h k f = absurd t
 with_both (Some w) (Some v) F G L P Q t h k f = f w v t h k
@@ -187,7 +188,8 @@ all_rest bytes w v k =
     let t = took_of bytes w v k.moved in
     sym t.input ∙ ap (option_map (λ (l : List ℕ). bytes ++ l)) k.ended ∙ ap Some (append-nil bytes)
 
-pub refuses_all : (c : Cutter) (r : Refusal) (bytes : List ℕ) (w v : World) → AllIn bytes w v → ahead_of c bytes ≡ Bad (flaw_of r) → length bytes ≤ reach bytes → is_header r.reason ≡ false → Refuses c r w v
+pub refuses_all : (c : Cutter) (r : Refusal) (bytes : List ℕ) (w v : World) → AllIn bytes w v → ahead_of c bytes ≡ Bad (flaw_of r) → length bytes ≤ reach bytes → is_header r.reason ≡ false
+    → Refuses c r w v
 refuses_all c r bytes w v k e h n = record {
   bytes = bytes;
   found = record { rest = bytes; input = all_rest bytes w v k; took = took_of bytes w v k.moved; is = e };
@@ -206,7 +208,8 @@ judged_end c bytes w v judged m ended =
     record { rest = []; input = all_rest [] w v all; took = took_of [] w v all.moved; is = ap (λ (b : Bool). front [] c.start (not b)) judged.0 ∙ front_end c.start }
 
 -- What was judged bad by its first bytes is refused.
-pub judged_bad : (c : Cutter) (n : ℕ) (f : Flaw) (bytes : List ℕ) (w v : World) → length bytes ≤ 68 → IsJudged bytes c.start c.given (nexts.Bad f) → Moved [] bytes w v → IsSome v.input → (length bytes < 68 → v.input ≡ Some []) → Refuses c (record { chunk = n; offset = f.offset; reason = f.reason }) w v
+pub judged_bad : (c : Cutter) (n : ℕ) (f : Flaw) (bytes : List ℕ) (w v : World) → length bytes ≤ 68 → IsJudged bytes c.start c.given (nexts.Bad f) → Moved [] bytes w v → IsSome v.input
+    → (length bytes < 68 → v.input ≡ Some []) → Refuses c (record { chunk = n; offset = f.offset; reason = f.reason }) w v
 unfolding found split
 judged_bad c n f bytes w v most judged m o ended =
     let t = took_of bytes w v m in
@@ -221,7 +224,8 @@ judged_bad c n f bytes w v most judged m o ended =
       exact = judged.1;
     }
 
-pub short_chunk : (c : Cutter) (n : ℕ) (h bytes : List ℕ) (w v u : World) → c.start < 2 ^ 40 → Headed h w v → Moved h bytes v u → u.input ≡ Some [] → length bytes < size_of h → Refuses c (record { chunk = n; offset = length bytes; reason = ShortChunk }) w u
+pub short_chunk : (c : Cutter) (n : ℕ) (h bytes : List ℕ) (w v u : World) → c.start < 2 ^ 40 → Headed h w v → Moved h bytes v u → u.input ≡ Some [] → length bytes < size_of h
+    → Refuses c (record { chunk = n; offset = length bytes; reason = ShortChunk }) w u
 short_chunk c n h bytes w v u s k m e less =
     let a = at_header h w v k in
     let all : AllIn bytes w u = record { moved = moved_trans [] h bytes w v u k.moved m; ended = e } in
@@ -230,7 +234,8 @@ short_chunk c n h bytes w v u s k m e less =
     let t : take 68 bytes ≡ h = subst (λ (l : List ℕ). take 68 l ≡ h) same a.header in
     let by : reach bytes ≡ size_of h = subst (λ (l : List ℕ). reach l ≡ size_of h) same a.reach_is in
     let z : headed bytes (header_flaw (take 68 bytes)) ≡ sized bytes (size_of h) = ap (headed bytes) (ap header_flaw t ∙ k.flawless) ∙ ap (λ (l : List ℕ). sized bytes (size_of l)) t in
-    refuses_all c (record { chunk = n; offset = length bytes; reason = ShortChunk }) bytes w u all (front_headed bytes c.start (not c.given) s long ∙ z ∙ sized_short bytes (size_of h) less) (omega (arith, by, less)) refl
+    refuses_all c (record { chunk = n; offset = length bytes; reason = ShortChunk }) bytes w u all (front_headed bytes c.start (not c.given) s long ∙ z ∙ sized_short bytes (size_of h) less)
+    (omega (arith, by, less)) refl
 
 pub whole_chunk : (c : Cutter) (h bytes : List ℕ) (w v u : World) → c.start < 2 ^ 40 → Headed h w v → Moved h bytes v u → length bytes ≡ size_of h → Found c (Chunk bytes) bytes w u
 whole_chunk c h bytes w v u s k m size =
@@ -247,13 +252,15 @@ whole_chunk c h bytes w v u s k m size =
     let z : headed p.rest (header_flaw (take 68 p.rest)) ≡ sized p.rest (size_of h) = ap (headed p.rest) (ap header_flaw th ∙ k.flawless) ∙ ap (λ (l : List ℕ). sized p.rest (size_of l)) th in
     found c (Chunk bytes) bytes w u t p (front_headed p.rest c.start (not c.given) s long ∙ z ∙ sized_whole p.rest (size_of h) enough ∙ ap Chunk mine)
 
-pub with_two : (b a d : Option World) (F : World → Type 0) (P Q R : World → World → Type 0) → IfKnown b a P → IfSome a F → IfKnown a d Q → ((w v u : World) → P w v → F v → Q v u → R w u) → IfKnown b d R
+pub with_two : (b a d : Option World) (F : World → Type 0) (P Q R : World → World → Type 0) → IfKnown b a P → IfSome a F → IfKnown a d Q → ((w v u : World) → P w v → F v → Q v u → R w u)
+    → IfKnown b d R
 with_two None a d F P Q R p h q f = tt
 with_two (Some w) None d F P Q R p h q f = absurd p
 with_two (Some w) (Some v) None F P Q R p h q f = absurd q
 with_two (Some w) (Some v) (Some u) F P Q R p h q f = f w v u p h q
 
-pub chain_with : (b a d : Option World) (F G : World → Type 0) (P Q R : World → World → Type 0) → IfKnown b a P → IfSome a F → IfKnown a d Q → IfSome d G → ((w v u : World) → P w v → F v → Q v u → G u → R w u) → IfKnown b d R
+pub chain_with : (b a d : Option World) (F G : World → Type 0) (P Q R : World → World → Type 0) → IfKnown b a P → IfSome a F → IfKnown a d Q → IfSome d G
+    → ((w v u : World) → P w v → F v → Q v u → G u → R w u) → IfKnown b d R
 chain_with None a d F G P Q R p h q k f = tt
 chain_with (Some w) None d F G P Q R p h q k f = absurd p
 chain_with (Some w) (Some v) None F G P Q R p h q k f = absurd q

@@ -42,7 +42,8 @@ output_records_put ws x place a e h = by_case (moved_itself ws x a)
     by_case (inr f) = absurd (omega arith)
 
 module _ (slim : Option (List ℕ)) (p : Parts) (a : AreParts p) (kept : List EventAt) (are : AreEvents p kept) (good : GoodAnew p.bytes (written_anew slim p)) (marks : List Bool) (b : List ℕ) (s : Leading slim p kept marks b)
-    (m : Classes) (suits : Suits p kept m) (holds : AllByRecursion (IsOutputRecordIn p.bytes (remaining_of p marks) m) (output_records slim p kept)) (held : Body) (reads : MetadataReads slim p a held m) (small : length b < 2 ^ 63) where
+    (m : Classes) (suits : Suits p kept m) (holds : AllByRecursion (IsOutputRecordIn p.bytes (remaining_of p marks) m) (output_records slim p kept)) (held : Body)
+    (reads : MetadataReads slim p a held m) (small : length b < 2 ^ 63) where
   abbrev q : Parts
   q = new_parts slim p a kept are good marks b s m suits holds held reads
 
@@ -91,7 +92,8 @@ module _ (slim : Option (List ℕ)) (p : Parts) (a : AreParts p) (kept : List Ev
         let body : body_of slim q (events_of q) all ≡ body_of slim p kept marks = (λ i. bytes_from b (left_again i) 68 None (settled i)) ∙ bytes_again.same in
         let f = metadata_found slim q (events_of q) all valid good_again b (subst (Holds b (length b) 68) (sym body) s.held) in
         let e : written_of slim q (events_of q) all ≡ written_new = λ i. written b (left_again i) 68 None (settled i) in
-        output_records_put written_new (metadata_at b) f.place bytes_again.placed (sym (ap (λ ws. moved ws (metadata_at b)) e) ∙ (ap (moved (written_of slim q (events_of q) all)) (sym valid.metadata_there.place) ∙ f.leads)) f.from
+        output_records_put written_new (metadata_at b) f.place bytes_again.placed
+        (sym (ap (λ ws. moved ws (metadata_at b)) e) ∙ (ap (moved (written_of slim q (events_of q) all)) (sym valid.metadata_there.place) ∙ f.leads)) f.from
 
     -- So what is written again is the same, header and all.
     assembled_again : b ≡ out slim p kept marks → assembled q q.entries output_records_new ≡ b

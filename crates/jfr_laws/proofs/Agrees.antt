@@ -9,12 +9,23 @@ use Rattle.jfr_worklist.proofs.Members.{all_from_get, found_get}
 -- Two lists agree on a class of the second if it and all classes inside it are the same in the first.
 pub agree_within : (k m : Classes) → Sound m → ((id : ℕ) (d : Class) → find_class m id ≡ Some d → find_class k id ≡ Some d) → (n id : ℕ) (d : Class) → find_class m id ≡ Some d → AgreeWithin n k m id
 agree_within k m r same zero id d e = tt
-agree_within k m r same (suc n) id d e = (d, d, same id d e, e, refl, refl, refl, all_from_get (λ f. AgreeWithin n k m f.shape.class) d.fields (λ j f g. known f (find_class m f.shape.class) refl ((are_known m r).class place.0 j f (ap (option_and_then (λ c. slice_get c.fields j)) place.1 ∙ g)) (agree_within k m r same n f.shape.class)))
+agree_within k m r same (suc n) id d e = (
+  d,
+  d,
+  same id d e,
+  e,
+  refl,
+  refl,
+  refl,
+  all_from_get (λ f. AgreeWithin n k m f.shape.class) d.fields
+      (λ j f g. known f (find_class m f.shape.class) refl ((are_known m r).class place.0 j f (ap (option_and_then (λ c. slice_get c.fields j)) place.1 ∙ g)) (agree_within k m r same n f.shape.class)),
+)
   where
     place : (i : ℕ) × (slice_get m i ≡ Some d)
     place = found_get (λ c. c.id == id) m d e
 
-    known : (f : Field) (o : Option Class) → find_class m f.shape.class ≡ o → is_some o ≡ true → ((c : Class) → find_class m f.shape.class ≡ Some c → AgreeWithin n k m f.shape.class) → AgreeWithin n k m f.shape.class
+    known : (f : Field) (o : Option Class) → find_class m f.shape.class ≡ o → is_some o ≡ true → ((c : Class) → find_class m f.shape.class ≡ Some c → AgreeWithin n k m f.shape.class)
+        → AgreeWithin n k m f.shape.class
     known f None q h g = cc
     known f (Some c) q h g = g c q
 

@@ -68,7 +68,8 @@ module _ (c : List ℕ) (remaining : List EntryAt) (b : List ℕ) where
     OutputRecordsWhole w = Stays w.output_record (new_frame c remaining w)
 
     -- What stays of the records that were written.
-    output_records_again : (ss : List OutputRecord) (j at : ℕ) (older : Option ℕ) (done : List Numbered) (to : ℕ) → Tiles b at (frames at older ss) to → all ≡ done ++ enumerate_from j (new_links c remaining at older ss) → Low at done
+    output_records_again : (ss : List OutputRecord) (j at : ℕ) (older : Option ℕ) (done : List Numbered) (to : ℕ) → Tiles b at (frames at older ss) to
+        → all ≡ done ++ enumerate_from j (new_links c remaining at older ss) → Low at done
         → AllByRecursion OutputRecordsWhole (written c remaining at older ss) → output_records_in all whole slim (frames at older ss) ≡ new_output_records c remaining j at older ss
     output_records_again [] j at older done to t e a w = refl
     output_records_again (Whole r ∷ ss) j at older done to t e a w =
@@ -117,12 +118,14 @@ module _ (c : List ℕ) (remaining : List EntryAt) (b : List ℕ) where
   written_records (Chained j l ∷ ss) at older = ap (λ z. l.frame ∷ z) (written_records ss (at + length (chained_bytes c remaining at older j l)) (Some at))
 
 -- A record stays whole by the test, or is built anew.
-whole_output_records : (all : List Numbered) (whole : Framed → Bool) (slim : Framed → Option (List ℕ)) (rs : List Framed) (r : Framed) → In (output_records_in all whole slim rs) (Whole r) → In rs r × (whole r ≡ true) × (slim r ≡ None)
+whole_output_records : (all : List Numbered) (whole : Framed → Bool) (slim : Framed → Option (List ℕ)) (rs : List Framed) (r : Framed) → In (output_records_in all whole slim rs) (Whole r)
+    → In rs r × (whole r ≡ true) × (slim r ≡ None)
 whole_output_records all whole slim rs r i =
     let x = in_filter_map (output_record_in all whole slim) rs (Whole r) i in
     by_case x.0 (numbered_at all x.0.at) (whole x.0) refl (slim x.0) refl x.1 x.2
   where
-    by_case : (x : Framed) (o : Option Numbered) (t : Bool) → whole x ≡ t → (w : Option (List ℕ)) → slim x ≡ w → In rs x → output_record_by o t w x ≡ Some (Whole r) → In rs r × (whole r ≡ true) × (slim r ≡ None)
+    by_case : (x : Framed) (o : Option Numbered) (t : Bool) → whole x ≡ t → (w : Option (List ℕ)) → slim x ≡ w → In rs x → output_record_by o t w x ≡ Some (Whole r)
+        → In rs r × (whole r ≡ true) × (slim r ≡ None)
     by_case x (Some l) t q w z i e = cc
     by_case x None true q None z i e = let h : x ≡ r = cc in (subst (In rs) h i, subst (λ z. whole z ≡ true) h q, subst (λ y. slim y ≡ None) h z)
     by_case x None true q (Some y) z i e = cc
@@ -133,7 +136,8 @@ bytes_anew (Whole f) = []
 bytes_anew (Rebuilt f z) = z
 bytes_anew (Chained j l) = []
 
-anew_output_records : (all : List Numbered) (whole : Framed → Bool) (slim : Framed → Option (List ℕ)) (rs : List Framed) (r : Framed) (y : List ℕ) → In (output_records_in all whole slim rs) (Rebuilt r y) → In rs r × (slim r ≡ Some y)
+anew_output_records : (all : List Numbered) (whole : Framed → Bool) (slim : Framed → Option (List ℕ)) (rs : List Framed) (r : Framed) (y : List ℕ)
+    → In (output_records_in all whole slim rs) (Rebuilt r y) → In rs r × (slim r ≡ Some y)
 anew_output_records all whole slim rs r y i =
     let x = in_filter_map (output_record_in all whole slim) rs (Rebuilt r y) i in
     by_case x.0 (numbered_at all x.0.at) (whole x.0) (slim x.0) refl x.1 x.2
@@ -149,11 +153,13 @@ anew_output_records all whole slim rs r y i =
     by_case x None false w z i e = cc
 
 -- What stays of records that rise does.
-output_records_rise : (all : List Numbered) (whole : Framed → Bool) (slim : Framed → Option (List ℕ)) (p : ℕ) (rs : List Framed) → Rising p rs → Rising p (map record_of (output_records_in all whole slim rs))
+output_records_rise : (all : List Numbered) (whole : Framed → Bool) (slim : Framed → Option (List ℕ)) (p : ℕ) (rs : List Framed) → Rising p rs
+    → Rising p (map record_of (output_records_in all whole slim rs))
 output_records_rise all whole slim p [] a = tt
 output_records_rise all whole slim p (r ∷ rs) a = by_output_record (output_record_in all whole slim r) refl (output_records_rise all whole slim (r.at + 1) rs a.1)
   where
-    by_output_record : (o : Option OutputRecord) → output_record_in all whole slim r ≡ o → Rising (r.at + 1) (map record_of (output_records_in all whole slim rs)) → Rising p (map record_of (cons_option o (output_records_in all whole slim rs)))
+    by_output_record : (o : Option OutputRecord) → output_record_in all whole slim r ≡ o → Rising (r.at + 1) (map record_of (output_records_in all whole slim rs))
+        → Rising p (map record_of (cons_option o (output_records_in all whole slim rs)))
     by_output_record None q i = let j : p ≤ r.at = a.0 in rising_more p (r.at + 1) (map record_of (output_records_in all whole slim rs)) (omega arith) i
     by_output_record (Some s) q i =
         let e : (record_of s).at ≡ r.at = output_record_place all whole slim r s q in
@@ -169,9 +175,11 @@ rising_in p (x ∷ rs) r a (inr i) = let j : x.at + 1 ≤ r.at = rising_in (x.at
 -- The offset of a record that stays leads to the one where it is written.
 moved_there : (ws : List Written) (p : ℕ) (w : Written) → Rising p (map (λ w. record_of w.output_record) ws) → In ws w → moved ws (record_of w.output_record).at ≡ w.at
 moved_there [] p w a i = absurd i
-moved_there (x ∷ ws) p w a (inl e) = let t : ((record_of x.output_record).at == (record_of w.output_record).at) ≡ true = is_eq (record_of x.output_record).at (record_of w.output_record).at (ap (λ z. (record_of z.output_record).at) e) in rw t (ap (λ z. z.at) e)
+moved_there (x ∷ ws) p w a (inl e) = let t : ((record_of x.output_record).at == (record_of w.output_record).at) ≡ true =
+    is_eq (record_of x.output_record).at (record_of w.output_record).at (ap (λ z. (record_of z.output_record).at) e) in rw t (ap (λ z. z.at) e)
 moved_there (x ∷ ws) p w a (inr i) =
-    let j : (record_of x.output_record).at + 1 ≤ (record_of w.output_record).at = rising_in ((record_of x.output_record).at + 1) (map (λ w. record_of w.output_record) ws) (record_of w.output_record) a.1 (in_map (λ w. record_of w.output_record) ws w i) in
+    let j : (record_of x.output_record).at + 1 ≤ (record_of w.output_record).at =
+    rising_in ((record_of x.output_record).at + 1) (map (λ w. record_of w.output_record) ws) (record_of w.output_record) a.1 (in_map (λ w. record_of w.output_record) ws w i) in
     let t : ((record_of x.output_record).at == (record_of w.output_record).at) ≡ false = grind (arith, nat_tests) in
     rw t (moved_there ws ((record_of x.output_record).at + 1) w a.1 i)
 
@@ -183,7 +191,8 @@ event_kept p a f i t =
     in_any (λ (e : EventAt). e.record_of.at == f.at) (events_of p) e.0 e.1 (is_eq e.0.record_of.at f.at (ap (λ (z : Framed). z.at) e.2))
 
 module _ (slim : Option (List ℕ)) (p : Parts) (a : AreParts p) (kept : List EventAt) (are : AreEvents p kept) (good : GoodAnew p.bytes (written_anew slim p)) (marks : List Bool) (b : List ℕ) (s : Leading slim p kept marks b)
-    (m : Classes) (suits : Suits p kept m) (holds : AllByRecursion (IsOutputRecordIn p.bytes (remaining_of p marks) m) (output_records slim p kept)) (held : Body) (reads : MetadataReads slim p a held m) (small : length b < 2 ^ 63) where
+    (m : Classes) (suits : Suits p kept m) (holds : AllByRecursion (IsOutputRecordIn p.bytes (remaining_of p marks) m) (output_records slim p kept)) (held : Body)
+    (reads : MetadataReads slim p a held m) (small : length b < 2 ^ 63) where
   abbrev q : Parts
   q = new_parts slim p a kept are good marks b s m suits holds held reads
 
@@ -211,7 +220,8 @@ module _ (slim : Option (List ℕ)) (p : Parts) (a : AreParts p) (kept : List Ev
   module _ (settles : new_there valid.metadata_record ≡ metadata_new slim p a) where
     -- A record of the output at the offset of its metadata record is the metadata record.
     pub is_metadata : (f : Framed) → IsRecord b f → f.at ≡ metadata_at b → f ≡ valid.metadata_record
-    is_metadata f i e = record_one b f valid.metadata_record i (all_in (IsRecord b) q.records valid.metadata_record (recorded q valid) (contains_in q.records valid.metadata_record valid.metadata_there.listed)) (e ∙ sym valid.metadata_there.place)
+    is_metadata f i e = record_one b f valid.metadata_record i
+        (all_in (IsRecord b) q.records valid.metadata_record (recorded q valid) (contains_in q.records valid.metadata_record valid.metadata_there.listed)) (e ∙ sym valid.metadata_there.place)
 
     abbrev of_metadata : (r : Framed) → IsRecord p.bytes r → r.at ≡ metadata_at p.bytes → r ≡ a.metadata_record
     of_metadata r i e = record_one p.bytes r a.metadata_record i (metadata_stands p a) (e ∙ sym a.metadata_there.place)
@@ -237,7 +247,8 @@ module _ (slim : Option (List ℕ)) (p : Parts) (a : AreParts p) (kept : List Ev
         metadata_place : (r : Framed) → (record_of w.output_record).at ≡ r.at → r.at ≡ metadata_at p.bytes → f.at ≡ metadata_at b
         metadata_place r g h = written_at w.output_record ∙ (sym (moved_there ws 68 w rising i) ∙ (ap (moved ws) (g ∙ h) ∙ sym s.metadata))
 
-        at_metadata : (r : Framed) → IsRecord p.bytes r → (record_of w.output_record).at ≡ r.at → r.at ≡ metadata_at p.bytes → (o : Option (List ℕ)) → written_anew slim p r ≡ o → (output_records_there f ≡ true) × (new_there f ≡ o)
+        at_metadata : (r : Framed) → IsRecord p.bytes r → (record_of w.output_record).at ≡ r.at → r.at ≡ metadata_at p.bytes → (o : Option (List ℕ)) → written_anew slim p r ≡ o
+            → (output_records_there f ≡ true) × (new_there f ≡ o)
         at_metadata r i g h o z =
             let k = metadata_place r g h in
             let n : new_there f ≡ o = ap new_there (is_metadata f stands_there k) ∙ (settles ∙ (ap (written_anew slim p) (sym (of_metadata r i h)) ∙ z)) in
@@ -252,9 +263,11 @@ module _ (slim : Option (List ℕ)) (p : Parts) (a : AreParts p) (kept : List Ev
             cc
         not_metadata e false y = ap (λ t. if t then slim else None) y
 
-        by_cause : (r : Framed) → w.output_record ≡ Whole r → In p.records r → (u v : Bool) → is_kept kept r ≡ u → (r.at == metadata_at p.bytes) ≡ v → (u || v) ≡ true → written_anew slim p r ≡ None → (output_records_there f ≡ true) × (new_there f ≡ None)
+        by_cause : (r : Framed) → w.output_record ≡ Whole r → In p.records r → (u v : Bool) → is_kept kept r ≡ u → (r.at == metadata_at p.bytes) ≡ v → (u || v) ≡ true → written_anew slim p r ≡ None
+            → (output_records_there f ≡ true) × (new_there f ≡ None)
         by_cause r e o true v x y z n =
-            let t : is_event_class m f.type_id ≡ true = ap (λ z. is_event_class m (frame_by z w.at (length (written_bytes p.bytes remaining w))).type_id) e ∙ (kept_is_event p a kept are m suits r o x).0 in
+            let t : is_event_class m f.type_id ≡ true =
+            ap (λ z. is_event_class m (frame_by z w.at (length (written_bytes p.bytes remaining w))).type_id) e ∙ (kept_is_event p a kept are m suits r o x).0 in
             let u : is_kept (events_of q) f ≡ true = event_kept q valid f listed t in
             (ap (λ z. z || (f.at == metadata_at b)) u, not_metadata t (f.at == metadata_at b) refl)
         by_cause r e o false true x y z n =
@@ -265,10 +278,12 @@ module _ (slim : Option (List ℕ)) (p : Parts) (a : AreParts p) (kept : List Ev
         by_output_record : (t : OutputRecord) → w.output_record ≡ t → Stays p.bytes remaining b (all_links q) output_records_there new_there t f
         by_output_record (Chained j l) e = tt
         by_output_record (Whole r) e =
-            let x = whole_output_records (all_links p) (is_kept_or_metadata p kept) (written_anew slim p) p.records r (subst (In (output_records slim p kept)) e (in_written p.bytes remaining b (output_records slim p kept) 68 None w i)) in
+            let x = whole_output_records (all_links p) (is_kept_or_metadata p kept) (written_anew slim p) p.records r
+            (subst (In (output_records slim p kept)) e (in_written p.bytes remaining b (output_records slim p kept) 68 None w i)) in
             by_cause r e x.0 (is_kept kept r) (r.at == metadata_at p.bytes) refl refl x.1 x.2
         by_output_record (Rebuilt r y) e =
-            let x = anew_output_records (all_links p) (is_kept_or_metadata p kept) (written_anew slim p) p.records r y (subst (In (output_records slim p kept)) e (in_written p.bytes remaining b (output_records slim p kept) 68 None w i)) in
+            let x = anew_output_records (all_links p) (is_kept_or_metadata p kept) (written_anew slim p) p.records r y
+            (subst (In (output_records slim p kept)) e (in_written p.bytes remaining b (output_records slim p kept) 68 None w i)) in
             let t = anew_only slim p r y x.1 in
             let h : r.at ≡ metadata_at p.bytes = grind (arith, nat_tests) in
             at_metadata r (all_in (IsRecord p.bytes) p.records r (recorded p a) x.0) (ap (λ z. (record_of z).at) e) h (Some y) x.1
@@ -276,5 +291,6 @@ module _ (slim : Option (List ℕ)) (p : Parts) (a : AreParts p) (kept : List Ev
     -- So all of it stays.
     pub output_records_settled : output_records slim q (events_of q) ≡ new_output_records p.bytes remaining 0 68 None (output_records slim p kept)
     output_records_settled =
-        output_records_again p.bytes remaining b (all_links q) output_records_there new_there (output_records slim p kept) 0 68 None [] (length b) valid.records (ap (enumerate_from 0) (reverse-reverse (links slim p kept marks))) tt
+        output_records_again p.bytes remaining b (all_links q) output_records_there new_there (output_records slim p kept) 0 68 None [] (length b) valid.records
+        (ap (enumerate_from 0) (reverse-reverse (links slim p kept marks))) tt
         (all_each (OutputRecordsWhole p.bytes remaining b (all_links q) output_records_there new_there) ws whole_again)

@@ -50,7 +50,8 @@ unfolding rebuilt slim_in
 is_anew names p kept room x e =
     by_tests (list_all scalars (slim_of names p kept).strings) refl (nat_lt (table_len (slim_of names p kept)) (2 ^ 29)) refl (nat_le (length (bytes_of_body (slim_of names p kept))) room) refl e
   where
-    by_tests : (s : Bool) → list_all scalars (slim_of names p kept).strings ≡ s → (t : Bool) → nat_lt (table_len (slim_of names p kept)) (2 ^ 29) ≡ t → (u : Bool) → nat_le (length (bytes_of_body (slim_of names p kept))) room ≡ u
+    by_tests : (s : Bool) → list_all scalars (slim_of names p kept).strings ≡ s → (t : Bool) → nat_lt (table_len (slim_of names p kept)) (2 ^ 29) ≡ t → (u : Bool)
+        → nat_le (length (bytes_of_body (slim_of names p kept))) room ≡ u
         → (if s then (if t && u then Some (bytes_of_body (slim_of names p kept)) else None) else None) ≡ Some x → IsAnew names p kept room x
     by_tests true v true q true r e =
         let h : x ≡ bytes_of_body (slim_of names p kept) = cc in
@@ -112,7 +113,8 @@ module _ (names : Names) (p : Parts) (a : AreParts p) (kept : List EventAt) wher
   pub described_stays : (id : ℕ) → is_described names k id ≡ true → stays id ≡ true
   described_stays id e = stay.has.uses id (described_has names k id e) (or_right (used_by kept id) (is_described names k id) e)
 
-  closed : (us : List Tree) → class_elements p.body.strings p.body.root ≡ Some us → (t : Tree) (id other : ℕ) → Contains us t → HasHead p.body.strings t id → stays id ≡ true → Contains (ids_below p.body.strings t) other → has_id k other ≡ true → stays other ≡ true
+  closed : (us : List Tree) → class_elements p.body.strings p.body.root ≡ Some us → (t : Tree) (id other : ℕ) → Contains us t → HasHead p.body.strings t id → stays id ≡ true
+      → Contains (ids_below p.body.strings t) other → has_id k other ≡ true → stays other ≡ true
   closed us e t id other i h s n o =
       let q : us ≡ ts = (let z : Some us ≡ Some ts = sym e ∙ d.there in cc) in
       stay.has.names t id other (subst (λ z. Contains z t) q i) h s n o
@@ -124,9 +126,11 @@ module _ (names : Names) (p : Parts) (a : AreParts p) (kept : List EventAt) wher
   left_sound = staying_sound k stays d.sound (fields_closed p.body.strings ts k stays (sym d.classes) (closed ts d.there) (nothing_each (class_flaws p.body.strings) ts d.good) d.sound)
 
   pub agree_left : (id : ℕ) (c : Class) → find_class k id ≡ Some c → stays id ≡ true → Agree k (staying stays k) id
-  agree_left id c e s = (stay_well k stays d.sound (fields_closed p.body.strings ts k stays (sym d.classes) (closed ts d.there) (nothing_each (class_flaws p.body.strings) ts d.good) d.sound)).agree id c e s
+  agree_left id c e s = (stay_well k stays d.sound (fields_closed p.body.strings ts k stays (sym d.classes) (closed ts d.there) (nothing_each (class_flaws p.body.strings) ts d.good) d.sound)).agree id
+      c e s
 
   pub stands_anew : (room : ℕ) (x : List ℕ) → IsAnew names p kept room x → StandsAnew x (slim_of names p kept)
   unfolding slim_body
   stands_anew room x n =
-      read_back p.body.start p.body.duration p.body.id (slim_of names p kept).strings (slim_of names p kept).root x slim.indices (omega (arith, slim.levels, shallow p.bytes a.metadata_record p.body p.classes a.metadata)) n.small (texts_of (slim_of names p kept).strings n.all) n.bytes
+      read_back p.body.start p.body.duration p.body.id (slim_of names p kept).strings (slim_of names p kept).root x slim.indices
+      (omega (arith, slim.levels, shallow p.bytes a.metadata_record p.body p.classes a.metadata)) n.small (texts_of (slim_of names p kept).strings n.all) n.bytes

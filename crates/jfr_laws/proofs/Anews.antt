@@ -58,7 +58,8 @@ module _ (p : Parts) (a : AreParts p) where
   found_first [] s i = absurd i
   found_first (r ∷ rs) s i = by_test (r.at == metadata_at p.bytes) refl i (found_first rs s.1)
     where
-      by_test : (t : Bool) → (r.at == metadata_at p.bytes) ≡ t → (r ≡ a.metadata_record) ⊎ In rs a.metadata_record → (In rs a.metadata_record → find (λ r. r.at == metadata_at p.bytes) rs ≡ Some a.metadata_record)
+      by_test : (t : Bool) → (r.at == metadata_at p.bytes) ≡ t → (r ≡ a.metadata_record) ⊎ In rs a.metadata_record
+          → (In rs a.metadata_record → find (λ r. r.at == metadata_at p.bytes) rs ≡ Some a.metadata_record)
           → (if t then Some r else find (λ r. r.at == metadata_at p.bytes) rs) ≡ Some a.metadata_record
       by_test true e i f =
           let h : r.at ≡ metadata_at p.bytes = grind (arith, nat_tests) in
@@ -85,7 +86,8 @@ good_anew names p a kept r x i e = by_test (r.at == metadata_at p.bytes) refl e
 pub is_event : (p : Parts) (a : AreParts p) (kept : List EventAt) → AreEvents p kept → (e : EventAt) → In kept e → is_event_class p.classes e.record_of.type_id ≡ true
 is_event p a kept are e i =
     let j : In (events_of p) e = contains_in (events_of p) e (All-contains (Contains (events_of p)) kept e are (in_contains kept e i)) in
-    in_passes (λ (r : Framed). is_event_class p.classes r.type_id) p.records e.record_of (subst (λ z. In z e.record_of) (event_records_of p a) (in_map (λ (e : EventAt). e.record_of) (events_of p) e j))
+    in_passes (λ (r : Framed). is_event_class p.classes r.type_id) p.records e.record_of
+    (subst (λ z. In z e.record_of) (event_records_of p a) (in_map (λ (e : EventAt). e.record_of) (events_of p) e j))
 
 module _ (names : Names) (p : Parts) (a : AreParts p) (kept : List EventAt) (are : AreEvents p kept) where
   suits_all : Suits p kept p.classes
@@ -98,7 +100,8 @@ module _ (names : Names) (p : Parts) (a : AreParts p) (kept : List EventAt) (are
   used_stays e i =
       let c = some_class p.classes e.record_of.type_id (is_event p a kept are e i) in
       (stay names p a kept).has.uses e.record_of.type_id (any_of p.classes e.record_of.type_id c.0 c.1)
-      (ap (λ t. t || is_described names p.classes e.record_of.type_id) (in_any (λ (f : EventAt). f.record_of.type_id == e.record_of.type_id) kept e i (eq-eqb e.record_of.type_id e.record_of.type_id refl)))
+      (ap (λ t. t || is_described names p.classes e.record_of.type_id)
+      (in_any (λ (f : EventAt). f.record_of.type_id == e.record_of.type_id) kept e i (eq-eqb e.record_of.type_id e.record_of.type_id refl)))
 
   both : (t u : Bool) → t ≡ true → u ≡ true → (t && u) ≡ true
   both t u e f = ap (λ b. b && u) e ∙ f
@@ -126,20 +129,27 @@ module _ (names : Names) (p : Parts) (a : AreParts p) (kept : List EventAt) (are
   then_same y z e f = record { start = e.start ∙ f.start; duration = e.duration ∙ f.duration; id = e.id ∙ f.id; strings = e.strings ∙ f.strings; root = e.root ∙ f.root }
 
   -- It is read with the classes that stay.
-  reads_anew : (x : List ℕ) → IsAnew names p kept (metadata_size p) x → (b : List ℕ) (place : ℕ) → Holds b (length b) place x → (body : Body) × IsMetadata b (moved_frame place (own_frame x) (length x)) body (staying stays p.classes) × SameBody (slim_of names p kept) body
+  reads_anew : (x : List ℕ) → IsAnew names p kept (metadata_size p) x → (b : List ℕ) (place : ℕ) → Holds b (length b) place x
+      → (body : Body) × IsMetadata b (moved_frame place (own_frame x) (length x)) body (staying stays p.classes) × SameBody (slim_of names p kept) body
   unfolding slim_body
   reads_anew x n b place h =
       let s : StandsAnew x (slim_of names p kept) = stands_anew names p a kept (metadata_size p) x n in
       let y : Body = record { start = p.body.start; duration = p.body.duration; id = p.body.id; strings = (slim_of names p kept).strings; root = s.tree } in
       let e : length x ≡ 0 + length x = omega arith in
       let r : Reads meta_format x (0 + length x) 6 y (0 + length x) = subst (λ z. Reads meta_format x z 6 y z) e s.body in
-      let k : described y ≡ Ok (staying stays p.classes) = described_bare p.body.start p.body.duration p.body.id (slim_of names p kept).strings (slim_of names p kept).root s.tree (staying stays p.classes) (sym s.same) (slim names p a kept).classes in
+      let k : described y ≡ Ok (staying stays p.classes) = described_bare p.body.start p.body.duration p.body.id (slim_of names p kept).strings (slim_of names p kept).root s.tree
+      (staying stays p.classes) (sym s.same) (slim names p a kept).classes in
       let m : IsMetadata x (own_frame x) y (staying stays p.classes) = record { body = r; classes = k } in
-      let g = metadata_copied x b (own_frame x) place y (staying stays p.classes) s.is_record (subst (Holds b (length b) place) (sym (own_bytes x)) h) m in
-      (g.0, subst (λ z. IsMetadata b (moved_frame place (own_frame x) (length z)) g.0 (staying stays p.classes)) (own_bytes x) g.1, then_same y g.0 (record { start = refl; duration = refl; id = refl; strings = refl; root = sym s.same }) g.2)
+      let g = metadata_copied x b (own_frame x) place y (staying stays p.classes) s.is_record (subst (Holds b (length b) place) (sym (own_bytes x)) h) m in (
+        g.0,
+        subst (λ z. IsMetadata b (moved_frame place (own_frame x) (length z)) g.0 (staying stays p.classes)) (own_bytes x) g.1,
+        then_same y g.0
+            (record { start = refl; duration = refl; id = refl; strings = refl; root = sym s.same }) g.2,
+      )
 
   abbrev Reading : Option (List ℕ) → Option (List ℕ) → Classes → Type 0
-  Reading w v m = (b : List ℕ) (place : ℕ) → Holds b (length b) place (shown_bytes p.bytes w a.metadata_record) → (body : Body) × IsMetadata b (shown_frame p.bytes w a.metadata_record place) body m × SameBody (shown_body names p kept v) body
+  Reading w v m = (b : List ℕ) (place : ℕ) → Holds b (length b) place (shown_bytes p.bytes w a.metadata_record) → (body : Body) × IsMetadata b
+      (shown_frame p.bytes w a.metadata_record place) body m × SameBody (shown_body names p kept v) body
 
   reading : (m : Classes) → Reading (new_metadata names p kept) (new_metadata names p kept) m → Reading (metadata_new (new_metadata names p kept) p a) (new_metadata names p kept) m
   reading m = subst (λ w. Reading w (new_metadata names p kept) m) (sym (new_is (new_metadata names p kept) p a))

@@ -32,7 +32,8 @@ use Rattle.jfr_laws.proofs.Groups.{groups_stand}
 use Rattle.jfr_laws.proofs.Room.{int_room, have_room}
 
 -- A link whose body was read.
-link_stands : (c : List ℕ) (k : Classes) (rs : List Framed) (l : Link) (pools : List PoolAt) → IsRecord c l.frame → IsLink c rs l → (s : BodyStands c k (record_end l.frame) l.frame.body pools) → IsLinkIn c l × (s.delta_end ≡ l.delta_end)
+link_stands : (c : List ℕ) (k : Classes) (rs : List Framed) (l : Link) (pools : List PoolAt) → IsRecord c l.frame → IsLink c rs l → (s : BodyStands c k (record_end l.frame) l.frame.body pools)
+    → IsLinkIn c l × (s.delta_end ≡ l.delta_end)
 link_stands c k rs l pools r i s =
     let h = i.head in
     let d = h.5 in
@@ -64,7 +65,8 @@ link_stands c k rs l pools r i s =
     )
 
 -- The entries of pools that are spelled by bytes.
-constants_entries : (c : List ℕ) (k : Classes) (checkpoint number class at : ℕ) (xs : List Constant) (to : ℕ) → pool_check k class ≡ None → AreConstants c k class at xs to → AllByRecursion (IsEntryIn c k) (map (entry_of checkpoint number class) xs)
+constants_entries : (c : List ℕ) (k : Classes) (checkpoint number class at : ℕ) (xs : List Constant) (to : ℕ) → pool_check k class ≡ None → AreConstants c k class at xs to
+    → AllByRecursion (IsEntryIn c k) (map (entry_of checkpoint number class) xs)
 constants_entries c k checkpoint number class at [] to n s = tt
 constants_entries c k checkpoint number class at (x ∷ xs) to n s =
     (record { value = x.value; known = n; key = s.0.key; order = s.0.order; within = s.0.within; exact = s.0.exact }, constants_entries c k checkpoint number class x.end xs to n s.1)
@@ -131,7 +133,8 @@ others n m (e ∷ es) h a = (by_test (e.checkpoint == m) refl, others n m es h a
 pub of_number : (checkpoint number : ℕ) (pools : List PoolAt) → Of checkpoint (entries_from checkpoint number pools)
 of_number checkpoint number [] = tt
 of_number checkpoint number (p ∷ ps) =
-    all_append (λ e. e.checkpoint ≡ checkpoint) (map (entry_of checkpoint number p.class) p.constants) (entries_from checkpoint (number + 1) ps) (each p.constants) (of_number checkpoint (number + 1) ps)
+    all_append (λ e. e.checkpoint ≡ checkpoint) (map (entry_of checkpoint number p.class) p.constants) (entries_from checkpoint (number + 1) ps) (each p.constants)
+    (of_number checkpoint (number + 1) ps)
   where
     each : (xs : List Constant) → Of checkpoint (map (entry_of checkpoint number p.class) xs)
     each [] = tt
@@ -143,7 +146,8 @@ later_numbers c k before number [] es h a = subst (NotOf before) (sym a) tt
 later_numbers c k before number (l ∷ ls) es h a =
     let block : List EntryAt = entries_from number 0 a.0 in
     subst (NotOf before) (sym a.3)
-    (all_append (λ e. (e.checkpoint == before) ≡ false) block a.2 (others number before block (λ q. omega arith) (of_number number 0 a.0)) (later_numbers c k before (number + 1) ls a.2 (omega arith) a.4))
+    (all_append (λ e. (e.checkpoint == before) ≡ false) block a.2 (others number before block (λ q. omega arith) (of_number number 0 a.0))
+    (later_numbers c k before (number + 1) ls a.2 (omega arith) a.4))
 
 -- The entries of one checkpoint, between those of others.
 pub block_only : (n : ℕ) (before block later : List EntryAt) → NotOf n before → Of n block → NotOf n later → those_of n (before ++ (block ++ later)) ≡ block
@@ -160,7 +164,8 @@ block_marked n marks before block later a b d =
     let more : List Bool = drop (length before) marks in
     let last : List Bool = drop (length block) more in
     let x : List EntryAt = marked marks before in
-    let e : marked marks (before ++ (block ++ later)) ≡ x ++ (marked more block ++ marked last later) = marked_append marks before (block ++ later) ∙ ap (λ u. x ++ u) (marked_append more block later) in
+    let e : marked marks (before ++ (block ++ later)) ≡ x ++ (marked more block ++ marked last later) =
+    marked_append marks before (block ++ later) ∙ ap (λ u. x ++ u) (marked_append more block later) in
     ap (those_of n) e
     ∙ block_only n x (marked more block) (marked last later) (all_marked (λ e. (e.checkpoint == n) ≡ false) marks before a) (all_marked (λ e. e.checkpoint ≡ n) more block b)
     (all_marked (λ e. (e.checkpoint == n) ≡ false) last later d)
@@ -183,13 +188,15 @@ behind_next c k whole number l ls before es h =
     }
 
 -- The marked entries of the next checkpoint.
-behind_block : (c : List ℕ) (k : Classes) (whole : List EntryAt) (marks : List Bool) (number : ℕ) (l : Link) (ls : List Link) (before es : List EntryAt) → (h : Behind c k whole number (l ∷ ls) before es)
+behind_block : (c : List ℕ) (k : Classes) (whole : List EntryAt) (marks : List Bool) (number : ℕ) (l : Link) (ls : List Link) (before es : List EntryAt)
+    → (h : Behind c k whole number (l ∷ ls) before es)
     → those_of number (marked marks whole) ≡ marked (drop (length before) marks) (entries_from number 0 h.entries.0)
 behind_block c k whole marks number l ls before es h =
     let block : List EntryAt = entries_from number 0 h.entries.0 in
     let e : whole ≡ before ++ (block ++ h.entries.2) = h.split ∙ ap (λ z. before ++ z) h.entries.3 in
     ap (λ z. those_of number (marked marks z)) e
-    ∙ block_marked number marks before block h.entries.2 (h.earlier number (omega arith)) (of_number number 0 h.entries.0) (later_numbers c k number (number + 1) ls h.entries.2 (omega arith) h.entries.4)
+    ∙ block_marked number marks before block h.entries.2 (h.earlier number (omega arith)) (of_number number 0 h.entries.0)
+    (later_numbers c k number (number + 1) ls h.entries.2 (omega arith) h.entries.4)
 
 can_behind : (c : List ℕ) (k : Classes) (rs : List Framed) (marks : List Bool) (whole : List EntryAt) (number : ℕ) (ls : List Link) (before es : List EntryAt)
     → AllByRecursion (λ l. IsRecord c l.frame × IsLink c rs l) ls → Behind c k whole number ls before es

@@ -39,7 +39,8 @@ skip_before at p test (x ∷ rs) h r =
     let e : (at == x.at) ≡ false = grind (arith, nat_tests) in
     rw e (by_test (test x) (skip_before at (x.at + 1) test rs (omega arith) r.1))
   where
-    by_test : (t : Bool) → filter (λ r. (at == r.at) || test r) rs ≡ filter test rs → (if t then x ∷ filter (λ r. (at == r.at) || test r) rs else filter (λ r. (at == r.at) || test r) rs) ≡ (if t then x ∷ filter test rs else filter test rs)
+    by_test : (t : Bool) → filter (λ r. (at == r.at) || test r) rs ≡ filter test rs
+        → (if t then x ∷ filter (λ r. (at == r.at) || test r) rs else filter (λ r. (at == r.at) || test r) rs) ≡ (if t then x ∷ filter test rs else filter test rs)
     by_test true i = ap (λ z. x ∷ z) i
     by_test false i = i
 
@@ -85,7 +86,8 @@ any_map f test (x ∷ xs) = ap (λ t. test (f x) || t) (any_map f test xs)
 pub records_of_events : (c : List ℕ) (k : Classes) (rs : List Framed) → AllByRecursion (IsRecord c) rs → AllByRecursion (HasFields c k) rs → records_of (filter_map (event_of c k) rs) ≡ rs
 records_of_events c k [] a h = refl
 records_of_events c k (r ∷ rs) a h =
-    ap (λ o. records_of (cons_option (event_by r o) (filter_map (event_of c k) rs))) (reads_computed c (record_end r) a.0.within (value_format k (inline r.type_id)) r.body h.0.0 h.0.1 a.0.covers h.0.2)
+    ap (λ o. records_of (cons_option (event_by r o) (filter_map (event_of c k) rs)))
+    (reads_computed c (record_end r) a.0.within (value_format k (inline r.type_id)) r.body h.0.0 h.0.1 a.0.covers h.0.2)
     ∙ ap (λ z. r ∷ z) (records_of_events c k rs a.1 h.1)
 
 -- Among the records of events, those at the offset of a chosen event are the records of the chosen events.

@@ -51,7 +51,8 @@ pub record BodyCopied {A B : Type 0} (R : A → B → Type 0) (g : Format B) (c 
   pub order : r.body ≤ to
   pub within : to ≤ record_end r
 
-pub body_copied : {A B : Type 0} (R : A → B → Type 0) (f : Format A) (g : Format B) → Alike R f g → (c b : List ℕ) (r : Framed) (at : ℕ) (v : A) (to : ℕ) → IsRecord c r → Holds b (length b) at (record_bytes c r)
+pub body_copied : {A B : Type 0} (R : A → B → Type 0) (f : Format A) (g : Format B) → Alike R f g → (c b : List ℕ) (r : Framed) (at : ℕ) (v : A) (to : ℕ) → IsRecord c r
+    → Holds b (length b) at (record_bytes c r)
     → Reads f c (record_end r) r.body v to → BodyCopied R g c b r at v to
 body_copied R f g a c b r at v to s h read =
     let a1 : r.at ≤ r.type_at = s.size_spelled.order in

@@ -40,22 +40,26 @@ each_append R (x ∷ xs) (y ∷ ys) us vs a b = (a.0, each_append R xs ys us vs 
 
 module _ (c : List ℕ) (k : Classes) (b : List ℕ) (end : ℕ) (checkpoint : ℕ) where
   -- An entry that is read back, and those of a pool.
-  entry_same : (e : EntryAt) (pool class at : ℕ) → IsEntryIn c k e → e.class ≡ class → e.checkpoint ≡ checkpoint → Holds b end at (entry_bytes c e) → IsCopy c b e (entry_of checkpoint pool class (placed c k at e))
+  entry_same : (e : EntryAt) (pool class at : ℕ) → IsEntryIn c k e → e.class ≡ class → e.checkpoint ≡ checkpoint → Holds b end at (entry_bytes c e)
+      → IsCopy c b e (entry_of checkpoint pool class (placed c k at e))
   entry_same e pool class at s w n h = record { class = w; key = refl; checkpoint = n; value = (entry_held c k b end at e s h).value }
 
-  entries_same : (es : List EntryAt) (pool class at : ℕ) → AllByRecursion (λ e. IsEntryIn c k e × (e.class ≡ class)) es → AllByRecursion (λ e. e.checkpoint ≡ checkpoint) es → Holds b end at (flat_map (entry_bytes c) es)
+  entries_same : (es : List EntryAt) (pool class at : ℕ) → AllByRecursion (λ e. IsEntryIn c k e × (e.class ≡ class)) es → AllByRecursion (λ e. e.checkpoint ≡ checkpoint) es
+      → Holds b end at (flat_map (entry_bytes c) es)
       → Each (IsCopy c b) es (map (entry_of checkpoint pool class) (placed_each (entry_bytes c) (placed c k) at es))
   entries_same [] pool class at s n h = tt
   entries_same (e ∷ es) pool class at s n h =
       let p = holds_parts b end at (entry_bytes c e) (flat_map (entry_bytes c) es) h in
       (entry_same e pool class at s.0.0 s.0.1 n.0 p.0, entries_same es pool class (at + length (entry_bytes c e)) s.1 n.1 p.1)
 
-  split_all : (xs ys : List EntryAt) → AllByRecursion (λ e. e.checkpoint ≡ checkpoint) (xs ++ ys) → AllByRecursion (λ e. e.checkpoint ≡ checkpoint) xs × AllByRecursion (λ e. e.checkpoint ≡ checkpoint) ys
+  split_all : (xs ys : List EntryAt) → AllByRecursion (λ e. e.checkpoint ≡ checkpoint) (xs ++ ys)
+      → AllByRecursion (λ e. e.checkpoint ≡ checkpoint) xs × AllByRecursion (λ e. e.checkpoint ≡ checkpoint) ys
   split_all [] ys a = (tt, a)
   split_all (x ∷ xs) ys a = let i = split_all xs ys a.1 in ((a.0, i.0), i.1)
 
   -- The entries of the pools that are read are those of the groups that were written.
-  pub groups_same : (gs : List Group) (pool at : ℕ) → AllByRecursion (IsGroupIn c k) gs → AllByRecursion (λ e. e.checkpoint ≡ checkpoint) (flat_map (λ g. g.entries) gs) → Holds b end at (flat_map (group_bytes c) gs)
+  pub groups_same : (gs : List Group) (pool at : ℕ) → AllByRecursion (IsGroupIn c k) gs → AllByRecursion (λ e. e.checkpoint ≡ checkpoint) (flat_map (λ g. g.entries) gs)
+      → Holds b end at (flat_map (group_bytes c) gs)
       → Each (IsCopy c b) (flat_map (λ g. g.entries) gs) (entries_from checkpoint pool (placed_each (group_bytes c) (placed_group c k) at gs))
   groups_same [] pool at s n h = tt
   groups_same (g ∷ gs) pool at s n h =
@@ -100,7 +104,8 @@ unfolding number_in_force
 copied_force p q es fs target a = copied_last p q 0 es fs target a
 
 -- What is in force and marked is in force among those that are marked.
-pub marked_force : (marks : List Bool) (es : List EntryAt) (target : ℕ × ℕ) (n : ℕ) → number_in_force es target ≡ Some n → IsMarked marks n → number_in_force (marked marks es) target ≡ Some (rank marks n)
+pub marked_force : (marks : List Bool) (es : List EntryAt) (target : ℕ × ℕ) (n : ℕ) → number_in_force es target ≡ Some n → IsMarked marks n
+    → number_in_force (marked marks es) target ≡ Some (rank marks n)
 marked_force marks es target n e m =
     let i : IsLast es target n = (last_is es target n).0 e in
     (last_is (marked marks es) target (rank marks n)).1
@@ -127,7 +132,8 @@ marked_none n m [] es target e = refl
 marked_none n m (b ∷ ms) [] target e = refl
 marked_none n m (b ∷ ms) (x ∷ xs) target e = by_rest (last_from (n + 1) xs target) refl (hits x target) refl e b (λ k. marked_none (n + 1) k ms xs target)
   where
-    by_rest : (o : Option ℕ) → last_from (n + 1) xs target ≡ o → (t : Bool) → hits x target ≡ t → or_later n t o ≡ None → (b : Bool) → ((k : ℕ) → last_from (n + 1) xs target ≡ None → last_from k (marked ms xs) target ≡ None)
+    by_rest : (o : Option ℕ) → last_from (n + 1) xs target ≡ o → (t : Bool) → hits x target ≡ t → or_later n t o ≡ None → (b : Bool)
+        → ((k : ℕ) → last_from (n + 1) xs target ≡ None → last_from k (marked ms xs) target ≡ None)
         → last_from m (marked (b ∷ ms) (x ∷ xs)) target ≡ None
     by_rest (Some i) q t r e b f = cc
     by_rest None q true r e b f = cc
@@ -140,7 +146,8 @@ none_force marks es target e = marked_none 0 0 marks es target e
 
 -- Where what is in force for a class and a key is marked, if anything is, both chunks have the same entry
 -- in force.
-pub in_force_same : (p q : Parts) (marks : List Bool) (target : ℕ × ℕ) → AreCopied p q (marked marks p.entries) q.entries → ((n : ℕ) → number_in_force p.entries target ≡ Some n → IsMarked marks n) → SameEntry p q target
+pub in_force_same : (p q : Parts) (marks : List Bool) (target : ℕ × ℕ) → AreCopied p q (marked marks p.entries) q.entries → ((n : ℕ) → number_in_force p.entries target ≡ Some n → IsMarked marks n)
+    → SameEntry p q target
 in_force_same p q marks target a h = by_number (number_in_force p.entries target) refl
   where
     values : (x y : Option EntryAt) → Both (IsCopied p q) x y → Both (λ e f. node_bytes p.bytes (entry_node e) ≡ node_bytes q.bytes (entry_node f)) x y

@@ -19,7 +19,9 @@ pub record StandsAnew (x : List ℕ) (b : Body) : Type 0 where
   pub long : 6 ≤ length x
 
 module _ (start duration id : ℕ) (strings : List (List ℕ)) (root : Tree) (x : List ℕ) where
-  pub read_back : HasIndices (length strings) root → depth root ≤ 16 → length (table_bytes strings root) < 536870912 → AllByRecursion IsText strings → x ≡ bytes_of_body (record { start = start; duration = duration; id = id; strings = strings; root = root }) → StandsAnew x (record { start = start; duration = duration; id = id; strings = strings; root = root })
+  pub read_back : HasIndices (length strings) root → depth root ≤ 16 → length (table_bytes strings root) < 536870912 → AllByRecursion IsText strings
+      → x ≡ bytes_of_body (record { start = start; duration = duration; id = id; strings = strings; root = root })
+      → StandsAnew x (record { start = start; duration = duration; id = id; strings = strings; root = root })
   read_back good shallow small texts e =
       let w = stands_alone start duration id strings root x good shallow small texts e in
       record { is_record = w.is_record; tree = w.tree; same = w.same; body = w.body; long = w.long }

@@ -18,7 +18,8 @@ use Rattle.jfr_laws.proofs.ReadBack.{moved_frame}
 use Rattle.jfr_laws.proofs.OutputRecords.{Deltas, own_frame, chained_bytes, bytes_from, new_frame, IsOutputRecordIn}
 
 -- What is written for a record was at the record's offset.
-pub output_record_place : (all : List Numbered) (whole : Framed → Bool) (new : Framed → Option (List ℕ)) (r : Framed) (s : OutputRecord) → output_record_in all whole new r ≡ Some s → (record_of s).at ≡ r.at
+pub output_record_place : (all : List Numbered) (whole : Framed → Bool) (new : Framed → Option (List ℕ)) (r : Framed) (s : OutputRecord) → output_record_in all whole new r ≡ Some s
+    → (record_of s).at ≡ r.at
 output_record_place all whole new r s e = by_case (numbered_at all r.at) refl (whole r) (new r) e
   where
     every : (ts : List Numbered) → AllByRecursion (λ (m : Numbered). Unit {0}) ts
@@ -73,7 +74,8 @@ module _ (c : List ℕ) (remaining : List EntryAt) (k : Classes) (b : List ℕ) 
     RecordsAfter rs = output_records_in all whole new rs
 
     -- It is the first that is written.
-    found_here : (w : Option (List ℕ)) (rest : List OutputRecord) (at : ℕ) (older : Option ℕ) → Holds b (length b) at (bytes_from c remaining at older (shown w f ∷ rest)) → Found f w at (written c remaining at older (shown w f ∷ rest))
+    found_here : (w : Option (List ℕ)) (rest : List OutputRecord) (at : ℕ) (older : Option ℕ) → Holds b (length b) at (bytes_from c remaining at older (shown w f ∷ rest))
+        → Found f w at (written c remaining at older (shown w f ∷ rest))
     found_here None rest at older h =
         let n : ℕ = length (record_bytes c f) in
         let p = holds_parts b (length b) at (record_bytes c f) (bytes_from c remaining (at + n) older rest) h in
@@ -84,38 +86,46 @@ module _ (c : List ℕ) (remaining : List EntryAt) (k : Classes) (b : List ℕ) 
         record { place = at; from = omega arith; held = p.0; leads = rw (is_eq f.at f.at refl) refl; listed = inl refl }
 
     -- It is written after another.
-    found_later : (w : Option (List ℕ)) (x : OutputRecord) (ws : List Written) (at n : ℕ) (older : Option ℕ) → ((record_of x).at == f.at) ≡ false → Found f w (at + n) ws → Found f w at (record { output_record = x; at = at; newest = older } ∷ ws)
+    found_later : (w : Option (List ℕ)) (x : OutputRecord) (ws : List Written) (at n : ℕ) (older : Option ℕ) → ((record_of x).at == f.at) ≡ false → Found f w (at + n) ws
+        → Found f w at (record { output_record = x; at = at; newest = older } ∷ ws)
     found_later w x ws at n older t i =
         let z : at + n ≤ i.place = i.from in
         record { place = i.place; from = omega arith; held = i.held; leads = rw t i.leads; listed = inr i.listed }
 
-    pub found_back : (rs : List Framed) (at : ℕ) (older : Option ℕ) → AllByRecursion (IsRecord c) rs → In rs f → AllByRecursion (IsOutputRecordIn c remaining k) (RecordsAfter rs) → Deltas (is_some older) (RecordsAfter rs)
+    pub found_back : (rs : List Framed) (at : ℕ) (older : Option ℕ) → AllByRecursion (IsRecord c) rs → In rs f → AllByRecursion (IsOutputRecordIn c remaining k) (RecordsAfter rs)
+        → Deltas (is_some older) (RecordsAfter rs)
         → Holds b (length b) at (bytes_from c remaining at older (RecordsAfter rs)) → Found f (new f) at (written c remaining at older (RecordsAfter rs))
     found_back [] at older a i s d h = absurd i
     found_back (r ∷ rs) at older a i s d h = by_place (r.at == f.at) refl i (λ at older i s d h. found_back rs at older a.1 i s d h) (output_record_in all whole new r) refl s d h
       where
         Later : Type 0
-        Later = (at : ℕ) (older : Option ℕ) → In rs f → AllByRecursion (IsOutputRecordIn c remaining k) (RecordsAfter rs) → Deltas (is_some older) (RecordsAfter rs) → Holds b (length b) at (bytes_from c remaining at older (RecordsAfter rs)) → Found f (new f) at (written c remaining at older (RecordsAfter rs))
+        Later = (at : ℕ) (older : Option ℕ) → In rs f → AllByRecursion (IsOutputRecordIn c remaining k) (RecordsAfter rs) → Deltas (is_some older) (RecordsAfter rs) → Holds b (length b) at
+            (bytes_from c remaining at older (RecordsAfter rs)) → Found f (new f) at (written c remaining at older (RecordsAfter rs))
 
         by_place : (t : Bool) → (r.at == f.at) ≡ t → In (r ∷ rs) f → Later → (o : Option OutputRecord) → output_record_in all whole new r ≡ o
-            → AllByRecursion (IsOutputRecordIn c remaining k) (cons_option o (RecordsAfter rs)) → Deltas (is_some older) (cons_option o (RecordsAfter rs)) → Holds b (length b) at (bytes_from c remaining at older (cons_option o (RecordsAfter rs)))
+            → AllByRecursion (IsOutputRecordIn c remaining k) (cons_option o (RecordsAfter rs)) → Deltas (is_some older) (cons_option o (RecordsAfter rs))
+            → Holds b (length b) at (bytes_from c remaining at older (cons_option o (RecordsAfter rs)))
             → Found f (new f) at (written c remaining at older (cons_option o (RecordsAfter rs)))
         by_place true t i later o q s d h =
             let p : r.at ≡ f.at = grind (arith, nat_tests) in
             let rf : r ≡ f = record_one c r f a.0 f_is p in
             let w : output_record_in all whole new f ≡ Some (shown (new f) f) = shown_is f (numbered_at all f.at) (whole f) (new f) no_link output_records in
             let e : o ≡ Some (shown (new f) f) = sym q ∙ (ap (output_record_in all whole new) rf ∙ w) in
-            subst (λ z. Found f (new f) at (written c remaining at older (cons_option z (RecordsAfter rs)))) (sym e) (found_here (new f) (RecordsAfter rs) at older (subst (λ z. Holds b (length b) at (bytes_from c remaining at older (cons_option z (RecordsAfter rs)))) e h))
+            subst (λ z. Found f (new f) at (written c remaining at older (cons_option z (RecordsAfter rs)))) (sym e)
+            (found_here (new f) (RecordsAfter rs) at older (subst (λ z. Holds b (length b) at (bytes_from c remaining at older (cons_option z (RecordsAfter rs)))) e h))
         by_place false t i later None q s d h = later at older (after_first r f rs t i) s d h
         by_place false t i later (Some (Whole x)) q s d h =
             let n : ℕ = length (record_bytes c x) in
             let p = holds_parts b (length b) at (record_bytes c x) (bytes_from c remaining (at + n) older (RecordsAfter rs)) h in
-            found_later (new f) (Whole x) (written c remaining (at + n) older (RecordsAfter rs)) at n older (same_test r.at f.at x.at t (output_record_place all whole new r (Whole x) q)) (later (at + n) older (after_first r f rs t i) s.1 d p.1)
+            found_later (new f) (Whole x) (written c remaining (at + n) older (RecordsAfter rs)) at n older (same_test r.at f.at x.at t (output_record_place all whole new r (Whole x) q))
+            (later (at + n) older (after_first r f rs t i) s.1 d p.1)
         by_place false t i later (Some (Rebuilt x y)) q s d h =
             let n : ℕ = length y in
             let p = holds_parts b (length b) at y (bytes_from c remaining (at + n) older (RecordsAfter rs)) h in
-            found_later (new f) (Rebuilt x y) (written c remaining (at + n) older (RecordsAfter rs)) at n older (same_test r.at f.at x.at t (output_record_place all whole new r (Rebuilt x y) q)) (later (at + n) older (after_first r f rs t i) s.1 d p.1)
+            found_later (new f) (Rebuilt x y) (written c remaining (at + n) older (RecordsAfter rs)) at n older (same_test r.at f.at x.at t (output_record_place all whole new r (Rebuilt x y) q))
+            (later (at + n) older (after_first r f rs t i) s.1 d p.1)
         by_place false t i later (Some (Chained j l)) q s d h =
             let n : ℕ = length (chained_bytes c remaining at older j l) in
             let p = holds_parts b (length b) at (chained_bytes c remaining at older j l) (bytes_from c remaining (at + n) (Some at) (RecordsAfter rs)) h in
-            found_later (new f) (Chained j l) (written c remaining (at + n) (Some at) (RecordsAfter rs)) at n older (same_test r.at f.at l.frame.at t (output_record_place all whole new r (Chained j l) q)) (later (at + n) (Some at) (after_first r f rs t i) s.1 d.1 p.1)
+            found_later (new f) (Chained j l) (written c remaining (at + n) (Some at) (RecordsAfter rs)) at n older
+            (same_test r.at f.at l.frame.at t (output_record_place all whole new r (Chained j l) q)) (later (at + n) (Some at) (after_first r f rs t i) s.1 d.1 p.1)

@@ -40,7 +40,9 @@ free_run f p x y at end from to i j k l e g r =
     let n : length front ≡ g.place - at = range_length x at g.place (omega arith) in
     let m : to - from ≡ end - at = sym (range_length y from to l) ∙ (ap length (sym e) ∙ range_length x at end j) in
     let o : from + length front ≤ to = omega arith in
-    let d : slice_range y from (from + length front) ++ slice_range y (from + length front) to ≡ front ++ rest = sym (range_split y from (from + length front) to (omega arith) o) ∙ (sym e ∙ range_split x at g.place end order within) in
+    let d : slice_range y from (from + length front) ++ slice_range y (from + length front) to ≡ front ++ rest =
+    sym (range_split y from (from + length front) to (omega arith) o) ∙ (sym e ∙ range_split x at g.place end order within) in
     let q : length (slice_range y from (from + length front)) ≡ length front = range_length y from (from + length front) (omega arith) ∙ omega arith in
-    let s : Stands y from (from + length front) front = record { order = omega arith; within = omega arith; bytes = (one_run (slice_range y from (from + length front)) front (slice_range y (from + length front) to) rest d q).0 } in
+    let s : Stands y from (from + length front) front =
+    record { order = omega arith; within = omega arith; bytes = (one_run (slice_range y from (from + length front)) front (slice_range y (from + length front) to) rest d q).0 } in
     (from + length front, exact_run y to l f from (from + length front) front g.value h.exact s o)

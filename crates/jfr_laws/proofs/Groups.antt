@@ -25,7 +25,8 @@ pub groups_stand : (c : List ℕ) (k : Classes) (es : List EntryAt) → AllByRec
 groups_stand c k [] a = tt
 groups_stand c k (e ∷ es) a = added (by_pool es) (groups_stand c k es a.1)
   where
-    by_test : (g : Group) (gs : List Group) (t : Bool) → joins e g ≡ t → IsGroupIn c k g → AllByRecursion (IsGroupIn c k) gs → AllByRecursion (IsGroupIn c k) (if t then joined e g ∷ gs else alone e ∷ (g ∷ gs))
+    by_test : (g : Group) (gs : List Group) (t : Bool) → joins e g ≡ t → IsGroupIn c k g → AllByRecursion (IsGroupIn c k) gs
+        → AllByRecursion (IsGroupIn c k) (if t then joined e g ∷ gs else alone e ∷ (g ∷ gs))
     by_test g gs true h s i = ((s.0, ((a.0, exact_unsigned_eq e.class g.class (right_true (e.pool == g.pool) (e.class == g.class) h)), s.1)), i)
     by_test g gs false h s i = ((a.0.known, ((a.0, refl), tt)), (s, i))
 
@@ -72,7 +73,8 @@ in_front number class [] gs = gs
 in_front number class (f ∷ fs) gs = record { class = class; pool = number; entries = f ∷ fs } ∷ gs
 
 -- The entries of a pool before those of later ones are a group.
-pub by_front : (number class : ℕ) (fs rest : List EntryAt) → AllByRecursion (λ e. (e.pool ≡ number) × (e.class ≡ class)) fs → Apart number (by_pool rest) → by_pool (fs ++ rest) ≡ in_front number class fs (by_pool rest)
+pub by_front : (number class : ℕ) (fs rest : List EntryAt) → AllByRecursion (λ e. (e.pool ≡ number) × (e.class ≡ class)) fs → Apart number (by_pool rest)
+    → by_pool (fs ++ rest) ≡ in_front number class fs (by_pool rest)
 by_front number class [] rest a o = refl
 by_front number class (e ∷ []) rest a o = first (by_pool rest) o
   where

@@ -78,7 +78,8 @@ alone major size pools metadata = record {
   flags = 0;
 }
 
-read_alone : (major size pools metadata : ℕ) → major < 2 ^ 16 → size < 2 ^ 64 → pools < 2 ^ 64 → metadata < 2 ^ 64 → header_of (header_bytes (alone major size pools metadata)) ≡ alone major size pools metadata
+read_alone : (major size pools metadata : ℕ) → major < 2 ^ 16 → size < 2 ^ 64 → pools < 2 ^ 64 → metadata < 2 ^ 64
+    → header_of (header_bytes (alone major size pools metadata)) ≡ alone major size pools metadata
 read_alone major size pools metadata a b d e =
     header_of-bytes (alone major size pools metadata) (record {
       in_major = a;

@@ -26,11 +26,15 @@ entries_itself p (e ∷ es) = (record { class = refl; key = refl; checkpoint = r
 module _ (slim : Option (List ℕ)) (p : Parts) (kept : List EventAt) (a : AreParts p) (are : AreEvents p kept) where
   records_itself : (es : List EventAt) → ((e : EventAt) → In es e → In kept e) → SameRecords p p es es
   records_itself [] i = tt
-  records_itself (e ∷ es) i =
-      (record { class = refl; bytes = refl; agree = agree_on_event p.classes e.record_of.type_id (has_nodes p a).sound (is_event p a kept are e (i e (inl refl))) }, records_itself es (λ f j. i f (inr j)))
+  records_itself (e ∷ es) i = (
+    record { class = refl; bytes = refl; agree = agree_on_event p.classes e.record_of.type_id (has_nodes p a).sound (is_event p a kept are e (i e (inl refl))) },
+    records_itself es
+        (λ f j. i f (inr j)),
+  )
 
   used_marked : (t : ℕ × ℕ) (n : ℕ) → Used p kept t → number_in_force p.entries t ≡ Some n → IsMarked (reached_marks p kept) n
-  used_marked t n u e = (are_reached p kept a are n).0 (record { event = u.event; is_kept = u.is_kept; path = u.path; node = u.node; leads_there = u.leads_there; key = t; refers = u.refers; in_force = e })
+  used_marked t n u e = (are_reached p kept a are n).0
+      (record { event = u.event; is_kept = u.is_kept; path = u.path; node = u.node; leads_there = u.leads_there; key = t; refers = u.refers; in_force = e })
 
   pub same_kept_itself : SameKept slim slim p p kept kept
   unfolding remain

@@ -28,7 +28,8 @@ module _ (c : List ℕ) (remaining : List EntryAt) (k : Classes) (b : List ℕ) 
   is_event r = is_event_class k r.type_id
 
   -- The records of its events have all their fields.
-  fields_each : (ss : List OutputRecord) (at : ℕ) (older : Option ℕ) → AllByRecursion (IsOutputRecordIn c remaining k) ss → AllByRecursion (OnWhole (IfPasses is_event (HasFields c k))) ss → Holds b (length b) at (bytes_from c remaining at older ss)
+  fields_each : (ss : List OutputRecord) (at : ℕ) (older : Option ℕ) → AllByRecursion (IsOutputRecordIn c remaining k) ss → AllByRecursion (OnWhole (IfPasses is_event (HasFields c k))) ss
+      → Holds b (length b) at (bytes_from c remaining at older ss)
       → AllByRecursion (IfPasses is_event (HasFields b k)) (map (new_frame c remaining) (written c remaining at older ss))
   fields_each [] at older s v h = tt
   fields_each (Whole r ∷ ss) at older s v h =
@@ -44,7 +45,8 @@ module _ (c : List ℕ) (remaining : List EntryAt) (k : Classes) (b : List ℕ) 
       let p = holds_parts b (length b) at (chained_bytes c remaining at older i l) (bytes_from c remaining (at + n) (Some at) ss) h in
       ((λ e. absurd (clash (is_event_class k l.frame.type_id) e (no_checkpoint_event k l.frame s.0.0.is_checkpoint))), fields_each ss (at + n) (Some at) s.1 v.1 p.1)
 
-  pub fields_back : (ss : List OutputRecord) (at : ℕ) (older : Option ℕ) → AllByRecursion (IsOutputRecordIn c remaining k) ss → AllByRecursion (OnWhole (IfPasses is_event (HasFields c k))) ss → Holds b (length b) at (bytes_from c remaining at older ss)
+  pub fields_back : (ss : List OutputRecord) (at : ℕ) (older : Option ℕ) → AllByRecursion (IsOutputRecordIn c remaining k) ss → AllByRecursion (OnWhole (IfPasses is_event (HasFields c k))) ss
+      → Holds b (length b) at (bytes_from c remaining at older ss)
       → AllByRecursion (HasFields b k) (event_records k (map (new_frame c remaining) (written c remaining at older ss)))
   fields_back ss at older s v h = passes_all (HasFields b k) is_event (map (new_frame c remaining) (written c remaining at older ss)) (fields_each ss at older s v h)
 
@@ -53,10 +55,12 @@ module _ (c : List ℕ) (remaining : List EntryAt) (k : Classes) (b : List ℕ) 
     abbrev is_whole : Framed → Bool
     is_whole r = is_kept r || (r.at == metadata)
 
-    events_copied : (rs : List Framed) (at : ℕ) (older : Option ℕ) → AllByRecursion (Quiet k all metadata) rs → Holds b (length b) at (bytes_from c remaining at older (output_records_in all is_whole new rs))
+    events_copied : (rs : List Framed) (at : ℕ) (older : Option ℕ) → AllByRecursion (Quiet k all metadata) rs
+        → Holds b (length b) at (bytes_from c remaining at older (output_records_in all is_whole new rs))
         → Each (CopiedRecord c b k) (filter (λ r. is_event r && is_kept r) rs) (filter is_event (map (new_frame c remaining) (written c remaining at older (output_records_in all is_whole new rs))))
     events_copied [] at older a h = tt
-    events_copied (r ∷ rs) at older a h = by_find (numbered_at all r.at) refl (is_event_class k r.type_id) refl (is_kept r) (r.at == metadata) refl (new r) refl (λ at older h. events_copied rs at older a.1 h) h
+    events_copied (r ∷ rs) at older a h = by_find (numbered_at all r.at) refl (is_event_class k r.type_id) refl (is_kept r) (r.at == metadata) refl (new r) refl
+        (λ at older h. events_copied rs at older a.1 h) h
       where
         rest : List OutputRecord
         rest = output_records_in all is_whole new rs
@@ -104,6 +108,8 @@ module _ (c : List ℕ) (remaining : List EntryAt) (k : Classes) (b : List ℕ) 
         by_find None g false i false false j w z later h = later at older h
 
     -- Its event records are the kept ones, in order.
-    pub events_back : (rs : List Framed) (at : ℕ) (older : Option ℕ) → AllByRecursion (Quiet k all metadata) rs → Holds b (length b) at (bytes_from c remaining at older (output_records_in all is_whole new rs))
+    pub events_back : (rs : List Framed) (at : ℕ) (older : Option ℕ) → AllByRecursion (Quiet k all metadata) rs
+        → Holds b (length b) at (bytes_from c remaining at older (output_records_in all is_whole new rs))
         → Each (CopiedRecord c b k) (filter is_kept (event_records k rs)) (event_records k (map (new_frame c remaining) (written c remaining at older (output_records_in all is_whole new rs))))
-    events_back rs at older a h = subst (λ z. Each (CopiedRecord c b k) z (event_records k (map (new_frame c remaining) (written c remaining at older (output_records_in all is_whole new rs))))) (filter_both is_event is_kept rs) (events_copied rs at older a h)
+    events_back rs at older a h = subst (λ z. Each (CopiedRecord c b k) z (event_records k (map (new_frame c remaining) (written c remaining at older (output_records_in all is_whole new rs)))))
+        (filter_both is_event is_kept rs) (events_copied rs at older a h)

@@ -48,7 +48,8 @@ rank_one (false ∷ ms) (suc m) (suc n) a b e = ap (λ z. suc z) (rank_one ms m 
 
 pub marks_size : (p : Parts) (kept : List EventAt) → length (reached_marks p kept) ≡ length p.entries
 unfolding reached_marks
-marks_size p kept = swept_size (next_entries p) (length p.entries) (marked_at (replicate (length p.entries) false) (roots p kept)) ∙ (all_size (replicate (length p.entries) false) (roots p kept) ∙ length-replicate (length p.entries) false)
+marks_size p kept = swept_size (next_entries p) (length p.entries) (marked_at (replicate (length p.entries) false) (roots p kept))
+    ∙ (all_size (replicate (length p.entries) false) (roots p kept) ∙ length-replicate (length p.entries) false)
 
 -- Optional values, and members of lists.
 some_one : (m n : ℕ) → Some m ≡ Some n → m ≡ n
@@ -146,11 +147,13 @@ module _ (p q : Parts) (a : AreParts p) (b : AreParts q) where
     same_number t = copied_force p q here there t copies
 
     used_marked : (t : ℕ × ℕ) (n : ℕ) → Used p kept t → number_in_force p.entries t ≡ Some n → IsMarked marks n
-    used_marked t n u e = (are_reached p kept a these n).0 (record { event = u.event; is_kept = u.is_kept; path = u.path; node = u.node; leads_there = u.leads_there; key = t; refers = u.refers; in_force = e })
+    used_marked t n u e = (are_reached p kept a these n).0
+        (record { event = u.event; is_kept = u.is_kept; path = u.path; node = u.node; leads_there = u.leads_there; key = t; refers = u.refers; in_force = e })
 
     -- The entries in force for what is used have the same rank among those.
     same_rank : (t : ℕ × ℕ) (m n : ℕ) → Used p kept t → number_in_force p.entries t ≡ Some m → number_in_force q.entries t ≡ Some n → rank marks m ≡ rank g.flags n
-    same_rank t m n u e f = some_one (rank marks m) (rank g.flags n) (sym (marked_force marks p.entries t m e (used_marked t m u e)) ∙ (same_number t ∙ marked_force g.flags q.entries t n f (g.no_other t n u f)))
+    same_rank t m n u e f = some_one (rank marks m) (rank g.flags n)
+        (sym (marked_force marks p.entries t m e (used_marked t m u e)) ∙ (same_number t ∙ marked_force g.flags q.entries t n f (g.no_other t n u f)))
 
     -- So the same entry is in force for it in both.
     pub same_entry : (t : ℕ × ℕ) → Used p kept t → SameEntry p q t
@@ -162,7 +165,8 @@ module _ (p q : Parts) (a : AreParts p) (b : AreParts q) where
         values (Some e) None c = absurd c
         values (Some e) (Some f) c = c.value
 
-        by_numbers : (m n : Option ℕ) → number_in_force p.entries t ≡ m → number_in_force q.entries t ≡ n → Both SameValue (option_and_then (λ i. slice_get p.entries i) m) (option_and_then (λ i. slice_get q.entries i) n)
+        by_numbers : (m n : Option ℕ) → number_in_force p.entries t ≡ m → number_in_force q.entries t ≡ n
+            → Both SameValue (option_and_then (λ i. slice_get p.entries i) m) (option_and_then (λ i. slice_get q.entries i) n)
         by_numbers None None e f = tt
         by_numbers (Some m) None e f =
             absurd (some_none (rank marks m) (number_in_force there t) (sym (same_number t) ∙ marked_force marks p.entries t m e (used_marked t m u e)) (none_force g.flags q.entries t f))
@@ -191,7 +195,15 @@ module _ (p q : Parts) (a : AreParts p) (b : AreParts q) where
         let i = contains_in kept u.event u.is_kept in
         let k = right_in EventPair kept others u.event event_pairs i in
         let n = right_of NodePair (leads p u.event.node u.path) (leads q k.0.node u.path) u.node (path_pair u.event k.0 u.path i k.2) u.leads_there in
-        record { event = k.0; is_kept = in_contains others k.0 k.1; path = u.path; node = n.0; leads_there = n.1; refers = sym (pair_target p q (has_nodes p a) (has_nodes q b) u.node n.0 n.2) ∙ u.refers }
+        record {
+          event = k.0;
+          is_kept = in_contains others k.0 k.1;
+          path = u.path;
+          node = n.0;
+          leads_there = n.1;
+          refers = sym (pair_target p q (has_nodes p a) (has_nodes q b) u.node n.0 n.2)
+              ∙ u.refers;
+        }
 
     -- A remaining entry is that of a mark, and in force for what is used.
     record Origin (number : ℕ) : Type 0 where
@@ -246,7 +258,9 @@ module _ (p q : Parts) (a : AreParts p) (b : AreParts q) where
 
     remain_there : remain q others ≡ there
     unfolding remain
-    remain_there = ap (λ z. marked z q.entries) (same_flags (reached_marks q others) g.flags (marks_size q others ∙ sym g.each) (λ n. (λ m. flagged n ((are_reached q others b those n).1 m), λ m. (are_reached q others b those n).0 (reached n m))))
+    remain_there = ap (λ z. marked z q.entries)
+        (same_flags (reached_marks q others) g.flags (marks_size q others ∙ sym g.each)
+        (λ n. (λ m. flagged n ((are_reached q others b those n).1 m), λ m. (are_reached q others b those n).0 (reached n m))))
 
     -- A remaining entry and its counterpart.
     pub record EntryPair (e f : EntryAt) : Type 0 where
@@ -276,8 +290,10 @@ module _ (p q : Parts) (a : AreParts p) (b : AreParts q) where
             let k = right_in EventPair kept others u.event event_pairs i in
             let n = right_of NodePair (leads p u.event.node u.path) (leads q k.0.node u.path) u.node (path_pair u.event k.0 u.path i k.2) u.leads_there in
             let t : target q.classes q.bytes n.0 ≡ Some o.key = sym (pair_target p q (has_nodes p a) (has_nodes q b) u.node n.0 n.2) ∙ u.refers in
-            let both = follow_pair p q (has_nodes p a) (has_nodes q b) u.node n.0 n.2 (λ w v. same_entry w (record { event = u.event; is_kept = u.is_kept; path = u.path; node = u.node; leads_there = u.leads_there; refers = v })) in
-            both_some NodePair (follow p u.node) (follow q n.0) (entry_node e) (entry_node f) both (follow_is p (has_nodes p a) u.node o.key e u.refers in_p) (follow_is q (has_nodes q b) n.0 o.key f t in_q)
+            let both = follow_pair p q (has_nodes p a) (has_nodes q b) u.node n.0 n.2
+            (λ w v. same_entry w (record { event = u.event; is_kept = u.is_kept; path = u.path; node = u.node; leads_there = u.leads_there; refers = v })) in
+            both_some NodePair (follow p u.node) (follow q n.0) (entry_node e) (entry_node f) both (follow_is p (has_nodes p a) u.node o.key e u.refers in_p)
+            (follow_is q (has_nodes q b) n.0 o.key f t in_q)
 
     related_from : (es fs : List EntryAt) → SameEntries p q es fs → ((e : EntryAt) → In es e → In (remain p kept) e)
         → ((number : ℕ) (e f : EntryAt) → slice_get es number ≡ Some e → slice_get fs number ≡ Some f → NodePair (entry_node e) (entry_node f)) → Related EntryPair es fs

@@ -39,7 +39,8 @@ last_joined l [] = refl
 last_joined l (m ∷ ls) = refl
 
 module _ (c : List ℕ) (remaining : List EntryAt) where
-  pub length_back : (k : Classes) (ss : List OutputRecord) (at : ℕ) (older : Option ℕ) → AllByRecursion (IsOutputRecordIn c remaining k) ss → Deltas (is_some older) ss → length (bytes_from c remaining at older ss) ≤ sizes ss
+  pub length_back : (k : Classes) (ss : List OutputRecord) (at : ℕ) (older : Option ℕ) → AllByRecursion (IsOutputRecordIn c remaining k) ss → Deltas (is_some older) ss
+      → length (bytes_from c remaining at older ss) ≤ sizes ss
   length_back k [] at older s d = omega arith
   length_back k (Whole r ∷ ss) at older s d =
       let n : ℕ = length (record_bytes c r) in
@@ -105,11 +106,13 @@ module _ (c : List ℕ) (remaining : List EntryAt) where
       none x xs e = cc
 
 -- What stays is no larger than the records.
-pub sizes_within : (c : List ℕ) (all : List Numbered) (whole : Framed → Bool) (new : Framed → Option (List ℕ)) → AllByRecursion (λ (m : Numbered). IsRecord c m.1.frame) all → (rs : List Framed) (p q : ℕ) → Tiles c p rs q → sizes (output_records_in all whole new rs) + p ≤ q
+pub sizes_within : (c : List ℕ) (all : List Numbered) (whole : Framed → Bool) (new : Framed → Option (List ℕ)) → AllByRecursion (λ (m : Numbered). IsRecord c m.1.frame) all
+    → (rs : List Framed) (p q : ℕ) → Tiles c p rs q → sizes (output_records_in all whole new rs) + p ≤ q
 sizes_within c all whole new a [] p q t = let e : p ≡ q = t in omega arith
 sizes_within c all whole new a (r ∷ rs) p q t = by_find (numbered_at all r.at) refl (whole r) (new r) (sizes_within c all whole new a rs (record_end r) q t.2)
   where
-    by_find : (o : Option Numbered) → numbered_at all r.at ≡ o → (u : Bool) (w : Option (List ℕ)) → sizes (output_records_in all whole new rs) + record_end r ≤ q → sizes (cons_option (output_record_by o u w r) (output_records_in all whole new rs)) + p ≤ q
+    by_find : (o : Option Numbered) → numbered_at all r.at ≡ o → (u : Bool) (w : Option (List ℕ)) → sizes (output_records_in all whole new rs) + record_end r ≤ q
+        → sizes (cons_option (output_record_by o u w r) (output_records_in all whole new rs)) + p ≤ q
     by_find (Some l) e u w i =
         let f = found_numbered (λ (m : Numbered). IsRecord c m.1.frame) all r.at l a e in
         let h : l.1.frame ≡ r = record_one c l.1.frame r f.0 t.1 f.1 in

@@ -95,7 +95,8 @@ described_same b d k s e =
     (sym (λ i. described (record { start = s.start i; duration = s.duration i; id = s.id i; strings = s.strings i; root = b.root })) ∙ e)
 
 -- A metadata record that is copied describes the same classes.
-pub metadata_copied : (c b : List ℕ) (r : Framed) (at : ℕ) (d : Body) (k : Classes) → IsRecord c r → Holds b (length b) at (record_bytes c r) → IsMetadata c r d k → (m : Body) × IsMetadata b (copied_to c at r) m k × SameBody d m
+pub metadata_copied : (c b : List ℕ) (r : Framed) (at : ℕ) (d : Body) (k : Classes) → IsRecord c r → Holds b (length b) at (record_bytes c r) → IsMetadata c r d k
+    → (m : Body) × IsMetadata b (copied_to c at r) m k × SameBody d m
 unfolding meta_format
 metadata_copied c b r at d k s h m =
     let p = reads_parted body_format (λ m. Stop (Done m)) c (record_end r) r.body d (record_end r) m.body in
@@ -105,5 +106,6 @@ metadata_copied c b r at d k s h m =
     let l : length (record_bytes c r) ≡ r.size = record_length c r s in
     let end : ℕ = at + length (record_bytes c r) in
     let t : at + (p.place - r.at) ≡ end = omega arith in
-    let read = reads_then body_format (λ m. Stop (Done m)) b end (at + (r.body - r.at)) i.value end i.value end (subst (Reads body_format b end (at + (r.body - r.at)) i.value) t i.reads) (omega arith, (refl, refl)) in
+    let read = reads_then body_format (λ m. Stop (Done m)) b end (at + (r.body - r.at)) i.value end i.value end (subst (Reads body_format b end (at + (r.body - r.at)) i.value) t i.reads)
+    (omega arith, (refl, refl)) in
     (i.value, record { body = read; classes = described_same p.value i.value k i.related (ap described (sym e) ∙ m.classes) }, subst (λ z. SameBody z i.value) (sym e) i.related)

@@ -97,11 +97,13 @@ module _ (c : List ℕ) (all : List Numbered) (whole : Framed → Bool) (new : F
       by_test true (Some x) = refl
       by_test false o = refl
 
-  output_record_some : (r : Framed) (rs : List Framed) (x : Numbered) → numbered_at all r.at ≡ Some x → chained_of (output_records_in all whole new (r ∷ rs)) ≡ x ∷ chained_of (output_records_in all whole new rs)
+  output_record_some : (r : Framed) (rs : List Framed) (x : Numbered) → numbered_at all r.at ≡ Some x
+      → chained_of (output_records_in all whole new (r ∷ rs)) ≡ x ∷ chained_of (output_records_in all whole new rs)
   output_record_some r rs x e = ap (λ o. chained_of (cons_option (output_record_by o (whole r) (new r) r) (output_records_in all whole new rs))) e
 
   -- The links that are done are before the records that are left, and those to do are among them.
-  pub in_order : (rs : List Framed) (p q : ℕ) (done todo : List Numbered) → Tiles c p rs q → all ≡ done ++ todo → Low p done → Rising p todo → AllOccur rs todo → chained_of (output_records_in all whole new rs) ≡ todo
+  pub in_order : (rs : List Framed) (p q : ℕ) (done todo : List Numbered) → Tiles c p rs q → all ≡ done ++ todo → Low p done → Rising p todo → AllOccur rs todo
+      → chained_of (output_records_in all whole new rs) ≡ todo
   in_order [] p q done [] t e a b o = refl
   in_order [] p q done (x ∷ todo) t e a b o = absurd o.0
   in_order (r ∷ rs) p q done [] t e a b o =
@@ -139,7 +141,8 @@ module _ (c : List ℕ) (all : List Numbered) (whole : Framed → Bool) (new : F
           let z : x.1.frame.at ≡ r.at = omega arith in
           let v = occur_after r rs (x.1.frame.at + 1) todo (omega arith) b.1 o.1 in
           let w : numbered_at all r.at ≡ Some x = ap (λ z. numbered_at z r.at) e ∙ (after_low r.at p done (x ∷ todo) (omega arith) a ∙ found z) in
-          output_record_some r rs x w ∙ ap (λ ts. x ∷ ts) (g (low_append (record_end r) done x (low_more p (record_end r) done (omega arith) a) (omega arith)) (all_after todo v (x.1.frame.at + 1) b.1) v)
+          output_record_some r rs x w ∙ ap (λ ts. x ∷ ts)
+          (g (low_append (record_end r) done x (low_more p (record_end r) done (omega arith) a) (omega arith)) (all_after todo v (x.1.frame.at + 1) b.1) v)
         where
           found : x.1.frame.at ≡ r.at → numbered_at (x ∷ todo) r.at ≡ Some x
           found z = let k : (x.1.frame.at == r.at) ≡ true = grind (arith, nat_tests) in rw k refl

@@ -57,7 +57,8 @@ pub filled_same : (g h : Option ℕ → List ℕ) (u v : ℕ → List ToldPool) 
 filled_same g h u v e f [] = refl
 filled_same g h u v e f (OfEvent i ∷ bs) = ap (λ z. Event z ∷ map (filled g u) bs) (e i) ∙ ap (λ z. Event (h i) ∷ z) (filled_same g h u v e f bs)
 filled_same g h u v e f (OfMetadata x ∷ bs) = ap (λ z. Metadata x ∷ z) (filled_same g h u v e f bs)
-filled_same g h u v e f (OfCheckpoint n k ∷ bs) = ap (λ z. Checkpoint (record k { pools = z }) ∷ map (filled g u) bs) (f n) ∙ ap (λ z. Checkpoint (record k { pools = v n }) ∷ z) (filled_same g h u v e f bs)
+filled_same g h u v e f (OfCheckpoint n k ∷ bs) =
+    ap (λ z. Checkpoint (record k { pools = z }) ∷ map (filled g u) bs) (f n) ∙ ap (λ z. Checkpoint (record k { pools = v n }) ∷ z) (filled_same g h u v e f bs)
 
 -- The first event whose record starts at an offset, and its number.
 record First (at n : ℕ) (es : List EventAt) : Type 0 where
@@ -75,11 +76,20 @@ first_at at n (e ∷ es) h = by_test (e.record_of.at == at) refl h (first_at at 
     some_same : (i j : ℕ) → i ≡ j → Some i ≡ Some j
     some_same i j e = ap (λ z. Some z) e
 
-    by_test : (t : Bool) → (e.record_of.at == at) ≡ t → (t || list_any (λ e. e.record_of.at == at) es) ≡ true → (list_any (λ e. e.record_of.at == at) es ≡ true → First at (n + 1) es) → First at n (e ∷ es)
+    by_test : (t : Bool) → (e.record_of.at == at) ≡ t → (t || list_any (λ e. e.record_of.at == at) es) ≡ true → (list_any (λ e. e.record_of.at == at) es ≡ true → First at (n + 1) es)
+        → First at n (e ∷ es)
     by_test true q h f = record { number = 0; event = e; there = refl; counted = rw q (some_same n (n + 0) (omega arith)); found = rw q refl; test = q }
     by_test false q h f =
         let s = f h in
-        record { number = suc s.number; event = s.event; there = s.there; counted = rw q (s.counted ∙ some_same (n + 1 + s.number) (n + suc s.number) (omega arith)); found = rw q s.found; test = s.test }
+        record {
+          number = suc s.number;
+          event = s.event;
+          there = s.there;
+          counted = rw q (s.counted ∙ some_same (n + 1 + s.number) (n + suc s.number) (omega arith));
+          found = rw q s.found;
+          test =
+              s.test;
+        }
 
 no_metadata_event : (p : Parts) → is_event_class p.classes 0 ≡ false
 unfolding is_event_class
@@ -126,8 +136,10 @@ module _ (slim : Option (List ℕ)) (p : Parts) (a : AreParts p) (kept : List Ev
           let f = found_in (λ e. e.record_of.at == r.at) kept x e in
           let q : x.record_of.at ≡ r.at = (let t : (x.record_of.at == r.at) ≡ true = f.1 in grind (arith, nat_tests)) in
           let y : r.at ≡ metadata_at p.bytes = grind (arith, nat_tests) in
-          let k : x.record_of ≡ a.metadata_record = record_one p.bytes x.record_of a.metadata_record (stands x.record_of (event_of_chunk p a kept are x f.0).listed) (metadata_stands p a) (q ∙ (y ∙ sym a.metadata_there.place)) in
-          let u : is_event_class p.classes x.record_of.type_id ≡ false = ap (λ (z : Framed). is_event_class p.classes z.type_id) k ∙ (ap (is_event_class p.classes) a.metadata_there.type_is ∙ no_metadata_event p) in
+          let k : x.record_of ≡ a.metadata_record =
+          record_one p.bytes x.record_of a.metadata_record (stands x.record_of (event_of_chunk p a kept are x f.0).listed) (metadata_stands p a) (q ∙ (y ∙ sym a.metadata_there.place)) in
+          let u : is_event_class p.classes x.record_of.type_id ≡ false =
+          ap (λ (z : Framed). is_event_class p.classes z.type_id) k ∙ (ap (is_event_class p.classes) a.metadata_there.type_is ∙ no_metadata_event p) in
           absurd (not_both (is_event_class p.classes x.record_of.type_id) (is_event p a kept are x f.0) u)
 
   either_from : (rs : List Framed) → AllByRecursion (IsRecord p.bytes) rs → AllByRecursion IsEither (filter_map (output_record_of slim p kept) rs)

@@ -48,7 +48,8 @@ entries_by_number remaining ts = flat_map (λ (m : Numbered). filter (λ e. e.ch
 
 module _ (c : List ℕ) (remaining : List EntryAt) (k : Classes) (b : List ℕ) where
   -- Its records cover it.
-  pub tiles_back : (ss : List OutputRecord) (at : ℕ) (older : Option ℕ) → AllByRecursion (IsOutputRecordIn c remaining k) ss → Deltas (is_some older) ss → Holds b (length b) at (bytes_from c remaining at older ss)
+  pub tiles_back : (ss : List OutputRecord) (at : ℕ) (older : Option ℕ) → AllByRecursion (IsOutputRecordIn c remaining k) ss → Deltas (is_some older) ss
+      → Holds b (length b) at (bytes_from c remaining at older ss)
       → Tiles b at (map (new_frame c remaining) (written c remaining at older ss)) (at + length (bytes_from c remaining at older ss))
   tiles_back [] at older s d h = omega arith
   tiles_back (Whole r ∷ ss) at older s d h =
@@ -69,7 +70,8 @@ module _ (c : List ℕ) (remaining : List EntryAt) (k : Classes) (b : List ℕ) 
       (refl, m.record_stands, subst (Tiles b (at + n) (map (new_frame c remaining) (written c remaining (at + n) (Some at) ss))) (chained_length c remaining j l ss at older) i)
 
   -- Its checkpoints are linked.
-  pub linked_back : (rs : List Framed) → length b < 2 ^ 63 → (ss : List OutputRecord) (done : List Framed) (at : ℕ) (older : Option ℕ) → AllByRecursion (IsOutputRecordIn c remaining k) ss → Deltas (is_some older) ss → Before older at
+  pub linked_back : (rs : List Framed) → length b < 2 ^ 63 → (ss : List OutputRecord) (done : List Framed) (at : ℕ) (older : Option ℕ) → AllByRecursion (IsOutputRecordIn c remaining k) ss
+      → Deltas (is_some older) ss → Before older at
       → Holds b (length b) at (bytes_from c remaining at older ss) → rs ≡ done ++ map (new_frame c remaining) (written c remaining at older ss) → Linked b rs older (new_links c remaining at older ss)
   linked_back rs small [] done at older s d o h e = tt
   linked_back rs small (Whole r ∷ ss) done at older s d o h e =
@@ -100,7 +102,8 @@ module _ (c : List ℕ) (remaining : List EntryAt) (k : Classes) (b : List ℕ) 
       steps (Some z) o i = step_delta at z o i
 
   -- Its entries are read.
-  pub entries_back : (ss : List OutputRecord) (j at : ℕ) (older : Option ℕ) → AllByRecursion (IsOutputRecordIn c remaining k) ss → Deltas (is_some older) ss → Holds b (length b) at (bytes_from c remaining at older ss)
+  pub entries_back : (ss : List OutputRecord) (j at : ℕ) (older : Option ℕ) → AllByRecursion (IsOutputRecordIn c remaining k) ss → Deltas (is_some older) ss
+      → Holds b (length b) at (bytes_from c remaining at older ss)
       → AreEntries b k j (new_links c remaining at older ss) (new_entries c remaining k j at older ss)
   entries_back [] j at older s d h = refl
   entries_back (Whole r ∷ ss) j at older s d h =
@@ -118,7 +121,8 @@ module _ (c : List ℕ) (remaining : List EntryAt) (k : Classes) (b : List ℕ) 
       (new_pools c remaining k at older i l, m.pools_stand, new_entries c remaining k (j + 1) (at + n) (Some at) ss, refl, entries_back ss (j + 1) (at + n) (Some at) s.1 d.1 p.1)
 
   -- They are those that are left, checkpoint by checkpoint.
-  pub entries_same_back : (ss : List OutputRecord) (ls : List Link) (j at : ℕ) (older : Option ℕ) → AllByRecursion (IsOutputRecordIn c remaining k) ss → Deltas (is_some older) ss → Holds b (length b) at (bytes_from c remaining at older ss)
+  pub entries_same_back : (ss : List OutputRecord) (ls : List Link) (j at : ℕ) (older : Option ℕ) → AllByRecursion (IsOutputRecordIn c remaining k) ss → Deltas (is_some older) ss
+      → Holds b (length b) at (bytes_from c remaining at older ss)
       → chained_of ss ≡ enumerate_from j ls → Each (IsCopy c b) (entries_by_number remaining (chained_of ss)) (new_entries c remaining k j at older ss)
   entries_same_back [] ls j at older s d h o = tt
   entries_same_back (Whole r ∷ ss) ls j at older s d h o =
@@ -140,7 +144,8 @@ module _ (c : List ℕ) (remaining : List EntryAt) (k : Classes) (b : List ℕ) 
       let q = first_equal i j l m (chained_of ss) (enumerate_from (j + 1) ls) o in
       let gs : List Group = groups_of remaining i in
       let these : List EntryAt = filter (λ e. e.checkpoint == i) remaining in
-      let nums : AllByRecursion (λ e. e.checkpoint ≡ j) (flat_map (λ g. g.entries) gs) = subst (AllByRecursion (λ e. e.checkpoint ≡ j)) (sym (groups_hold these)) (subst (λ z. AllByRecursion (λ e. e.checkpoint ≡ z) these) q.0 (have_number i remaining)) in
+      let nums : AllByRecursion (λ e. e.checkpoint ≡ j) (flat_map (λ g. g.entries) gs) =
+      subst (AllByRecursion (λ e. e.checkpoint ≡ j)) (sym (groups_hold these)) (subst (λ z. AllByRecursion (λ e. e.checkpoint ≡ z) these) q.0 (have_number i remaining)) in
       let g = groups_same c k b (record_end (new_link c remaining at older i l).frame) j gs 0 (new_place c remaining at older i l) s.0.1 nums st.held in
       each_append (IsCopy c b) these (entries_from j 0 (new_pools c remaining k at older i l)) (entries_by_number remaining (chained_of ss)) (new_entries c remaining k (j + 1) (at + n) (Some at) ss)
       (subst (λ z. Each (IsCopy c b) z (entries_from j 0 (new_pools c remaining k at older i l))) (groups_hold these) g) (entries_same_back ss ls (j + 1) (at + n) (Some at) s.1 d.1 p.1 q.1)

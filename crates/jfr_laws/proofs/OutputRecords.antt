@@ -89,18 +89,22 @@ module _ (c : List ℕ) (remaining : List EntryAt) where
         → length (checkpoint_tail c l (distance at older) (groups_of remaining i)) + (l.frame.type_at - l.frame.at) ≤ l.frame.size
     chained_fits i l at older s d = tail_small c l (distance at older) (groups_of remaining i) s.0 (room l s.0 at older d) s.2
 
-    pub chained_small : (i : ℕ) (l : Link) (at : ℕ) (older : Option ℕ) → IsOutputRecordIn (Chained i l) → (is_some older ≡ true → l.delta_end ≡ l.delta_at + 9) → length (chained_bytes at older i l) ≤ l.frame.size
+    pub chained_small : (i : ℕ) (l : Link) (at : ℕ) (older : Option ℕ) → IsOutputRecordIn (Chained i l) → (is_some older ≡ true → l.delta_end ≡ l.delta_at + 9)
+        → length (chained_bytes at older i l) ≤ l.frame.size
     chained_small i l at older s d = checkpoint_small c l (distance at older) (groups_of remaining i) s.0.record_stands (chained_fits i l at older s d)
 
-    pub chained_stands : (b : List ℕ) (i : ℕ) (l : Link) (at : ℕ) (older : Option ℕ) → IsOutputRecordIn (Chained i l) → (is_some older ≡ true → l.delta_end ≡ l.delta_at + 9) → Holds b (length b) at (chained_bytes at older i l)
+    pub chained_stands : (b : List ℕ) (i : ℕ) (l : Link) (at : ℕ) (older : Option ℕ) → IsOutputRecordIn (Chained i l) → (is_some older ≡ true → l.delta_end ≡ l.delta_at + 9)
+        → Holds b (length b) at (chained_bytes at older i l)
         → CheckpointStands k b (new_link at older i l) (new_pools at older i l) (new_place at older i l) (flat_map (group_bytes c) (groups_of remaining i))
     chained_stands b i l at older s d h = checkpoint_stands c k b l (distance at older) at (groups_of remaining i) s.0 s.1 (chained_fits i l at older s d) h
 
   -- What is written for the first, and the rest after it.
-  pub whole_length : (r : Framed) (ss : List OutputRecord) (at : ℕ) (older : Option ℕ) → at + length (record_bytes c r) + length (bytes_from (at + length (record_bytes c r)) older ss) ≡ at + length (bytes_from at older (Whole r ∷ ss))
+  pub whole_length : (r : Framed) (ss : List OutputRecord) (at : ℕ) (older : Option ℕ)
+      → at + length (record_bytes c r) + length (bytes_from (at + length (record_bytes c r)) older ss) ≡ at + length (bytes_from at older (Whole r ∷ ss))
   whole_length r ss at older = omega (arith, length-append (record_bytes c r) (bytes_from (at + length (record_bytes c r)) older ss))
 
-  pub rebuilt_length : (r : Framed) (x : List ℕ) (ss : List OutputRecord) (at : ℕ) (older : Option ℕ) → at + length x + length (bytes_from (at + length x) older ss) ≡ at + length (bytes_from at older (Rebuilt r x ∷ ss))
+  pub rebuilt_length : (r : Framed) (x : List ℕ) (ss : List OutputRecord) (at : ℕ) (older : Option ℕ)
+      → at + length x + length (bytes_from (at + length x) older ss) ≡ at + length (bytes_from at older (Rebuilt r x ∷ ss))
   rebuilt_length r x ss at older = omega (arith, length-append x (bytes_from (at + length x) older ss))
 
   pub chained_length : (i : ℕ) (l : Link) (ss : List OutputRecord) (at : ℕ) (older : Option ℕ)

@@ -15,7 +15,8 @@ pub if_passes : {X : Type 0} (P : X → Type 0) (test : X → Bool) (xs : List X
 if_passes P test [] a = tt
 if_passes {X = X} P test (x ∷ xs) a = by_test (test x) refl (if_passes P test xs) a
   where
-    by_test : (t : Bool) → test x ≡ t → (AllByRecursion P (filter test xs) → AllByRecursion (IfPasses test P) xs) → AllByRecursion P (if t then x ∷ filter test xs else filter test xs) → IfPasses test P x × AllByRecursion (IfPasses test P) xs
+    by_test : (t : Bool) → test x ≡ t → (AllByRecursion P (filter test xs) → AllByRecursion (IfPasses test P) xs) → AllByRecursion P (if t then x ∷ filter test xs else filter test xs)
+        → IfPasses test P x × AllByRecursion (IfPasses test P) xs
     by_test true e f a = ((λ h. a.0), f a.1)
     by_test false e f a = ((λ h. absurd (clash (test x) h e)), f a)
 
@@ -32,7 +33,8 @@ pub filter_both : {X : Type 0} (q t : X → Bool) (xs : List X) → filter (λ x
 filter_both q t [] = refl
 filter_both q t (x ∷ xs) = by_test (q x) (t x) refl (filter_both q t xs)
   where
-    by_test : (u v : Bool) → t x ≡ v → filter (λ x. q x && t x) xs ≡ filter t (filter q xs) → (if u && v then x ∷ filter (λ x. q x && t x) xs else filter (λ x. q x && t x) xs) ≡ filter t (if u then x ∷ filter q xs else filter q xs)
+    by_test : (u v : Bool) → t x ≡ v → filter (λ x. q x && t x) xs ≡ filter t (filter q xs)
+        → (if u && v then x ∷ filter (λ x. q x && t x) xs else filter (λ x. q x && t x) xs) ≡ filter t (if u then x ∷ filter q xs else filter q xs)
     by_test true true e i = rw e (ap (λ z. x ∷ z) i)
     by_test true false e i = rw e i
     by_test false v e i = i

@@ -79,7 +79,8 @@ module _ (R : EntryAt → EntryAt → Type 0) where
         by_groups [] = (refl, refl)
         by_groups (g ∷ gs) = by_test ((e.pool == g.pool) && (e.class == g.class)) refl
           where
-            by_test : (t : Bool) → ((e.pool == g.pool) && (e.class == g.class)) ≡ t → HeadOf (e ∷ es) (if t then record { class = g.class; pool = g.pool; entries = e ∷ g.entries } ∷ gs else record { class = e.class; pool = e.pool; entries = e ∷ [] } ∷ (g ∷ gs))
+            by_test : (t : Bool) → ((e.pool == g.pool) && (e.class == g.class)) ≡ t
+                → HeadOf (e ∷ es) (if t then record { class = g.class; pool = g.pool; entries = e ∷ g.entries } ∷ gs else record { class = e.class; pool = e.pool; entries = e ∷ [] } ∷ (g ∷ gs))
             by_test true h = let k = both_true (e.pool == g.pool) (e.class == g.class) h in (equal_of e.pool g.pool k.0, equal_of e.class g.class k.1)
             by_test false h = (refl, refl)
 
@@ -91,7 +92,8 @@ module _ (R : EntryAt → EntryAt → Type 0) where
     added_alike e f gs hs r s true false q g h c m = cc
     added_alike e f gs hs r s false true q g h c m = cc
 
-    same_test : (e f d w : EntryAt) (g h : Group) → (e.pool == d.pool) ≡ (f.pool == w.pool) → e.class ≡ f.class → d.class ≡ w.class → g.pool ≡ d.pool → g.class ≡ d.class → h.pool ≡ w.pool → h.class ≡ w.class
+    same_test : (e f d w : EntryAt) (g h : Group) → (e.pool == d.pool) ≡ (f.pool == w.pool) → e.class ≡ f.class → d.class ≡ w.class → g.pool ≡ d.pool → g.class ≡ d.class → h.pool ≡ w.pool
+        → h.class ≡ w.class
         → ((e.pool == g.pool) && (e.class == g.class)) ≡ ((f.pool == h.pool) && (f.class == h.class))
     same_test e f d w g h p c k gp gc hp hc =
         (λ i. (e.pool == gp i) && (c i == gc i)) ∙ ((λ i. p i && (f.class == k i)) ∙ (λ i. (f.pool == sym hp i) && (f.class == sym hc i)))

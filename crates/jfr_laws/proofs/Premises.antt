@@ -89,11 +89,13 @@ OnWhole P (Whole r) = P r
 OnWhole P (Chained i l) = ⊤
 OnWhole P (Rebuilt r x) = ⊤
 
-pub on_whole : (P : Framed → Type 0) (all : List Numbered) (whole : Framed → Bool) (new : Framed → Option (List ℕ)) (rs : List Framed) → AllByRecursion P rs → AllByRecursion (OnWhole P) (output_records_in all whole new rs)
+pub on_whole : (P : Framed → Type 0) (all : List Numbered) (whole : Framed → Bool) (new : Framed → Option (List ℕ)) (rs : List Framed) → AllByRecursion P rs
+    → AllByRecursion (OnWhole P) (output_records_in all whole new rs)
 on_whole P all whole new [] a = tt
 on_whole P all whole new (r ∷ rs) a = one (numbered_at all r.at) (whole r) (new r) (on_whole P all whole new rs a.1)
   where
-    one : (o : Option Numbered) (t : Bool) (w : Option (List ℕ)) → AllByRecursion (OnWhole P) (output_records_in all whole new rs) → AllByRecursion (OnWhole P) (cons_option (output_record_by o t w r) (output_records_in all whole new rs))
+    one : (o : Option Numbered) (t : Bool) (w : Option (List ℕ)) → AllByRecursion (OnWhole P) (output_records_in all whole new rs)
+        → AllByRecursion (OnWhole P) (cons_option (output_record_by o t w r) (output_records_in all whole new rs))
     one (Some l) t w i = (tt, i)
     one None true None i = (a.0, i)
     one None true (Some x) i = (tt, i)
@@ -109,17 +111,20 @@ OnAnew c (Rebuilt r x) = IsRecord c r × IsRecord x (own_frame x) × (length x �
 abbrev pub GoodAnew : List ℕ → (Framed → Option (List ℕ)) → Type 0
 GoodAnew c new = (r : Framed) (x : List ℕ) → IsRecord c r → new r ≡ Some x → IsRecord x (own_frame x) × (length x ≤ r.size)
 
-on_anew : (c : List ℕ) (all : List Numbered) (whole : Framed → Bool) (new : Framed → Option (List ℕ)) → GoodAnew c new → (rs : List Framed) → AllByRecursion (IsRecord c) rs → AllByRecursion (OnAnew c) (output_records_in all whole new rs)
+on_anew : (c : List ℕ) (all : List Numbered) (whole : Framed → Bool) (new : Framed → Option (List ℕ)) → GoodAnew c new → (rs : List Framed) → AllByRecursion (IsRecord c) rs
+    → AllByRecursion (OnAnew c) (output_records_in all whole new rs)
 on_anew c all whole new g [] a = tt
 on_anew c all whole new g (r ∷ rs) a = one (numbered_at all r.at) (whole r) (new r) refl (on_anew c all whole new g rs a.1)
   where
-    one : (o : Option Numbered) (t : Bool) (w : Option (List ℕ)) → new r ≡ w → AllByRecursion (OnAnew c) (output_records_in all whole new rs) → AllByRecursion (OnAnew c) (cons_option (output_record_by o t w r) (output_records_in all whole new rs))
+    one : (o : Option Numbered) (t : Bool) (w : Option (List ℕ)) → new r ≡ w → AllByRecursion (OnAnew c) (output_records_in all whole new rs)
+        → AllByRecursion (OnAnew c) (cons_option (output_record_by o t w r) (output_records_in all whole new rs))
     one (Some l) t w q i = (tt, i)
     one None true None q i = (tt, i)
     one None true (Some x) q i = (let h = g r x a.0 q in ((a.0, h.0, h.1), i))
     one None false w q i = i
 
-output_records_stand : (c : List ℕ) (remaining : List EntryAt) (k : Classes) (ss : List OutputRecord) → AllByRecursion (OnWhole (IsRecord c)) ss → AllByRecursion (OnAnew c) ss → AllByRecursion (CanOutputRecord c k remaining) (chained_of ss) → AllByRecursion (IsOutputRecordIn c remaining k) ss
+output_records_stand : (c : List ℕ) (remaining : List EntryAt) (k : Classes) (ss : List OutputRecord) → AllByRecursion (OnWhole (IsRecord c)) ss → AllByRecursion (OnAnew c) ss
+    → AllByRecursion (CanOutputRecord c k remaining) (chained_of ss) → AllByRecursion (IsOutputRecordIn c remaining k) ss
 output_records_stand c remaining k [] a w d = tt
 output_records_stand c remaining k (Whole r ∷ ss) a w d = (a.0, output_records_stand c remaining k ss a.1 w.1 d)
 output_records_stand c remaining k (Rebuilt r x ∷ ss) a w d = (w.0, output_records_stand c remaining k ss a.1 w.1 d)
@@ -147,7 +152,8 @@ module _ (p : Parts) (a : AreParts p) where
   pub chained_checkpoints : AllByRecursion (IsCheckpoint p.bytes) (all_links p)
   chained_checkpoints = checkpoints_stand p.bytes p.records 0 (reverse p.chain) standing_links
 
-  pub ready : (whole : Framed → Bool) (new : Framed → Option (List ℕ)) → GoodAnew p.bytes new → (marks : List Bool) → Ready p (marked marks p.entries) (output_records_in (all_links p) whole new p.records)
+  pub ready : (whole : Framed → Bool) (new : Framed → Option (List ℕ)) → GoodAnew p.bytes new → (marks : List Bool)
+      → Ready p (marked marks p.entries) (output_records_in (all_links p) whole new p.records)
   ready whole new g marks =
       let c : List ℕ = p.bytes in
       let ls : List Link = reverse p.chain in
@@ -159,6 +165,7 @@ module _ (p : Parts) (a : AreParts p) where
       let can = checkpoints_can c p.classes p.records marks ls p.entries standing_links a.entries in
       record {
         order = order;
-        valid = output_records_stand c remaining p.classes ss (on_whole (IsRecord c) (all_links p) whole new p.records recorded) (on_anew c (all_links p) whole new g p.records recorded) (subst (AllByRecursion (CanOutputRecord c p.classes remaining)) (sym order) can);
+        valid = output_records_stand c remaining p.classes ss (on_whole (IsRecord c) (all_links p) whole new p.records recorded) (on_anew c (all_links p) whole new g p.records recorded)
+            (subst (AllByRecursion (CanOutputRecord c p.classes remaining)) (sym order) can);
         deltas = deltas_of false ss (subst (Nines false) (sym order) (nines c p.classes remaining p.records ls can linked));
       }

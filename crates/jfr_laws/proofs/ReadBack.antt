@@ -79,7 +79,8 @@ module _ (c : List ℕ) (k : Classes) (b : List ℕ) (end : ℕ) where
       let f : e.value_at ≡ e.key_at + m = omega arith in
       let key : IntAt b at (at + m) e.key = copy_int c b e.key_at at m e.key held.key (subst (λ q. IntAt c e.key_at q e.key) f s.key) in
       let read : Reads (value_format k (inline e.class)) b end (at + m) s.value (at + size_of e) =
-      exact_reads (value_format k (inline e.class)) b end (at + m) (at + size_of e) (slice_range c e.value_at e.end) s.value s.exact (record { order = omega arith; within = omega arith; bytes = sym held.value }) l y in
+      exact_reads (value_format k (inline e.class)) b end (at + m) (at + size_of e) (slice_range c e.value_at e.end) s.value s.exact
+      (record { order = omega arith; within = omega arith; bytes = sym held.value }) l y in
       let constant : Value → Constant = λ v. record { key = e.key; key_at = at; value_at = at + m; end = at + size_of e; value = v } in
       let same : placed c k at e ≡ constant s.value = ap constant (value_there c k e s.value j s.within s.exact) in
       subst (λ d. Reads (constant_format k d) b end at (placed c k at e) (at + size_of e)) w (
@@ -88,7 +89,8 @@ module _ (c : List ℕ) (k : Classes) (b : List ℕ) (end : ℕ) where
         key,
         omega arith,
         refl,
-        reads_then (value_format k (inline e.class)) (λ value. Here λ to. Done (record { key = e.key; key_at = at; value_at = at + m; end = to; value = value })) b end (at + m) s.value (at + size_of e) (placed c k at e) (at + size_of e)
+        reads_then (value_format k (inline e.class)) (λ value. Here λ to. Done (record { key = e.key; key_at = at; value_at = at + m; end = to; value = value })) b end (at + m) s.value
+            (at + size_of e) (placed c k at e) (at + size_of e)
             read (same, refl),
       )
 
@@ -96,7 +98,8 @@ module _ (c : List ℕ) (k : Classes) (b : List ℕ) (end : ℕ) where
   group_reads : (g : Group) (at : ℕ) → IsGroupIn c k g → Holds b end at (group_bytes c g) → Reads (pool_format k) b end at (placed_group c k at g) (at + length (group_bytes c g))
   group_reads g at s h = pool_read (entry_bytes c) (placed c k) (λ e. IsEntryIn c k e × (e.class ≡ g.class)) k b end g.class at g.entries one s.0 s.1 h
     where
-      one : (e : EntryAt) (at : ℕ) → IsEntryIn c k e × (e.class ≡ g.class) → Holds b end at (entry_bytes c e) → Reads (constant_format k g.class) b end at (placed c k at e) (at + length (entry_bytes c e))
+      one : (e : EntryAt) (at : ℕ) → IsEntryIn c k e × (e.class ≡ g.class) → Holds b end at (entry_bytes c e)
+          → Reads (constant_format k g.class) b end at (placed c k at e) (at + length (entry_bytes c e))
       one e at s h = let l : length (entry_bytes c e) ≡ size_of e = entry_length c k e s.0 in rw l (entry_reads e g.class at s.0 s.1 h)
 
   -- Pools, one after another.
@@ -151,7 +154,15 @@ module _ (c : List ℕ) (l : Link) (delta : ℕ) (gs : List Group) where
         type = x;
         head = y;
         kind = z;
-        whole = omega (arith, length-append t (h ++ (d ++ (kind ++ (n ++ p)))), length-append h (d ++ (kind ++ (n ++ p))), length-append d (kind ++ (n ++ p)), length-append kind (n ++ p), length-append n p);
+        whole = omega (
+          arith,
+          length-append t (h ++ (d ++ (kind ++ (n ++ p)))),
+          length-append h (d ++ (kind ++ (n ++ p))),
+          length-append d (kind ++ (n ++ p)),
+          length-append kind
+              (n ++ p),
+          length-append n p,
+        );
       }
 
   -- With a delta and pools that take no more room than before, it is no longer.
@@ -231,9 +242,12 @@ checkpoint_held c b l delta at gs s small h =
     let count_at : ℕ = kind_at + 1 in
     let whole : Holds b end at (size_bytes ++ tail) = holds_narrow b (length b) at end (size_bytes ++ tail) (omega arith) h.within h in
     let p0 = holds_parts b end at size_bytes tail whole in
-    let p1 = holds_parts b end type_at type_bytes (head_bytes ++ (delta_bytes ++ (kind_bytes ++ (count_bytes ++ pool_bytes)))) (holds_at b end (at + length size_bytes) type_at tail (omega (arith, w.size)) p0.1) in
-    let p2 = holds_parts b end body head_bytes (delta_bytes ++ (kind_bytes ++ (count_bytes ++ pool_bytes))) (holds_at b end (type_at + length type_bytes) body (head_bytes ++ (delta_bytes ++ (kind_bytes ++ (count_bytes ++ pool_bytes)))) (omega (arith, t.type)) p1.1) in
-    let p3 = holds_parts b end delta_at delta_bytes (kind_bytes ++ (count_bytes ++ pool_bytes)) (holds_at b end (body + length head_bytes) delta_at (delta_bytes ++ (kind_bytes ++ (count_bytes ++ pool_bytes))) (omega (arith, t.head)) p2.1) in
+    let p1 = holds_parts b end type_at type_bytes (head_bytes ++ (delta_bytes ++ (kind_bytes ++ (count_bytes ++ pool_bytes))))
+    (holds_at b end (at + length size_bytes) type_at tail (omega (arith, w.size)) p0.1) in
+    let p2 = holds_parts b end body head_bytes (delta_bytes ++ (kind_bytes ++ (count_bytes ++ pool_bytes)))
+    (holds_at b end (type_at + length type_bytes) body (head_bytes ++ (delta_bytes ++ (kind_bytes ++ (count_bytes ++ pool_bytes)))) (omega (arith, t.type)) p1.1) in
+    let p3 = holds_parts b end delta_at delta_bytes (kind_bytes ++ (count_bytes ++ pool_bytes))
+    (holds_at b end (body + length head_bytes) delta_at (delta_bytes ++ (kind_bytes ++ (count_bytes ++ pool_bytes))) (omega (arith, t.head)) p2.1) in
     let p4 = holds_parts b end kind_at kind_bytes (count_bytes ++ pool_bytes) p3.1 in
     let p5 = holds_parts b end count_at count_bytes pool_bytes (holds_at b end (kind_at + length kind_bytes) count_at (count_bytes ++ pool_bytes) (omega (arith, t.kind)) p4.1) in
     record { size = p0.0; type = p1.0; head = p2.0; word = p3.0; kind = p4.0; count = p5.0; pools = p5.1 }
@@ -275,10 +289,12 @@ checkpoint_stands c k b l delta at gs s gss small h =
     let q = holds_parts b end body start_bytes duration_bytes (subst (Holds b end body) (range_split c f.body s.middle l.delta_at a3 a4) p.head) in
     -- The integers that they spell.
     let size_int : IntAt b at type_at all =
-    subst (λ n. IntAt b at type_at n) (sym w.whole) (subst (λ n. IntAt b at n (f.type_at - f.at + length tail)) (ap (λ n. at + n) w.size) (holds_int b end at size_bytes (f.type_at - f.at + length tail) p.size w.spelled)) in
+    subst (λ n. IntAt b at type_at n) (sym w.whole)
+    (subst (λ n. IntAt b at n (f.type_at - f.at + length tail)) (ap (λ n. at + n) w.size) (holds_int b end at size_bytes (f.type_at - f.at + length tail) p.size w.spelled)) in
     let type_int = holds_range_int c b f.type_at f.body f.type_id end type_at body s.record_stands.type_spelled p.type (omega arith) in
     let start_int = holds_range_int c b f.body s.middle s.start end body middle s.start_spelled q.0 (omega arith) in
-    let duration_int = holds_range_int c b s.middle l.delta_at s.duration end middle delta_at s.duration_spelled (holds_at b end (body + length start_bytes) middle duration_bytes (omega arith) q.1) (omega arith) in
+    let duration_int = holds_range_int c b s.middle l.delta_at s.duration end middle delta_at s.duration_spelled (holds_at b end (body + length start_bytes) middle duration_bytes (omega arith) q.1)
+    (omega arith) in
     let delta_int : IntAt b delta_at kind_at delta = holds_int b end delta_at delta_bytes delta p.word (spell_spells delta) in
     let count_int : IntAt b count_at place count = holds_int b end count_at count_bytes count p.count (spell_spells count) in
     -- The pools, and the end after them.
@@ -289,7 +305,8 @@ checkpoint_stands c k b l delta at gs s gss small h =
     let e2 : place ≤ end = p.count.within in
     let ends : place + length pool_bytes ≡ end = omega (arith, w.whole, t.whole) in
     let stopped : Reads (times count (pool_format k) >>= λ pools. Stop (Done pools)) b end place pools end =
-    reads_then (times count (pool_format k)) (λ pools. Stop (Done pools)) b end place pools end pools end (subst (Reads (times count (pool_format k)) b end place pools) ends read) (omega arith, (refl, refl)) in
+    reads_then (times count (pool_format k)) (λ pools. Stop (Done pools)) b end place pools end pools end (subst (Reads (times count (pool_format k)) b end place pools) ends read)
+    (omega arith, (refl, refl)) in
     record {
       held = p.pools;
       record_stands = record { size_spelled = size_int; type_spelled = type_int.0; covers = type_int.1; within = h.within };

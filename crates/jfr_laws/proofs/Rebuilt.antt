@@ -81,7 +81,8 @@ anew_only slim p r x e = by_test (r.at == metadata_at p.bytes) slim e
     by_test false o e = cc
 
 -- Those that pass two tests, one of which can be changed.
-pub same_both : (test one two : Framed → Bool) (rs : List Framed) → ((r : Framed) → In rs r → test r ≡ true → (one r ≡ true) × (two r ≡ true)) → filter test (filter one rs) ≡ filter test (filter two rs)
+pub same_both : (test one two : Framed → Bool) (rs : List Framed) → ((r : Framed) → In rs r → test r ≡ true → (one r ≡ true) × (two r ≡ true))
+    → filter test (filter one rs) ≡ filter test (filter two rs)
 same_both test one two [] f = refl
 same_both test one two (r ∷ rs) f = by_tests (test r) refl (one r) refl (two r) refl (same_both test one two rs (λ x i t. f x (inr i) t)) (f r (inl refl))
   where
@@ -105,7 +106,8 @@ kept_is_event p a kept are m suits r i t =
     let e = any_in (λ (e : EventAt). e.record_of.at == r.at) kept t in
     let v = event_is p a e.0 (contains_in (events_of p) e.0 (All-contains (Contains (events_of p)) kept e.0 are (in_contains kept e.0 e.1))) in
     let q : e.0.record_of.at ≡ r.at = (let u : (e.0.record_of.at == r.at) ≡ true = e.2 in grind (arith, nat_tests)) in
-    let g : e.0.record_of ≡ r = record_one p.bytes e.0.record_of r (all_in (IsRecord p.bytes) p.records e.0.record_of (recorded p a) v.listed) (all_in (IsRecord p.bytes) p.records r (recorded p a) i) q in
+    let g : e.0.record_of ≡ r = record_one p.bytes e.0.record_of r (all_in (IsRecord p.bytes) p.records e.0.record_of (recorded p a) v.listed)
+    (all_in (IsRecord p.bytes) p.records r (recorded p a) i) q in
     let h : is_event_class m r.type_id ≡ true = subst (λ (z : Framed). is_event_class m z.type_id ≡ true) g (suits.event e.0 e.1) in
     (h, suits.before r.type_id h)
 
@@ -177,7 +179,8 @@ module _ (slim : Option (List ℕ)) (p : Parts) (a : AreParts p) (kept : List Ev
 
     fields : AllByRecursion (HasFields b m) (event_records m rs)
     fields =
-        let f = if_passes (HasFields p.bytes p.classes) (λ r. is_event_class p.classes r.type_id) p.records (recursion_from_All (HasFields p.bytes p.classes) (event_records p.classes p.records) a.events) in
+        let f = if_passes (HasFields p.bytes p.classes) (λ r. is_event_class p.classes r.type_id) p.records
+        (recursion_from_All (HasFields p.bytes p.classes) (event_records p.classes p.records) a.events) in
         fields_back p.bytes remaining m b (output_records slim p kept) 68 None holds
         (on_whole (IfPasses is_event (HasFields p.bytes m)) (all_links p) (is_kept_or_metadata p kept) (written_anew slim p) p.records (passes_too p.records f)) s.held
 
@@ -209,11 +212,13 @@ module _ (slim : Option (List ℕ)) (p : Parts) (a : AreParts p) (kept : List Ev
     entries_copied =
         let r = is_ready slim p kept marks a good in
         let same = entries_same_back p.bytes remaining m b (output_records slim p kept) (reverse p.chain) 0 68 None holds r.deltas s.held r.order in
-        let e : entries_by_number remaining (chained_of (output_records slim p kept)) ≡ remaining = ap (entries_by_number remaining) r.order ∙ all_numbers p.bytes p.classes marks (reverse p.chain) p.entries a.entries in
+        let e : entries_by_number remaining (chained_of (output_records slim p kept)) ≡ remaining =
+        ap (entries_by_number remaining) r.order ∙ all_numbers p.bytes p.classes marks (reverse p.chain) p.entries a.entries in
         subst (λ z. Each (IsCopy p.bytes b) z (entries slim p kept marks m)) e same
 
     -- The event records are copies of the kept ones.
     pub records_copied : Each (CopiedRecord p.bytes b m) (filter (is_kept kept) (event_records p.classes p.records)) (event_records m rs)
     records_copied =
-        subst (λ z. Each (CopiedRecord p.bytes b m) z (event_records m rs)) (same_both (is_kept kept) (λ r. is_event_class m r.type_id) (λ r. is_event_class p.classes r.type_id) p.records (kept_is_event p a kept are m suits))
+        subst (λ z. Each (CopiedRecord p.bytes b m) z (event_records m rs))
+        (same_both (is_kept kept) (λ r. is_event_class m r.type_id) (λ r. is_event_class p.classes r.type_id) p.records (kept_is_event p a kept are m suits))
         (events_back p.bytes remaining m b (all_links p) (is_kept kept) (written_anew slim p) (metadata_at p.bytes) (anew_only slim p) p.records 68 None (quiet_records p a m) s.held)

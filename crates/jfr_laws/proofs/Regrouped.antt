@@ -47,7 +47,8 @@ module _ (checkpoint : ℕ) where
   pools_grouped number [] a = refl
   pools_grouped number (p ∷ ps) a =
       let rest : List EntryAt = entries_from checkpoint (number + 1) ps in
-      by_front number p.class (map (entry_of checkpoint number p.class) p.constants) rest (of_pool checkpoint number p.class p.constants) (apart number rest (later_pools checkpoint number (number + 1) ps (omega arith)))
+      by_front number p.class (map (entry_of checkpoint number p.class) p.constants) rest (of_pool checkpoint number p.class p.constants)
+      (apart number rest (later_pools checkpoint number (number + 1) ps (omega arith)))
       ∙ (front p.constants a.0 (by_pool rest) ∙ ap (λ z. group_at number p ∷ z) (pools_grouped (number + 1) ps a.1))
     where
       front : (xs : List Constant) → NotEmpty xs → (gs : List Group)

@@ -91,7 +91,8 @@ module _ (texts : List (List ℕ)) where
   stay_bare : (ts : List Tree) (k : Classes) (used : ℕ → Bool) (id : ℕ) → stay_of texts (map bare ts) k used id ≡ stay_of texts ts k used id
   stay_bare ts k used id = ap (λ m. option_map_or (is_marked m) (class_index k id) false) (marks_bare ts k used)
 
-  pub stay_root : (root : Tree) (k : Classes) (used : ℕ → Bool) (id : ℕ) → option_map_or (λ ts. stay_of texts ts k used id) (class_elements texts (bare root)) false ≡ option_map_or (λ ts. stay_of texts ts k used id) (class_elements texts root) false
+  pub stay_root : (root : Tree) (k : Classes) (used : ℕ → Bool) (id : ℕ)
+      → option_map_or (λ ts. stay_of texts ts k used id) (class_elements texts (bare root)) false ≡ option_map_or (λ ts. stay_of texts ts k used id) (class_elements texts root) false
   stay_root root k used id = ap (λ o. option_map_or (λ ts. stay_of texts ts k used id) o false) (elements_bare texts root) ∙ by_one (class_elements texts root)
     where
       by_one : (o : Option (List Tree)) → option_map_or (λ ts. stay_of texts ts k used id) (option_map (map bare) o) false ≡ option_map_or (λ ts. stay_of texts ts k used id) o false
@@ -106,12 +107,15 @@ module _ (texts : List (List ℕ)) where
     holder_bare : (t : Tree) → slim_holder texts stays (bare t) ≡ bare (slim_holder texts stays t)
     holder_bare (Node place name pairs children) =
         ap (λ z. Node 0 name pairs (trees_of (filter (element_is_needed texts stays) z))) (children_bare (Node place name pairs children))
-        ∙ (ap (λ z. Node 0 name pairs (trees_of z)) (filter_bare (element_is_needed texts stays) element_bare (list_of children)) ∙ sym (ap (λ z. Node 0 name pairs z) (bares_of (filter (element_is_needed texts stays) (list_of children)))))
+        ∙ (ap (λ z. Node 0 name pairs (trees_of z)) (filter_bare (element_is_needed texts stays) element_bare (list_of children))
+        ∙ sym (ap (λ z. Node 0 name pairs z) (bares_of (filter (element_is_needed texts stays) (list_of children)))))
 
-    changed_bare : (ts : List Tree) → first_changed (is_named texts (codes "metadata")) (slim_holder texts stays) (map bare ts) ≡ map bare (first_changed (is_named texts (codes "metadata")) (slim_holder texts stays) ts)
+    changed_bare : (ts : List Tree)
+        → first_changed (is_named texts (codes "metadata")) (slim_holder texts stays) (map bare ts) ≡ map bare (first_changed (is_named texts (codes "metadata")) (slim_holder texts stays) ts)
     changed_bare [] = refl
     changed_bare (t ∷ ts) =
-        ap (λ z. if z then slim_holder texts stays (bare t) ∷ map bare ts else bare t ∷ first_changed (is_named texts (codes "metadata")) (slim_holder texts stays) (map bare ts)) (is_named_bare (codes "metadata") t)
+        ap (λ z. if z then slim_holder texts stays (bare t) ∷ map bare ts else bare t ∷ first_changed (is_named texts (codes "metadata")) (slim_holder texts stays) (map bare ts))
+        (is_named_bare (codes "metadata") t)
         ∙ by_test (is_named texts (codes "metadata") t) (changed_bare ts)
       where
         by_test : (u : Bool) → first_changed (is_named texts (codes "metadata")) (slim_holder texts stays) (map bare ts) ≡ map bare (first_changed (is_named texts (codes "metadata")) (slim_holder texts stays) ts)
@@ -124,7 +128,8 @@ module _ (texts : List (List ℕ)) where
     unfolding slim_root
     slim_bare (Node place name pairs children) =
         ap (λ z. Node 0 name pairs (trees_of (first_changed (is_named texts (codes "metadata")) (slim_holder texts stays) z))) (children_bare (Node place name pairs children))
-        ∙ (ap (λ z. Node 0 name pairs (trees_of z)) (changed_bare (list_of children)) ∙ sym (ap (λ z. Node 0 name pairs z) (bares_of (first_changed (is_named texts (codes "metadata")) (slim_holder texts stays) (list_of children)))))
+        ∙ (ap (λ z. Node 0 name pairs (trees_of z)) (changed_bare (list_of children))
+        ∙ sym (ap (λ z. Node 0 name pairs z) (bares_of (first_changed (is_named texts (codes "metadata")) (slim_holder texts stays) (list_of children)))))
 
     table_bare : (t : Tree) → table_of texts (bare t) ≡ table_of texts t
     unfolding table_of
@@ -150,7 +155,8 @@ pub record SameBytes (b d : Body) : Type 0 where
   pub strings : b.strings ≡ d.strings
 
 abbrev bytes_with : ℕ → ℕ → ℕ → List (List ℕ) → List ℕ → List ℕ
-bytes_with start duration id strings tree = let body = spell start ++ (spell duration ++ (spell id ++ (spell (length strings) ++ (flat_map text_bytes strings ++ tree)))) in spell_in 5 (6 + length body) ++ (0 ∷ body)
+bytes_with start duration id strings tree = let body =
+    spell start ++ (spell duration ++ (spell id ++ (spell (length strings) ++ (flat_map text_bytes strings ++ tree)))) in spell_in 5 (6 + length body) ++ (0 ∷ body)
 
 pub same_slim : (b d : Body) (s t : ℕ → Bool) → SameBody b d → s ≡ t → SameBytes (slim_body b s) (slim_body d t)
 unfolding slim_body

@@ -64,7 +64,8 @@ pub record Rewritten (at : ℕ) (older : Option ℕ) (bytes : List ℕ) (last : 
   pub placed : AllByRecursion IsPlaced (written b remaining at older ss)
 
 -- The first record, and those after it.
-whole_then : (at : ℕ) (older : Option ℕ) (x bytes : List ℕ) (last : ℕ) (b : List ℕ) (remaining : List EntryAt) (r : Framed) (ss : List OutputRecord) → r.at ≡ at → record_bytes b r ≡ x → Rewritten (at + length x) older bytes last b remaining ss
+whole_then : (at : ℕ) (older : Option ℕ) (x bytes : List ℕ) (last : ℕ) (b : List ℕ) (remaining : List EntryAt) (r : Framed) (ss : List OutputRecord) → r.at ≡ at → record_bytes b r ≡ x
+    → Rewritten (at + length x) older bytes last b remaining ss
     → Rewritten at older (x ++ bytes) last b remaining (Whole r ∷ ss)
 whole_then at older x bytes last b remaining r ss p e i =
     let j : Rewritten (at + length (record_bytes b r)) older bytes last b remaining ss = subst (λ z. Rewritten (at + length z) older bytes last b remaining ss) (sym e) i in
@@ -74,7 +75,8 @@ whole_then at older x bytes last b remaining r ss p e i =
     last_of None e = e
     last_of (Some o) e = e
 
-rebuilt_then : (at : ℕ) (older : Option ℕ) (x bytes : List ℕ) (last : ℕ) (b : List ℕ) (remaining : List EntryAt) (r : Framed) (ss : List OutputRecord) → r.at ≡ at → Rewritten (at + length x) older bytes last b remaining ss
+rebuilt_then : (at : ℕ) (older : Option ℕ) (x bytes : List ℕ) (last : ℕ) (b : List ℕ) (remaining : List EntryAt) (r : Framed) (ss : List OutputRecord) → r.at ≡ at
+    → Rewritten (at + length x) older bytes last b remaining ss
     → Rewritten at older (x ++ bytes) last b remaining (Rebuilt r x ∷ ss)
 rebuilt_then at older x bytes last b remaining r ss p j = record { same = ap (λ z. x ++ z) j.same; last_same = last_of older j.last_same; placed = (p, j.placed) }
   where
@@ -82,20 +84,23 @@ rebuilt_then at older x bytes last b remaining r ss p j = record { same = ap (λ
     last_of None e = e
     last_of (Some o) e = e
 
-chained_then : (at : ℕ) (older : Option ℕ) (x bytes : List ℕ) (last : ℕ) (b : List ℕ) (remaining : List EntryAt) (i : ℕ) (l : Link) (ss : List OutputRecord) → l.frame.at ≡ at → chained_bytes b remaining at older i l ≡ x
+chained_then : (at : ℕ) (older : Option ℕ) (x bytes : List ℕ) (last : ℕ) (b : List ℕ) (remaining : List EntryAt) (i : ℕ) (l : Link) (ss : List OutputRecord) → l.frame.at ≡ at
+    → chained_bytes b remaining at older i l ≡ x
     → Rewritten (at + length x) (Some at) bytes last b remaining ss → Rewritten at older (x ++ bytes) last b remaining (Chained i l ∷ ss)
 chained_then at older x bytes last b remaining i l ss p e h =
     let n : ℕ = length (chained_bytes b remaining at older i l) in
     let j : Rewritten (at + n) (Some at) bytes last b remaining ss = subst (λ z. Rewritten (at + length z) (Some at) bytes last b remaining ss) (sym e) h in
     record { same = (λ k. e k ++ j.same k); last_same = last_of older n j.last_same; placed = (p, j.placed) }
   where
-    last_of : (older : Option ℕ) (n : ℕ) → newest_at (Some at) (written b remaining (at + n) (Some at) ss) ≡ last → newest_at older (record { output_record = Chained i l; at = at; newest = older } ∷ written b remaining (at + n) (Some at) ss) ≡ last
+    last_of : (older : Option ℕ) (n : ℕ) → newest_at (Some at) (written b remaining (at + n) (Some at) ss) ≡ last
+        → newest_at older (record { output_record = Chained i l; at = at; newest = older } ∷ written b remaining (at + n) (Some at) ss) ≡ last
     last_of None n e = e
     last_of (Some o) n e = e
 
 module _ (c : List ℕ) (remaining : List EntryAt) (k : Classes) (b : List ℕ) (all : List EntryAt) where
   -- The groups of a checkpoint's entries, between those of others.
-  groups_block : (j : ℕ) (before later : List EntryAt) (i : ℕ) (l : Link) (at : ℕ) (older : Option ℕ) → all ≡ before ++ (entries_from j 0 (new_pools c remaining k at older i l) ++ later) → NotOf j before → NotOf j later
+  groups_block : (j : ℕ) (before later : List EntryAt) (i : ℕ) (l : Link) (at : ℕ) (older : Option ℕ) → all ≡ before ++ (entries_from j 0 (new_pools c remaining k at older i l) ++ later)
+      → NotOf j before → NotOf j later
       → groups_of all j ≡ groups_at j 0 (new_pools c remaining k at older i l)
   groups_block j before later i l at older e a d =
       let gs : List Group = groups_of remaining i in
@@ -105,7 +110,8 @@ module _ (c : List ℕ) (remaining : List EntryAt) (k : Classes) (b : List ℕ) 
       ∙ pools_grouped j 0 (new_pools c remaining k at older i l) (some_placed j c k gs (new_place c remaining at older i l) (some_each (filter (λ e. e.checkpoint == i) remaining))))
 
   -- What is left is written again unchanged, with all entries.
-  pub rewritten : (ss : List OutputRecord) (j at : ℕ) (older : Option ℕ) (before : List EntryAt) → AllByRecursion (IsOutputRecordIn c remaining k) ss → Deltas (is_some older) ss → Holds b (length b) at (bytes_from c remaining at older ss)
+  pub rewritten : (ss : List OutputRecord) (j at : ℕ) (older : Option ℕ) (before : List EntryAt) → AllByRecursion (IsOutputRecordIn c remaining k) ss → Deltas (is_some older) ss
+      → Holds b (length b) at (bytes_from c remaining at older ss)
       → all ≡ before ++ new_entries c remaining k j at older ss → ((n : ℕ) → j ≤ n → NotOf n before)
       → Rewritten at older (bytes_from c remaining at older ss) (newest_at older (written c remaining at older ss)) b all (new_output_records c remaining j at older ss)
   rewritten [] j at None before s d h e a = record { same = refl; last_same = refl; placed = tt }
@@ -115,7 +121,8 @@ module _ (c : List ℕ) (remaining : List EntryAt) (k : Classes) (b : List ℕ) 
       let p = holds_parts b (length b) at (record_bytes c r) (bytes_from c remaining (at + n) older ss) h in
       let i = rewritten ss j (at + n) older before s.1 d p.1 e a in
       subst (λ z. Rewritten at older (bytes_from c remaining at older (Whole r ∷ ss)) z b all (new_output_records c remaining j at older (Whole r ∷ ss))) (last_of older)
-      (whole_then at older (record_bytes c r) (bytes_from c remaining (at + n) older ss) (newest_at older (written c remaining (at + n) older ss)) b all (copied_to c at r) (new_output_records c remaining j (at + n) older ss) refl p.0.bytes i)
+      (whole_then at older (record_bytes c r) (bytes_from c remaining (at + n) older ss) (newest_at older (written c remaining (at + n) older ss)) b all (copied_to c at r)
+      (new_output_records c remaining j (at + n) older ss) refl p.0.bytes i)
     where
       last_of : (older : Option ℕ) → newest_at older (written c remaining (at + length (record_bytes c r)) older ss) ≡ newest_at older (written c remaining at older (Whole r ∷ ss))
       last_of None = refl
@@ -125,7 +132,8 @@ module _ (c : List ℕ) (remaining : List EntryAt) (k : Classes) (b : List ℕ) 
       let p = holds_parts b (length b) at x (bytes_from c remaining (at + n) older ss) h in
       let i = rewritten ss j (at + n) older before s.1 d p.1 e a in
       subst (λ z. Rewritten at older (bytes_from c remaining at older (Rebuilt r x ∷ ss)) z b all (new_output_records c remaining j at older (Rebuilt r x ∷ ss))) (last_of older)
-      (rebuilt_then at older x (bytes_from c remaining (at + n) older ss) (newest_at older (written c remaining (at + n) older ss)) b all (moved_frame at (own_frame x) n) (new_output_records c remaining j (at + n) older ss) refl i)
+      (rebuilt_then at older x (bytes_from c remaining (at + n) older ss) (newest_at older (written c remaining (at + n) older ss)) b all (moved_frame at (own_frame x) n)
+      (new_output_records c remaining j (at + n) older ss) refl i)
     where
       last_of : (older : Option ℕ) → newest_at older (written c remaining (at + length x) older ss) ≡ newest_at older (written c remaining at older (Rebuilt r x ∷ ss))
       last_of None = refl
@@ -139,16 +147,19 @@ module _ (c : List ℕ) (remaining : List EntryAt) (k : Classes) (b : List ℕ) 
       let behind = entries_back c remaining k b ss (j + 1) (at + n) (Some at) s.1 d.1 p.1 in
       let g : groups_of all j ≡ groups_at j 0 (new_pools c remaining k at older i l) =
       groups_block j before later i l at older e (a j (omega arith)) (later_numbers b k j (j + 1) (new_links c remaining (at + n) (Some at) ss) later (omega arith) behind) in
-      let more : (n : ℕ) → j + 1 ≤ n → NotOf n (before ++ block) = λ n o. all_append (λ e. (e.checkpoint == n) ≡ false) before block (a n (omega arith)) (others j n block (λ q. omega arith) (of_number j 0 (new_pools c remaining k at older i l))) in
+      let more : (n : ℕ) → j + 1 ≤ n → NotOf n (before ++ block) =
+      λ n o. all_append (λ e. (e.checkpoint == n) ≡ false) before block (a n (omega arith)) (others j n block (λ q. omega arith) (of_number j 0 (new_pools c remaining k at older i l))) in
       let r = rewritten ss (j + 1) (at + n) (Some at) (before ++ block) s.1 d.1 p.1 (e ∙ sym (append_assoc before block later)) more in
       let st = chained_stands c remaining k b i l at older s.0 d.0 p.0 in
       let x : checkpoint_bytes b (new_link c remaining at older i l) (distance at older) (groups_at j 0 (new_pools c remaining k at older i l)) ≡ chained_bytes c remaining at older i l =
       checkpoint_again c b l (distance at older) at gs (groups_at j 0 (new_pools c remaining k at older i l)) s.0.0 (chained_fits c remaining k i l at older s.0 d.0) p.0
       (groups_many j c k gs 0 (new_place c remaining at older i l)) (groups_again j c k b (at + n) gs 0 (new_place c remaining at older i l) s.0.1 st.held) in
       subst (λ z. Rewritten at older (bytes_from c remaining at older (Chained i l ∷ ss)) z b all (new_output_records c remaining j at older (Chained i l ∷ ss))) (last_of older)
-      (chained_then at older (chained_bytes c remaining at older i l) (bytes_from c remaining (at + n) (Some at) ss) (newest_at (Some at) (written c remaining (at + n) (Some at) ss)) b all j (new_link c remaining at older i l) (new_output_records c remaining (j + 1) (at + n) (Some at) ss) refl
+      (chained_then at older (chained_bytes c remaining at older i l) (bytes_from c remaining (at + n) (Some at) ss) (newest_at (Some at) (written c remaining (at + n) (Some at) ss)) b all j
+      (new_link c remaining at older i l) (new_output_records c remaining (j + 1) (at + n) (Some at) ss) refl
       (ap (checkpoint_bytes b (new_link c remaining at older i l) (distance at older)) g ∙ x) r)
     where
-      last_of : (older : Option ℕ) → newest_at (Some at) (written c remaining (at + length (chained_bytes c remaining at older i l)) (Some at) ss) ≡ newest_at older (written c remaining at older (Chained i l ∷ ss))
+      last_of : (older : Option ℕ)
+          → newest_at (Some at) (written c remaining (at + length (chained_bytes c remaining at older i l)) (Some at) ss) ≡ newest_at older (written c remaining at older (Chained i l ∷ ss))
       last_of None = refl
       last_of (Some o) = refl

@@ -33,7 +33,8 @@ of_pool checkpoint number class (x ∷ xs) = ((refl, refl), of_pool checkpoint n
 pub later_pools : (checkpoint before number : ℕ) (pools : List PoolAt) → before < number → AllByRecursion (λ e. before < e.pool) (entries_from checkpoint number pools)
 later_pools checkpoint before number [] h = tt
 later_pools checkpoint before number (p ∷ ps) h =
-    all_append (λ e. before < e.pool) (map (entry_of checkpoint number p.class) p.constants) (entries_from checkpoint (number + 1) ps) (these p.constants) (later_pools checkpoint before (number + 1) ps (omega arith))
+    all_append (λ e. before < e.pool) (map (entry_of checkpoint number p.class) p.constants) (entries_from checkpoint (number + 1) ps) (these p.constants)
+    (later_pools checkpoint before (number + 1) ps (omega arith))
   where
     these : (xs : List Constant) → AllByRecursion (λ e. before < e.pool) (map (entry_of checkpoint number p.class) xs)
     these [] = tt
@@ -72,7 +73,8 @@ module _ (c : List ℕ) (k : Classes) where
     pub bytes : length (flat_map (group_bytes c) gs) + at ≤ to
 
   -- A pool's group, if it has one, before those of later pools.
-  with_front : (number at : ℕ) (p : PoolAt) (m : ℕ) (ps : List PoolAt) (to : ℕ) → (s : PoolStands c k at p m) → (fs : List EntryAt) → length fs ≤ length p.constants → length (flat_map (entry_bytes c) fs) + s.first ≤ m
+  with_front : (number at : ℕ) (p : PoolAt) (m : ℕ) (ps : List PoolAt) (to : ℕ) → (s : PoolStands c k at p m) → (fs : List EntryAt) → length fs ≤ length p.constants
+      → length (flat_map (entry_bytes c) fs) + s.first ≤ m
       → (gs : List Group) → HaveRoom m ps to gs → HaveRoom at (p ∷ ps) to (in_front number p.class fs gs)
   with_front number at p m ps to s [] f b gs i =
       let x : at ≤ s.count_at = s.class.order in
@@ -92,7 +94,8 @@ module _ (c : List ℕ) (k : Classes) where
       record { count = omega (arith, i.count); bytes = omega (arith, i.bytes) }
 
   -- The groups of the marked entries of pools fit in the bytes of the pools.
-  pub have_room : (checkpoint number at : ℕ) (pools : List PoolAt) (to : ℕ) (marks : List Bool) → ArePools c k at pools to → HaveRoom at pools to (by_pool (marked marks (entries_from checkpoint number pools)))
+  pub have_room : (checkpoint number at : ℕ) (pools : List PoolAt) (to : ℕ) (marks : List Bool) → ArePools c k at pools to
+      → HaveRoom at pools to (by_pool (marked marks (entries_from checkpoint number pools)))
   have_room checkpoint number at [] to marks s = none marks
     where
       none : (marks : List Bool) → HaveRoom at [] to (by_pool (marked marks []))

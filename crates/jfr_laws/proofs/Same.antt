@@ -39,7 +39,8 @@ event_records_of p a =
 -- Chosen events are events.
 pub chosen_events : (p : Parts) (flags : List Bool) → AreEvents p (kept_by p flags)
 chosen_events p flags =
-    All-from_recursion (Contains (events_of p)) (kept_by p flags) (all_marked (Contains (events_of p)) flags (events_of p) (recursion_from_All (Contains (events_of p)) (events_of p) (All-contains_itself (events_of p))))
+    All-from_recursion (Contains (events_of p)) (kept_by p flags)
+    (all_marked (Contains (events_of p)) flags (events_of p) (recursion_from_All (Contains (events_of p)) (events_of p) (All-contains_itself (events_of p))))
 
 pub event_of_chunk : (p : Parts) (a : AreParts p) (kept : List EventAt) → AreEvents p kept → (e : EventAt) → In kept e → IsEvent p e
 event_of_chunk p a kept k e i = event_is p a e (contains_in (events_of p) e (All-contains (Contains (events_of p)) kept e k (in_contains kept e i)))
@@ -54,7 +55,8 @@ unfolding remain
 all_remain p a reached = all_output_record (reached_marks p (events_of p)) p.entries (λ n h. (are_reached p (events_of p) a (All-contains_itself (events_of p)) n).0 (reached n h))
 
 -- Copied records are those of the same events.
-same_records : (p q : Parts) (es fs : List EventAt) → ((id : ℕ) → is_event_class q.classes id ≡ true → Agree p.classes q.classes id) → Each (CopiedRecord p.bytes q.bytes q.classes) (records_of es) (records_of fs) → SameRecords p q es fs
+same_records : (p q : Parts) (es fs : List EventAt) → ((id : ℕ) → is_event_class q.classes id ≡ true → Agree p.classes q.classes id)
+    → Each (CopiedRecord p.bytes q.bytes q.classes) (records_of es) (records_of fs) → SameRecords p q es fs
 same_records p q [] [] g c = tt
 same_records p q [] (f ∷ fs) g c = absurd c
 same_records p q (e ∷ es) [] g c = absurd c
@@ -79,7 +81,8 @@ module _ (p q : Parts) (a : AreParts p) (b : AreParts q) (flags : List Bool) (su
     -- The events are the same ones.
     pub same_events : SameRecords p q kept (events_of q)
     same_events =
-        let rising : Rising 68 (event_records p.classes p.records) = rising_filter (λ r. is_event_class p.classes r.type_id) 68 p.records (rising_of p.bytes 68 68 (length p.bytes) p.records (omega arith) a.records) in
+        let rising : Rising 68 (event_records p.classes p.records) =
+        rising_filter (λ r. is_event_class p.classes r.type_id) 68 p.records (rising_of p.bytes 68 68 (length p.bytes) p.records (omega arith) a.records) in
         let chosen = chosen_records flags (events_of p) (event_records p.classes p.records) 68 (event_records_of p a) rising in
         same_records p q kept (events_of q) suits.agree
         (subst (λ z. Each (CopiedRecord p.bytes q.bytes q.classes) z (records_of (events_of q))) chosen

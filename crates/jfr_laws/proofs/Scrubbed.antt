@@ -66,7 +66,8 @@ module _ (names : Names) (p : Parts) (a : AreParts p) (flags : List Bool) where
 
   holds : AllByRecursion (IsOutputRecordIn p.bytes (remaining_of p marks) m) (output_records slim p kept)
   holds =
-      records_too p.bytes p.classes m (remaining_of p marks) (left_agree p m (has_nodes p a) kept n.suits (event_of_chunk p a kept are) marks (marks_reached p a flags)) (output_records slim p kept) (is_ready slim p kept marks a good).valid
+      records_too p.bytes p.classes m (remaining_of p marks) (left_agree p m (has_nodes p a) kept n.suits (event_of_chunk p a kept are) marks (marks_reached p a flags)) (output_records slim p kept)
+      (is_ready slim p kept marks a good).valid
 
   -- The output after a header that leads to it.
   module _ (b : List ℕ) (s : Leading slim p kept marks b) (small : length b < 2 ^ 63) where
@@ -87,9 +88,11 @@ module _ (names : Names) (p : Parts) (a : AreParts p) (flags : List Bool) where
     new_again : SameRecords p parts kept (events_of parts) → new_metadata names parts (events_of parts) ≡ slim
     new_again events =
         settles_again names p a kept are n parts valid refl events (same_body slim p a kept are good marks b s m n.suits holds held n.reads)
-        (size_is parts valid ∙ (ap (λ (z : Framed). z.size) (metadata_is slim p a kept are good marks b s m n.suits holds held n.reads small) ∙ (shown_size (metadata_new slim p a) ∙ ap (new_size p) (new_is slim p a))))
+        (size_is parts valid ∙ (ap (λ (z : Framed). z.size) (metadata_is slim p a kept are good marks b s m n.suits holds held n.reads small)
+        ∙ (shown_size (metadata_new slim p a) ∙ ap (new_size p) (new_is slim p a))))
 
-    same_again : SameRecords p parts kept (events_of parts) → ((number : ℕ) → number < length parts.entries → Reached parts (events_of parts) number) → b ≡ out slim p kept marks → scrub_of names parts (events_of parts) ≡ b
+    same_again : SameRecords p parts kept (events_of parts) → ((number : ℕ) → number < length parts.entries → Reached parts (events_of parts) number) → b ≡ out slim p kept marks
+        → scrub_of names parts (events_of parts) ≡ b
     unfolding scrub_with
     same_again events reached e =
         ap (λ z. assembled parts (remain parts (events_of parts)) (output_records z parts (events_of parts))) (new_again events)

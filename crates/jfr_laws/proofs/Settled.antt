@@ -68,10 +68,12 @@ module _ (g : Given) (p q : Parts) (a : AreParts p) (b : AreParts q) (clock : cl
       let class : find_class p.classes e.record_of.type_id ≡ find_class q.classes f.record_of.type_id = sym (found e k) ∙ ap (find_class q.classes) h.class in
       let number = λ (name : List ℕ). number_same p q a b name e f twins in
       λ z. option_map_or (λ c. keeps g c.name c.categories (text z)) (class z) false
-      && (not (has_window g) || (option_map_or (λ c. is_always g c.name) (class z) false || option_map_or (λ t. is_in g (clock z) t (option_map_or or_zero (number (codes "duration") z) (pos 0))) (number (codes "startTime") z) false))
+      && (not (has_window g) || (option_map_or (λ c. is_always g c.name) (class z) false || option_map_or (λ t. is_in g (clock z) t (option_map_or or_zero (number (codes "duration") z) (pos 0)))
+      (number (codes "startTime") z) false))
 
   -- Where the first ones are kept, so are the others.
-  all_kept : (es fs : List EventAt) → ((e : EventAt) → In es e → In kept e) → ((e : EventAt) → In es e → IsEvent p e) → ((f : EventAt) → In fs f → IsEvent q f) → SameRecords p q es fs → SameMeaning p q es fs → AllByRecursion (λ e. is_chosen g p e ≡ true) es
+  all_kept : (es fs : List EventAt) → ((e : EventAt) → In es e → In kept e) → ((e : EventAt) → In es e → IsEvent p e) → ((f : EventAt) → In fs f → IsEvent q f) → SameRecords p q es fs
+      → SameMeaning p q es fs → AllByRecursion (λ e. is_chosen g p e ≡ true) es
       → map (is_chosen g q) fs ≡ replicate (length fs) true
   all_kept [] [] k i j r m c = refl
   all_kept [] (f ∷ fs) k i j r m c = absurd m
@@ -82,7 +84,8 @@ module _ (g : Given) (p q : Parts) (a : AreParts p) (b : AreParts q) (clock : cl
 
   all_chosen : kept ≡ kept_of g p → SameRecords p q (kept_of g p) (events_of q) → SameMeaning p q (kept_of g p) (events_of q) → chosen g q ≡ replicate (length (events_of q)) true
   all_chosen e r m =
-      all_kept (kept_of g p) (events_of q) (λ x i. subst (λ z. In z x) (sym e) i) (event_of_chunk p a (kept_of g p) (chosen_events p (chosen g p))) (event_is q b) r m (marked_pass (is_chosen g p) (events_of p))
+      all_kept (kept_of g p) (events_of q) (λ x i. subst (λ z. In z x) (sym e) i) (event_of_chunk p a (kept_of g p) (chosen_events p (chosen g p))) (event_is q b) r m
+      (marked_pass (is_chosen g p) (events_of p))
 
 -- Where a filter keeps all events, these are what it keeps.
 pub keeps_all : (g : Given) (p : Parts) → chosen g p ≡ replicate (length (events_of p)) true → kept_of g p ≡ events_of p

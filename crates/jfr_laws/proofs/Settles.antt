@@ -46,7 +46,8 @@ described_gone : (names : Names) (stays : ℕ → Bool) (k : Classes) (id : ℕ)
 described_gone names stays [] id s = refl
 described_gone names stays (c ∷ k) id s = by_tests (stays c.id) refl (c.id == id) refl (described_gone names stays k id s)
   where
-    by_tests : (u : Bool) → stays c.id ≡ u → (t : Bool) → (c.id == id) ≡ t → is_described names (staying stays k) id ≡ false → is_described names (if u then c ∷ staying stays k else staying stays k) id ≡ false
+    by_tests : (u : Bool) → stays c.id ≡ u → (t : Bool) → (c.id == id) ≡ t → is_described names (staying stays k) id ≡ false
+        → is_described names (if u then c ∷ staying stays k else staying stays k) id ≡ false
     by_tests true e true f h = let z : true ≡ false = sym e ∙ (ap stays (eqb-true c.id id f) ∙ s) in cc
     by_tests true e false f h = λ i. (f i && names c.name) || h i
     by_tests false e t f h = h
@@ -66,7 +67,8 @@ unfolding rebuilt slim_in
 rebuilt_same names p q es fs room e = λ i. if list_all scalars (e.strings i) then (if nat_lt (e.len i) (2 ^ 29) && nat_le (length (e.bytes i)) room then Some (e.bytes i) else None) else None
 
 -- The metadata record is built anew if it fits.
-rebuilt_some : (names : Names) (p : Parts) (kept : List EventAt) (x : List ℕ) → list_all scalars (slim_of names p kept).strings ≡ true → bytes_of_body (slim_of names p kept) ≡ x → table_len (slim_of names p kept) < 536870912 → rebuilt names p kept (length x) ≡ Some x
+rebuilt_some : (names : Names) (p : Parts) (kept : List EventAt) (x : List ℕ) → list_all scalars (slim_of names p kept).strings ≡ true → bytes_of_body (slim_of names p kept) ≡ x
+    → table_len (slim_of names p kept) < 536870912 → rebuilt names p kept (length x) ≡ Some x
 unfolding rebuilt slim_in
 rebuilt_some names p kept x s e l =
     let t : nat_lt (table_len (slim_of names p kept)) (2 ^ 29) ≡ true = grind (arith, nat_tests) in
@@ -89,7 +91,8 @@ module _ (names : Names) (p : Parts) (a : AreParts p) (kept : List EventAt) (are
       classes ∙ (n.remaining ∙ ap (λ o. option_map_or (λ x. staying (stays_in names p kept) p.classes) o p.classes) e)
 
   -- The classes that have names in the set are those that had.
-  described_is : (w : Option (List ℕ)) → q.classes ≡ option_map_or (λ x. staying (stays_in names p kept) p.classes) w p.classes → (id : ℕ) → is_described names p.classes id ≡ is_described names q.classes id
+  described_is : (w : Option (List ℕ)) → q.classes ≡ option_map_or (λ x. staying (stays_in names p kept) p.classes) w p.classes → (id : ℕ)
+      → is_described names p.classes id ≡ is_described names q.classes id
   described_is None e id = ap (λ k. is_described names k id) (sym e)
   described_is (Some x) e id = by_test (stays_in names p kept id) refl ∙ ap (λ k. is_described names k id) (sym e)
     where
@@ -108,7 +111,8 @@ module _ (names : Names) (p : Parts) (a : AreParts p) (kept : List EventAt) (are
   copied_again : new_metadata names p kept ≡ None → SameBody p.body q.body → rebuilt names q (events_of q) (metadata_size p) ≡ None
   copied_again e b =
       let s : stays_in names p kept ≡ stays_in names q (events_of q) =
-      λ i id. (stays_are names p kept id ∙ (stays_same p.body q.body p.classes q.classes (is_used names p kept) (is_used names q (events_of q)) id b (sym (classes_are None e)) (used_is None e) ∙ sym (stays_are names q (events_of q) id))) i in
+      λ i id. (stays_are names p kept id ∙ (stays_same p.body q.body p.classes q.classes (is_used names p kept) (is_used names q (events_of q)) id b (sym (classes_are None e)) (used_is None e)
+      ∙ sym (stays_are names q (events_of q) id))) i in
       sym (rebuilt_same names p q kept (events_of q) (metadata_size p) (same_slim p.body q.body (stays_in names p kept) (stays_in names q (events_of q)) b s)) ∙ e
 
   is : (ts : List Tree) → class_elements p.body.strings p.body.root ≡ Some ts → IsStay p.body.strings ts p.classes (is_used names p kept) (stays_in names p kept)
@@ -125,7 +129,8 @@ module _ (names : Names) (p : Parts) (a : AreParts p) (kept : List EventAt) (are
       let again = slim_again.again p.body p.classes (is_used names p kept) (stays_in names p kept) a.metadata.classes is in
       let s : again ≡ stays_in names q (events_of q) =
       λ i id. (sym (slim_again.again_is p.body p.classes (is_used names p kept) (stays_in names p kept) a.metadata.classes is id)
-      ∙ (stays_same (slim_of names p kept) q.body (staying (stays_in names p kept) p.classes) q.classes (is_used names p kept) (is_used names q (events_of q)) id b (sym k) (used_is (Some x) e) ∙ sym (stays_are names q (events_of q) id))) i in
+      ∙ (stays_same (slim_of names p kept) q.body (staying (stays_in names p kept) p.classes) q.classes (is_used names p kept) (is_used names q (events_of q)) id b (sym k) (used_is (Some x) e)
+      ∙ sym (stays_are names q (events_of q) id))) i in
       let z = same_slim (slim_of names p kept) q.body again (stays_in names q (events_of q)) b s in
       let same : slim_body (slim_of names p kept) again ≡ slim_of names p kept = slim_again.body_again p.body p.classes (is_used names p kept) (stays_in names p kept) a.metadata.classes is in
       let bytes : bytes_of_body (slim_of names q (events_of q)) ≡ x = sym z.bytes ∙ (ap bytes_of_body same ∙ sym y.bytes) in

@@ -34,11 +34,13 @@ staying_has stays (c ∷ k) id e = by_test (stays c.id) refl e (staying_has stay
     or_true true = refl
     or_true false = refl
 
-    by_id : (t : Bool) → (c.id == id) ≡ t → stays c.id ≡ true → (t || has_id (staying stays k) id) ≡ true → (has_id (staying stays k) id ≡ true → (stays id ≡ true) × (has_id k id ≡ true)) → (stays id ≡ true) × ((t || has_id k id) ≡ true)
+    by_id : (t : Bool) → (c.id == id) ≡ t → stays c.id ≡ true → (t || has_id (staying stays k) id) ≡ true → (has_id (staying stays k) id ≡ true → (stays id ≡ true) × (has_id k id ≡ true))
+        → (stays id ≡ true) × ((t || has_id k id) ≡ true)
     by_id true q s e f = (ap stays (sym (eqb-true c.id id q)) ∙ s, refl)
     by_id false q s e f = f e
 
-    by_test : (s : Bool) → stays c.id ≡ s → has_id (if s then c ∷ staying stays k else staying stays k) id ≡ true → (has_id (staying stays k) id ≡ true → (stays id ≡ true) × (has_id k id ≡ true)) → (stays id ≡ true) × (has_id (c ∷ k) id ≡ true)
+    by_test : (s : Bool) → stays c.id ≡ s → has_id (if s then c ∷ staying stays k else staying stays k) id ≡ true → (has_id (staying stays k) id ≡ true → (stays id ≡ true) × (has_id k id ≡ true))
+        → (stays id ≡ true) × (has_id (c ∷ k) id ≡ true)
     by_test true s e f = by_id (c.id == id) refl s e f
     by_test false s e f = let r = f e in (r.0, ap (λ b. (c.id == id) || b) r.1 ∙ or_true (c.id == id))
 
@@ -50,7 +52,8 @@ has_staying stays (c ∷ k) id e s = by_test (c.id == id) refl (stays c.id) refl
     or_true true = refl
     or_true false = refl
 
-    by_test : (t : Bool) → (c.id == id) ≡ t → (u : Bool) → stays c.id ≡ u → (t || has_id k id) ≡ true → (has_id k id ≡ true → has_id (staying stays k) id ≡ true) → has_id (if u then c ∷ staying stays k else staying stays k) id ≡ true
+    by_test : (t : Bool) → (c.id == id) ≡ t → (u : Bool) → stays c.id ≡ u → (t || has_id k id) ≡ true → (has_id k id ≡ true → has_id (staying stays k) id ≡ true)
+        → has_id (if u then c ∷ staying stays k else staying stays k) id ≡ true
     by_test true q true r e f = ap (λ b. b || has_id (staying stays k) id) q
     by_test true q false r e f = let z : false ≡ true = sym r ∙ (ap stays (eqb-true c.id id q) ∙ s) in cc
     by_test false q true r e f = ap (λ b. (c.id == id) || b) (f e) ∙ or_true (c.id == id)
@@ -82,7 +85,8 @@ module _ (texts table : List (List ℕ)) where
 
   ids_alike : (t u : Tree) → Alike texts table t u → ids_below texts t ≡ ids_below table u
   ids_alike t u a =
-      lists.filter_map_zip (Alike texts table) (λ e. id_attribute texts e (codes "class")) (λ e. id_attribute table e (codes "class")) (id_alike texts table (codes "class")) (below t) (below u) (below_alike t u a)
+      lists.filter_map_zip (Alike texts table) (λ e. id_attribute texts e (codes "class")) (λ e. id_attribute table e (codes "class")) (id_alike texts table (codes "class")) (below t) (below u)
+      (below_alike t u a)
 
 -- A list of which all pass.
 all_pass : {A : Type 0} (p : A → Bool) (xs : List A) → ((x : A) → In xs x → p x ≡ true) → filter p xs ≡ xs
@@ -93,7 +97,8 @@ same_changed : {A : Type 0} (p : A → Bool) (f : A → A) (xs : List A) → ((m
 same_changed p f [] g = refl
 same_changed p f (x ∷ xs) g = by_test (p x) refl g (same_changed p f xs)
   where
-    by_test : (t : Bool) → p x ≡ t → ((m : _) → (if t then Some x else find p xs) ≡ Some m → f m ≡ m) → (((m : _) → find p xs ≡ Some m → f m ≡ m) → first_changed p f xs ≡ xs) → (if t then f x ∷ xs else x ∷ first_changed p f xs) ≡ x ∷ xs
+    by_test : (t : Bool) → p x ≡ t → ((m : _) → (if t then Some x else find p xs) ≡ Some m → f m ≡ m) → (((m : _) → find p xs ≡ Some m → f m ≡ m) → first_changed p f xs ≡ xs)
+        → (if t then f x ∷ xs else x ∷ first_changed p f xs) ≡ x ∷ xs
     by_test true e g h = ap (λ z. z ∷ xs) (g x refl)
     by_test false e g h = ap (λ z. x ∷ z) (h g)
 
@@ -116,7 +121,8 @@ module _ (f : ℕ → ℕ) where
 
   mutual
     uses_renumbered : (t : Tree) → uses (renumbered f t) ≡ map f (uses t)
-    uses_renumbered (Node place name pairs children) = ap (λ z. f name ∷ z) ((λ i. pairs_used pairs i ++ all_uses_renumbered children i) ∙ sym (map_append (flat_map (λ (p : ℕ × ℕ). p.0 ∷ p.1 ∷ []) pairs) (all_uses children)))
+    uses_renumbered (Node place name pairs children) =
+        ap (λ z. f name ∷ z) ((λ i. pairs_used pairs i ++ all_uses_renumbered children i) ∙ sym (map_append (flat_map (λ (p : ℕ × ℕ). p.0 ∷ p.1 ∷ []) pairs) (all_uses children)))
 
     all_uses_renumbered : (ts : Trees) → all_uses (all_renumbered f ts) ≡ map f (all_uses ts)
     all_uses_renumbered Nil = refl
@@ -127,7 +133,8 @@ module _ (f : ℕ → ℕ) where
     pairs_again [] = refl
     pairs_again (p ∷ ps) = ap (λ z. (g (f p.0), g (f p.1)) ∷ z) (pairs_again ps)
 
-    same_pairs : (ps : List (ℕ × ℕ)) → ((i : ℕ) → In (flat_map (λ (p : ℕ × ℕ). p.0 ∷ p.1 ∷ []) ps) i → g (f i) ≡ f i) → map {B = ℕ × ℕ} (λ p. (g (f p.0), g (f p.1))) ps ≡ map {B = ℕ × ℕ} (λ p. (f p.0, f p.1)) ps
+    same_pairs : (ps : List (ℕ × ℕ)) → ((i : ℕ) → In (flat_map (λ (p : ℕ × ℕ). p.0 ∷ p.1 ∷ []) ps) i → g (f i) ≡ f i)
+        → map {B = ℕ × ℕ} (λ p. (g (f p.0), g (f p.1))) ps ≡ map {B = ℕ × ℕ} (λ p. (f p.0, f p.1)) ps
     same_pairs [] h = refl
     same_pairs (p ∷ ps) h = λ i. (h p.0 (inl refl) i, h p.1 (inr (inl refl)) i) ∷ same_pairs ps (λ j k. h j (inr (inr k))) i
 
@@ -209,7 +216,8 @@ module _ (b : Body) (k : Classes) (used stays : ℕ → Bool) (told : described 
 
   zip : AllZip (Alike b.strings table) (filter (head_is_needed b.strings stays) ts) us
   zip =
-      let there : class_elements b.strings remaining ≡ Some (filter (head_is_needed b.strings stays) ts) = slim_elements b.strings stays b.root ∙ ap (option_map (filter (head_is_needed b.strings stays))) d.there in
+      let there : class_elements b.strings remaining ≡ Some (filter (head_is_needed b.strings stays) ts) =
+      slim_elements b.strings stays b.root ∙ ap (option_map (filter (head_is_needed b.strings stays))) d.there in
       subst (λ o. lists.Beside (AllZip (Alike b.strings table)) (Some (filter (head_is_needed b.strings stays) ts)) o) c.there
       (subst (λ o. lists.Beside (AllZip (Alike b.strings table)) o (class_elements table over)) there (elements_alike b.strings table remaining over (retabled_alike b.strings remaining)))
 
@@ -237,8 +245,10 @@ module _ (b : Body) (k : Classes) (used stays : ℕ → Bool) (told : described 
     names = λ t id other i h s n o.
         (let here = (staying_has stays k id (again_has id s)).0 in
         let there = stay.has.names t id other i h here n o in
-        let x = zip_in (Alike b.strings table) (filter (head_is_needed b.strings stays) ts) us t zip (filter_in (head_is_needed b.strings stays) ts t (contains_in ts t i) (head_test t id stays h ∙ here)) in
-        stay_again.has.names x.0 id other (in_contains us x.0 x.1) (ap (option_map (λ (h : ℕ × List ℕ). h.0)) (sym (head_alike b.strings table t x.0 x.2)) ∙ h) s (subst (λ z. Contains z other) (ids_alike b.strings table t x.0 x.2) n) (has_staying stays k other o there));
+        let x = zip_in (Alike b.strings table) (filter (head_is_needed b.strings stays) ts) us t zip
+        (filter_in (head_is_needed b.strings stays) ts t (contains_in ts t i) (head_test t id stays h ∙ here)) in
+        stay_again.has.names x.0 id other (in_contains us x.0 x.1) (ap (option_map (λ (h : ℕ × List ℕ). h.0)) (sym (head_alike b.strings table t x.0 x.2)) ∙ h) s
+        (subst (λ z. Contains z other) (ids_alike b.strings table t x.0 x.2) n) (has_staying stays k other o there));
   }
 
   pub all_again : (id : ℕ) → has_id m id ≡ true → again id ≡ true
@@ -259,7 +269,9 @@ module _ (b : Body) (k : Classes) (used stays : ℕ → Bool) (told : described 
   holder_again x e =
       let q : us ≡ named table (codes "class") (children_of x) =
       (let z : Some us ≡ Some (named table (codes "class") (children_of x)) = sym c.there ∙ ap (option_map (λ m. named table (codes "class") (children_of m))) e in cc) in
-      same_children x (filter (element_is_needed table again) (children_of x)) (all_pass (element_is_needed table again) (children_of x) (λ y i. one y (is_named table (codes "class") y) refl (λ t. element_again y (subst (λ z. In z y) (sym q) (filter_in (is_named table (codes "class")) (children_of x) y i t)))))
+      same_children x (filter (element_is_needed table again) (children_of x))
+      (all_pass (element_is_needed table again) (children_of x)
+      (λ y i. one y (is_named table (codes "class") y) refl (λ t. element_again y (subst (λ z. In z y) (sym q) (filter_in (is_named table (codes "class")) (children_of x) y i t)))))
     where
       one : (y : Tree) (t : Bool) → is_named table (codes "class") y ≡ t → (is_named table (codes "class") y ≡ true → head_is_needed table again y ≡ true) → element_is_needed table again y ≡ true
       one y true e f = ap (λ t. not t || head_is_needed table again y) e ∙ f e
@@ -267,7 +279,8 @@ module _ (b : Body) (k : Classes) (used stays : ℕ → Bool) (told : described 
 
   root_again : slim_root table again over ≡ over
   unfolding slim_root
-  root_again = same_children over (first_changed (is_named table (codes "metadata")) (slim_holder table again) (children_of over)) (same_changed (is_named table (codes "metadata")) (slim_holder table again) (children_of over) holder_again)
+  root_again = same_children over (first_changed (is_named table (codes "metadata")) (slim_holder table again) (children_of over))
+      (same_changed (is_named table (codes "metadata")) (slim_holder table again) (children_of over) holder_again)
 
   pub body_again : slim_body (slim_body b stays) again ≡ slim_body b stays
   unfolding slim_body

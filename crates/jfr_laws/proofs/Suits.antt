@@ -80,7 +80,8 @@ module _ (p : Parts) (m : Classes) (s : HasNodes p) where
       by_entry t None w g q e l f = cc
       by_entry t (Some x) w g q e l f = let h : entry_node x ≡ w = cc in f w (subst Agreed h (entry_agreed t x g q)) l
 
-      by_target : (o : Option (ℕ × ℕ)) (w : NodeAt) → target p.classes p.bytes n ≡ o → option_and_then (λ t. option_map entry_node (in_force p.entries t)) o ≡ Some w → leads p w path ≡ Some u → Rest → Agreed u
+      by_target : (o : Option (ℕ × ℕ)) (w : NodeAt) → target p.classes p.bytes n ≡ o → option_and_then (λ t. option_map entry_node (in_force p.entries t)) o ≡ Some w → leads p w path ≡ Some u → Rest
+          → Agreed u
       by_target None w q e l f = cc
       by_target (Some t) w q e l f = by_entry t (in_force p.entries t) w (target_class n t a q) refl e l f
 
@@ -106,7 +107,8 @@ module _ (p : Parts) (m : Classes) (s : HasNodes p) where
         let h : f.entry ≡ e = (let z : Some f.entry ≡ Some e = sym f.there ∙ q in cc) in
         subst (Agree p.classes m) (sym f.class ∙ ap (λ (z : EntryAt). z.class) h) g
 
-    each_marked : (marks : List Bool) (xs : List EntryAt) → ((n : ℕ) (x : EntryAt) → IsMarked marks n → slice_get xs n ≡ Some x → Agree p.classes m x.class) → AllByRecursion (λ x. Agree p.classes m x.class) (marked marks xs)
+    each_marked : (marks : List Bool) (xs : List EntryAt) → ((n : ℕ) (x : EntryAt) → IsMarked marks n → slice_get xs n ≡ Some x → Agree p.classes m x.class)
+        → AllByRecursion (λ x. Agree p.classes m x.class) (marked marks xs)
     each_marked [] xs f = tt
     each_marked (b ∷ ms) [] f = tt
     each_marked (true ∷ ms) (x ∷ xs) f = (f 0 x refl refl, each_marked ms xs (λ n y i e. f (suc n) y i e))
@@ -157,7 +159,8 @@ module _ (c : List ℕ) (k m : Classes) where
       added [] b = ((a.0, tt), tt)
       added (g ∷ gs) b = by_test g gs ((e.pool == g.pool) && (e.class == g.class)) b.0 b.1
 
-  groups_too : (gs : List written_specs.Group) → AllByRecursion (λ g. NotEmpty g.entries) gs → AllByRecursion (λ g. AgreeEach g.entries) gs → AllByRecursion (IsGroupIn c k) gs → AllByRecursion (IsGroupIn c m) gs
+  groups_too : (gs : List written_specs.Group) → AllByRecursion (λ g. NotEmpty g.entries) gs → AllByRecursion (λ g. AgreeEach g.entries) gs → AllByRecursion (IsGroupIn c k) gs
+      → AllByRecursion (IsGroupIn c m) gs
   groups_too [] n a s = tt
   groups_too (g ∷ gs) n a s = (group_too g n.0 a.0 s.0, groups_too gs n.1 a.1 s.1)
 
@@ -169,7 +172,8 @@ module _ (c : List ℕ) (k m : Classes) where
       by_test true i = (a.0, i)
       by_test false i = i
 
-  pub records_too : (remaining : List EntryAt) → AgreeEach remaining → (ss : List OutputRecord) → AllByRecursion (IsOutputRecordIn c remaining k) ss → AllByRecursion (IsOutputRecordIn c remaining m) ss
+  pub records_too : (remaining : List EntryAt) → AgreeEach remaining → (ss : List OutputRecord) → AllByRecursion (IsOutputRecordIn c remaining k) ss
+      → AllByRecursion (IsOutputRecordIn c remaining m) ss
   records_too remaining a [] s = tt
   records_too remaining a (Whole r ∷ ss) s = (s.0, records_too remaining a ss s.1)
   records_too remaining a (Rebuilt r x ∷ ss) s = (s.0, records_too remaining a ss s.1)

@@ -27,7 +27,8 @@ beside R None (Some c) a r e = absurd r
 beside R (Some c) None a r e = absurd r
 
 -- Nodes that are the same refer to the same, under classes that agree.
-agreed_target : (k m : Classes) (c d : List ℕ) (n o : NodeAt) (v w : Value) → Sound k → Sound m → Agree k m n.shape.class → IsNode k c n v → IsNode m d o w → SameNode c d n o → target k c n ≡ target m d o
+agreed_target : (k m : Classes) (c d : List ℕ) (n o : NodeAt) (v w : Value) → Sound k → Sound m → Agree k m n.shape.class → IsNode k c n v → IsNode m d o w → SameNode c d n o
+    → target k c n ≡ target m d o
 agreed_target k m c d n o v w s t g i j h = target_is k c n v s i ∙ sym (target_is m d o v t (node_agree k m c d n o v i h.shape h.bytes j.order j.within g))
 
 module _ (p : Parts) (s : HasNodes p) where
@@ -68,7 +69,8 @@ pub record RefersToo (q : Parts) (f : EventAt) (path : List Step) (key : ℕ × 
   pub leads_there : leads q f.node path ≡ Some node
   pub refers : target q.classes q.bytes node ≡ Some key
 
-pub refers_too : (p q : Parts) (s : HasNodes p) (r : HasNodes q) (e f : EventAt) (w : Value) (path : List Step) (n : NodeAt) (key : ℕ × ℕ) → Agreed p q.classes s e.node → IsNode q.classes q.bytes f.node w
+pub refers_too : (p q : Parts) (s : HasNodes p) (r : HasNodes q) (e f : EventAt) (w : Value) (path : List Step) (n : NodeAt) (key : ℕ × ℕ) → Agreed p q.classes s e.node
+    → IsNode q.classes q.bytes f.node w
     → SamePaths p q e.node f.node → leads p e.node path ≡ Some n → target p.classes p.bytes n ≡ Some key → RefersToo q f path key
 refers_too p q s r e f w path n key a j same l t =
     let m = beside (SameNode p.bytes q.bytes) (leads p e.node path) (leads q f.node path) n (same path) l in

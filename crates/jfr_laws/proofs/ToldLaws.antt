@@ -40,12 +40,14 @@ checkpoint_with entry c l delta gs =
 
 -- Output records have these bytes, and are laid out one after another, given the bytes of what isn't a checkpoint,
 -- the entries of the output, and the bytes of each.
-pub record AreWritten (whole : Framed → List ℕ) (entry : EntryAt → List ℕ) (c : List ℕ) (entries : List EntryAt) (bytes : OutputRecord → ℕ → Option ℕ → List ℕ) (lay : ℕ → Option ℕ → List OutputRecord → List Written) : Type 0 where
+pub record AreWritten (whole : Framed → List ℕ) (entry : EntryAt → List ℕ) (c : List ℕ) (entries : List EntryAt) (bytes : OutputRecord → ℕ → Option ℕ → List ℕ)
+    (lay : ℕ → Option ℕ → List OutputRecord → List Written) : Type 0 where
   pub whole_bytes : (r : Framed) (at : ℕ) (older : Option ℕ) → bytes (Whole r) at older ≡ whole r
   pub new_bytes : (r : Framed) (x : List ℕ) (at : ℕ) (older : Option ℕ) → bytes (Rebuilt r x) at older ≡ x
   pub chained_bytes : (number : ℕ) (l : Link) (at : ℕ) (older : Option ℕ) → bytes (Chained number l) at older ≡ checkpoint_with entry c l (distance at older) (groups_of entries number)
   pub none : (at : ℕ) (older : Option ℕ) → lay at older [] ≡ []
-  pub next : (at : ℕ) (older : Option ℕ) (s : OutputRecord) (ss : List OutputRecord) → lay at older (s ∷ ss) ≡ record { output_record = s; at = at; newest = older } ∷ lay (at + length (bytes s at older)) (newest_after s at older) ss
+  pub next : (at : ℕ) (older : Option ℕ) (s : OutputRecord) (ss : List OutputRecord)
+      → lay at older (s ∷ ss) ≡ record { output_record = s; at = at; newest = older } ∷ lay (at + length (bytes s at older)) (newest_after s at older) ss
 
 module _ (whole : Framed → List ℕ) (entry : EntryAt → List ℕ) (p : Parts) (entries : List EntryAt) (bytes : OutputRecord → ℕ → Option ℕ → List ℕ) (lay : ℕ → Option ℕ → List OutputRecord → List Written)
     (are : AreWritten whole entry p.bytes entries bytes lay) where
@@ -64,7 +66,8 @@ module _ (whole : Framed → List ℕ) (entry : EntryAt → List ℕ) (p : Parts
   pools_same [] = refl
   pools_same (g ∷ gs) = rw (entries_same g.entries, length-map g.entries entry, pools_same gs) refl
 
-  checkpoint_same : (gs : List Group) (l : Link) (delta : ℕ) → sized (l.frame.type_at - l.frame.at) (tail_bytes (record (told_head p.bytes l) { pools = map (told_pool entry) gs }) delta) ≡ checkpoint_with entry p.bytes l delta gs
+  checkpoint_same : (gs : List Group) (l : Link) (delta : ℕ)
+      → sized (l.frame.type_at - l.frame.at) (tail_bytes (record (told_head p.bytes l) { pools = map (told_pool entry) gs }) delta) ≡ checkpoint_with entry p.bytes l delta gs
   checkpoint_same gs l delta = rw (pools_same gs, length-map gs (told_pool entry)) refl
 
   bytes_same : (s : OutputRecord) (at : ℕ) (older : Option ℕ) → told_bytes (shown s) at older ≡ bytes s at older
@@ -97,14 +100,16 @@ module _ (whole : Framed → List ℕ) (entry : EntryAt → List ℕ) (p : Parts
       ∙ sym (ap (flat_map (λ w. bytes w.output_record w.at w.newest)) (are.next at older s ss)))
 
   -- The offset of the last checkpoint.
-  last_step : (s : OutputRecord) (ss : List OutputRecord) (at : ℕ) (older : Option ℕ) → last_from at older (map shown (s ∷ ss)) ≡ last_from (at + length (bytes s at older)) (newest_after s at older) (map shown ss)
+  last_step : (s : OutputRecord) (ss : List OutputRecord) (at : ℕ) (older : Option ℕ)
+      → last_from at older (map shown (s ∷ ss)) ≡ last_from (at + length (bytes s at older)) (newest_after s at older) (map shown ss)
   last_step s ss at older = λ i. last_from (at + length (bytes_same s at older i)) (after_same s at older i) (map shown ss)
 
   last_same : (ss : List OutputRecord) (at : ℕ) (older : Option ℕ) → last_from at older (map shown ss) ≡ newest_at older (lay at older ss)
   last_same [] at None = sym (ap (newest_at None) (are.none at None))
   last_same [] at (Some o) = sym (ap (newest_at (Some o)) (are.none at (Some o)))
   last_same (s ∷ ss) at None = last_step s ss at None ∙ (last_same ss (at + length (bytes s at None)) (newest_after s at None) ∙ sym (ap (newest_at None) (are.next at None s ss)))
-  last_same (s ∷ ss) at (Some o) = last_step s ss at (Some o) ∙ (last_same ss (at + length (bytes s at (Some o))) (newest_after s at (Some o)) ∙ sym (ap (newest_at (Some o)) (are.next at (Some o) s ss)))
+  last_same (s ∷ ss) at (Some o) = last_step s ss at (Some o)
+      ∙ (last_same ss (at + length (bytes s at (Some o))) (newest_after s at (Some o)) ∙ sym (ap (newest_at (Some o)) (are.next at (Some o) s ss)))
 
   -- The offset of the metadata record.
   moved_here : (s : OutputRecord) (at : ℕ) (older : Option ℕ) (ws : List Written) → ((record_of s).at == m) ≡ true → at ≡ moved (record { output_record = s; at = at; newest = older } ∷ ws) m
@@ -124,7 +129,8 @@ module _ (whole : Framed → List ℕ) (entry : EntryAt → List ℕ) (p : Parts
           → metadata_from at older ((if t then Metadata (whole r) else Event (whole r)) ∷ map shown ss) ≡ moved (record { output_record = Whole r; at = at; newest = older } ∷ lay (at + length (whole r)) older ss) m
       by_test true e i = moved_here (Whole r) at older (lay (at + length (whole r)) older ss) e
       by_test false e i = i ∙ moved_on (Whole r) at older (lay (at + length (whole r)) older ss) e
-  metadata_same (Rebuilt r x ∷ ss) at older a = moved_here (Rebuilt r x) at older (lay (at + length (bytes (Rebuilt r x) at older)) older ss) a.0 ∙ sym (ap (λ z. moved z m) (are.next at older (Rebuilt r x) ss))
+  metadata_same (Rebuilt r x ∷ ss) at older a =
+      moved_here (Rebuilt r x) at older (lay (at + length (bytes (Rebuilt r x) at older)) older ss) a.0 ∙ sym (ap (λ z. moved z m) (are.next at older (Rebuilt r x) ss))
   metadata_same (Chained number l ∷ ss) at older a =
       ap (λ z. metadata_from (at + length z) (Some at) (map shown ss)) (bytes_same (Chained number l) at older)
       ∙ (metadata_same ss (at + length (bytes (Chained number l) at older)) (Some at) a.1
@@ -195,4 +201,5 @@ module _ (slim : Option (List ℕ)) (p : Parts) (kept : List EventAt) (a : ArePa
   -- The law: the output is made of what `told` lists, and of nothing else.
   pub scrub_tells : scrub_with slim p kept ≡ rendered (told slim p kept)
   unfolding scrub_with told
-  scrub_tells = rendered_same (record_bytes p.bytes) (entry_bytes p.bytes) p (remain p kept) (bytes_of p.bytes (remain p kept)) (written p.bytes (remain p kept)) are_written (output_records slim p kept) all_apart
+  scrub_tells = rendered_same (record_bytes p.bytes) (entry_bytes p.bytes) p (remain p kept) (bytes_of p.bytes (remain p kept)) (written p.bytes (remain p kept)) are_written
+      (output_records slim p kept) all_apart

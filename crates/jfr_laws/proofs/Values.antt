@@ -25,7 +25,8 @@ exact_reads {A = A} f x end at to b a e s i h = by_answer (run f x end at) (exac
 abbrev pub value_in : List ℕ → Classes → EntryAt → Value
 value_in c k e = unwrap_or (value_of k c (entry_node e)) (Group (inline e.class) [] Nil)
 
-pub value_there : (c : List ℕ) (k : Classes) (e : EntryAt) (v : Value) → e.value_at ≤ e.end → e.end ≤ length c → Exactly (value_format k (inline e.class)) (slice_range c e.value_at e.end) v → value_in c k e ≡ v
+pub value_there : (c : List ℕ) (k : Classes) (e : EntryAt) (v : Value) → e.value_at ≤ e.end → e.end ≤ length c → Exactly (value_format k (inline e.class)) (slice_range c e.value_at e.end) v
+    → value_in c k e ≡ v
 unfolding value_of
 value_there c k e v o h x =
     let there : value_of k c (entry_node e) ≡ Some v =

@@ -61,7 +61,8 @@ new_is slim p a = ap (λ t. if t then slim else None) (is_eq a.metadata_record.a
 -- At whichever offset the metadata record of the output is, it is read with these classes, and holds this, but for
 -- the places in its tree.
 abbrev pub MetadataReads : Option (List ℕ) → (p : Parts) → AreParts p → Body → Classes → Type 0
-MetadataReads slim p a held m = (b : List ℕ) (place : ℕ) → Holds b (length b) place (shown_bytes p.bytes (metadata_new slim p a) a.metadata_record) → (body : Body) × IsMetadata b (shown_frame p.bytes (metadata_new slim p a) a.metadata_record place) body m × SameBody held body
+MetadataReads slim p a held m = (b : List ℕ) (place : ℕ) → Holds b (length b) place (shown_bytes p.bytes (metadata_new slim p a) a.metadata_record) → (body : Body) × IsMetadata b
+    (shown_frame p.bytes (metadata_new slim p a) a.metadata_record place) body m × SameBody held body
 
 module _ (slim : Option (List ℕ)) (p : Parts) (kept : List EventAt) (marks : List Bool) where
   -- What is written, and its bytes.
@@ -96,7 +97,8 @@ module _ (slim : Option (List ℕ)) (p : Parts) (kept : List EventAt) (marks : L
     body_fits : 68 + length body_of ≤ length p.bytes
     body_fits =
         let l = length_back p.bytes (remaining_of p marks) p.classes (output_records slim p kept) 68 None is_ready.valid is_ready.deltas in
-        let s = sizes_within p.bytes (all_links p) (is_kept_or_metadata p kept) (written_anew slim p) (only_records p.bytes (all_links p) (chained_checkpoints p a)) p.records 68 (length p.bytes) a.records in
+        let s = sizes_within p.bytes (all_links p) (is_kept_or_metadata p kept) (written_anew slim p) (only_records p.bytes (all_links p) (chained_checkpoints p a)) p.records 68
+        (length p.bytes) a.records in
         omega (arith, l, s)
 
     pub out_shorter : length out ≤ length p.bytes

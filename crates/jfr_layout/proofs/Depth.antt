@@ -23,7 +23,8 @@ pub record NoneGoes (k : Classes) (i : ℕ) (goes : List Bool) (n : ℕ) : Type 
 pub none_goes : (k : Classes) (i : ℕ) (c : Class) (goes : List Bool) → slice_get k i ≡ Some c → NoneGoes k i goes 0
 none_goes k i c goes e = record { none = λ m g. rw e refl }
 
-any_next : (m : ℕ) (k : Classes) (c : Class) (n : ℕ) (f : Field) → slice_get c.fields n ≡ Some f → list_any (step_begins_chain m k) (take (n + 1) c.fields) ≡ (list_any (step_begins_chain m k) (take n c.fields) || (step_begins_chain m k f || false))
+any_next : (m : ℕ) (k : Classes) (c : Class) (n : ℕ) (f : Field) → slice_get c.fields n ≡ Some f
+    → list_any (step_begins_chain m k) (take (n + 1) c.fields) ≡ (list_any (step_begins_chain m k) (take n c.fields) || (step_begins_chain m k f || false))
 any_next m k c n f e = ap (list_any (step_begins_chain m k)) (take_next c.fields n f e) ∙ list_any-append (step_begins_chain m k) (take n c.fields) (f ∷ [])
 
 pub goes_next : (k : Classes) (i : ℕ) (c : Class) (goes : List Bool) (n : ℕ) (t : Bool) → slice_get k i ≡ Some c → NoneGoes k i goes n → n < length c.fields
@@ -32,7 +33,8 @@ goes_next k i c goes n t e s l h u = record {
   none = λ m g. rw e (
       let f = present c.fields n l in
       let q : t ≡ step_begins_chain m k f.0 = rw (field_of k i n c f.0 e f.1) at (h m g) in
-      any_next m k c n f.0 f.1 ∙ or_from (list_any (step_begins_chain m k) (take n c.fields)) (step_begins_chain m k f.0 || false) (rw e at (s.none m g)) (or_from (step_begins_chain m k f.0) false (sym q ∙ u) refl));
+      any_next m k c n f.0 f.1 ∙ or_from (list_any (step_begins_chain m k) (take n c.fields)) (step_begins_chain m k f.0 || false) (rw e at (s.none m g))
+      (or_from (step_begins_chain m k f.0) false (sym q ∙ u) refl));
 }
 
 -- A composite class inline has its fields.
@@ -49,7 +51,8 @@ pub goes_tell : (k : Classes) (i : ℕ) (c : Class) (kind : Kind) (goes : List B
 goes_tell k i c kind goes n t e h q l s u m g = rw e (
     let f = present c.fields n l in
     let r : t ≡ step_begins_chain m k f.0 = rw (field_of k i n c f.0 e f.1) at (s m g) in
-    sym (list_any_at (step_begins_chain m k) c.fields n f.0 l (ap (step_begins_chain m k) (get_or_from_slice_get c.fields n f.0 f.0 f.1) ∙ (sym r ∙ u))) ∙ ap (list_any (step_begins_chain m k)) (inline_all c (kind_here k i c kind e h q)))
+    sym (list_any_at (step_begins_chain m k) c.fields n f.0 l (ap (step_begins_chain m k) (get_or_from_slice_get c.fields n f.0 f.0 f.1) ∙ (sym r ∙ u)))
+    ∙ ap (list_any (step_begins_chain m k)) (inline_all c (kind_here k i c kind e h q)))
 
 -- The flags of the classes before an index, one step more.
 pub record Round (k : Classes) (goes : List Bool) (n : ℕ) (next : List Bool) : Type 0 where
@@ -90,7 +93,8 @@ pub shallow_next : (k : Classes) (goes : List Bool) (n : ℕ) (t : Bool) → goe
 shallow_next k goes n t g s r u = let c = present k n (flagged k goes n t g r) in
     record { left = stage_next (found_deep k) k n c.0 (deep k) s.left c.1 (ap (λ b. flaw_if b n None InlineDeep) (sym (flag_at k goes n c.0 t g c.1 r) ∙ u)) }
 
-pub shallow_tell : (k : Classes) (goes : List Bool) (n : ℕ) (t : Bool) → goes ≡ map (begins_chain 33 k) k → Shallow k n → slice_get goes n ≡ Some t → t ≡ true → IsFirstFlaw (deep k) (Flawed n None InlineDeep)
+pub shallow_tell : (k : Classes) (goes : List Bool) (n : ℕ) (t : Bool) → goes ≡ map (begins_chain 33 k) k → Shallow k n → slice_get goes n ≡ Some t → t ≡ true
+    → IsFirstFlaw (deep k) (Flawed n None InlineDeep)
 shallow_tell k goes n t g s r u = let c = present k n (flagged k goes n t g r) in
     stage_tells (found_deep k) k n c.0 (deep k) (Flawed n None InlineDeep) s.left c.1 (ap (λ b. slice_get (flaw_if b n None InlineDeep) 0) (sym (flag_at k goes n c.0 t g c.1 r) ∙ u))
 

@@ -91,7 +91,8 @@ event_found k id (Some s) h = sym h.event
 pub indices_none : (k : Classes) → AreEventIndices k []
 indices_none k = record { at = λ id l. absurd (omega arith) }
 
-pub indices_push : (k : Classes) (id : ℕ) (indices : List (Option ℕ)) (index : Option ℕ) → AreEventIndices k indices → length indices ≡ id → index ≡ event_index k id → AreEventIndices k (indices ++ index ∷ [])
+pub indices_push : (k : Classes) (id : ℕ) (indices : List (Option ℕ)) (index : Option ℕ) → AreEventIndices k indices → length indices ≡ id → index ≡ event_index k id
+    → AreEventIndices k (indices ++ index ∷ [])
 indices_push k id indices index a n e = record { at = filled_push (event_index k) indices index a.at (e ∙ ap (event_index k) (sym n)) }
 
 -- What a table has.

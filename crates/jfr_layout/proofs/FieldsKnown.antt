@@ -31,13 +31,15 @@ known_at : (k : Classes) (index : Index) (id : ℕ) → IsIndex k index → is_s
 known_at k index id s = is_some-find (λ (c : Class). c.id == id) k ∙ ap is_some (sym (s.at id))
 
 -- A class that is known.
-pub known_next : (k : Classes) (i : ℕ) (fs : List Field) (n : ℕ) (index : Index) (kinds : List Kind) (f : Field) (layouts more : List FieldLayout) (p : ℕ) (d : Kind) → IsIndex k index → kinds ≡ map (λ c. kind_of c.name) k → FieldsKnown k i fs n layouts → slice_get fs n ≡ Some f
+pub known_next : (k : Classes) (i : ℕ) (fs : List Field) (n : ℕ) (index : Index) (kinds : List Kind) (f : Field) (layouts more : List FieldLayout) (p : ℕ) (d : Kind) → IsIndex k index
+    → kinds ≡ map (λ c. kind_of c.name) k → FieldsKnown k i fs n layouts → slice_get fs n ≡ Some f
     → Some p ≡ index_in index f.shape.class → more ≡ layouts ++ layout_with f.shape p (get_or kinds p d) ∷ []
     → FieldsKnown k i fs (n + 1) more
 known_next k i fs n index kinds f layouts more p d x ks s e g m = record {
   left = stage_next (found_unknown k i) fs n f (flaws_in UnknownType (is_unknown k) i fs) s.left e
       (ap (λ t. flaw_if (not t) i (Some n) UnknownType) (known_at k index f.shape.class x ∙ ap is_some (sym g)));
-  found = rw (take_next fs n f e, m) (layouts_push k (take n fs) f layouts (layout_with f.shape p (get_or kinds p d)) s.found refl (layout_at k kinds f.shape p d ks (sym (x.at f.shape.class) ∙ sym g)));
+  found = rw (take_next fs n f e, m) (layouts_push k (take n fs) f layouts (layout_with f.shape p (get_or kinds p d)) s.found refl
+      (layout_at k kinds f.shape p d ks (sym (x.at f.shape.class) ∙ sym g)));
 }
 
 -- A class that isn't.

@@ -22,7 +22,8 @@ pub filled_none : (k : Classes) (i : ℕ) (c : Class) → slice_get k i ≡ Some
 filled_none k i c e = record { left = rw e refl }
 
 -- The test of a field gives what the definition says.
-tested : (k : Classes) (i n : ℕ) (c : Class) (f : Field) (t : Bool) → slice_get k i ≡ Some c → slice_get c.fields n ≡ Some f → IfSome (field_at k i n) (λ g. t ≡ is_empty_inline k g) → t ≡ is_empty_inline k f
+tested : (k : Classes) (i n : ℕ) (c : Class) (f : Field) (t : Bool) → slice_get k i ≡ Some c → slice_get c.fields n ≡ Some f → IfSome (field_at k i n) (λ g. t ≡ is_empty_inline k g)
+    → t ≡ is_empty_inline k f
 tested k i n c f t e s h = rw (field_of k i n c f e s) at h
 
 pub filled_next : (k : Classes) (i n : ℕ) (c : Class) (t : Bool) → slice_get k i ≡ Some c → FieldsFilled k i n → n < length c.fields
@@ -54,7 +55,8 @@ pub record ClassesFilled (k : Classes) (n : ℕ) : Type 0 where
 pub empties_next : (k : Classes) (n : ℕ) → ClassesFilled k n → n < length k → IfSome (slice_get k n) (λ c. flaws_in EmptyInline (is_empty_inline k) n c.fields ≡ []) → ClassesFilled k (n + 1)
 empties_next k n s l none = let h = present k n l in record { left = stage_next (found_empties k) k n h.0 (empty_inline k) s.left h.1 (rw h.1 at none) }
 
-pub empties_tell : (k : Classes) (n : ℕ) (fault : ClassFault) → ClassesFilled k n → n < length k → IfSome (slice_get k n) (λ c. IsFirstFlaw (flaws_in EmptyInline (is_empty_inline k) n c.fields) fault) → IsFirstFlaw (empty_inline k) fault
+pub empties_tell : (k : Classes) (n : ℕ) (fault : ClassFault) → ClassesFilled k n → n < length k → IfSome (slice_get k n) (λ c. IsFirstFlaw (flaws_in EmptyInline (is_empty_inline k) n c.fields) fault)
+    → IsFirstFlaw (empty_inline k) fault
 empties_tell k n fault s l t = let h = present k n l in stage_tells (found_empties k) k n h.0 (empty_inline k) fault s.left h.1 (rw h.1 at t)
 
 pub empties_end : (k : Classes) (n : ℕ) → ClassesFilled k n → length k ≤ n → empty_inline k ≡ []

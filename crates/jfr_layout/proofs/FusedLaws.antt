@@ -54,7 +54,8 @@ module _ (layouts : List FieldLayout) (first : ℕ) where
   pub raw_alone : (bytes : ℕ) → first < length layouts → IfSome (slice_get layouts first) (λ s. s.form ≡ forms.Raw bytes) → AreRaw bytes (range 1)
   raw_alone bytes l h = let s = present layouts first l in subst (AreRaw bytes) (sym (range_alone layouts first s.0 s.1)) (bytes, 0, rw s.1 at h, omega arith, refl)
 
-  pub raw_next : (fields count more : ℕ) (s : FieldLayout) → slice_get layouts (first + fields) ≡ Some s → s.form ≡ forms.Raw more → AreRaw count (range fields) → AreRaw (count + more) (range (fields + 1))
+  pub raw_next : (fields count more : ℕ) (s : FieldLayout) → slice_get layouts (first + fields) ≡ Some s → s.form ≡ forms.Raw more → AreRaw count (range fields)
+      → AreRaw (count + more) (range (fields + 1))
   raw_next fields count more s e f a = subst (AreRaw (count + more)) (sym (next_is fields s e)) (raw_push count more (range fields) s a f)
 
 -- The fields up to a number are passed.
@@ -63,7 +64,8 @@ pub record PassedTo (layouts : List FieldLayout) (first : ℕ) (fused_fields : L
   pub each : AllByRecursion (IsFused layouts) fused_fields
   pub all : flat_map (passed_by layouts) fused_fields ≡ take first layouts
 
-pub passed_more : (layouts : List FieldLayout) (first : ℕ) (fused_fields : List FusedFields) (l : FusedFields) → PassedTo layouts first fused_fields → BeginsAt layouts first l → PassedTo layouts (first + l.fields) (fused_fields ++ l ∷ [])
+pub passed_more : (layouts : List FieldLayout) (first : ℕ) (fused_fields : List FusedFields) (l : FusedFields) → PassedTo layouts first fused_fields → BeginsAt layouts first l
+    → PassedTo layouts (first + l.fields) (fused_fields ++ l ∷ [])
 passed_more layouts first fused_fields l p b =
     let w : l.first + l.fields ≤ length layouts = b.fused.within in
     let n : l.first + l.fields - l.first ≡ l.fields = omega arith in

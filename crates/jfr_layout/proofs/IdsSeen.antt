@@ -24,8 +24,10 @@ pub record IdsSeen (k : Classes) (n : ℕ) (index : Index) : Type 0 where
   pub left : repeats k ≡ rest (found_repeats k) k n
   pub seen : (id : ℕ) → index_in index id ≡ class_index (take n k) id
 
-index_next : (k : Classes) (n : ℕ) (c : Class) (id : ℕ) → slice_get k n ≡ Some c → n ≤ length k → class_index (take (n + 1) k) id ≡ option_or (class_index (take n k) id) (cond (eqb c.id id) (Some n) None)
-index_next k n c id e l = ap (λ (m : Classes). class_index m id) (take_next k n c e) ∙ (position_push (λ (d : Class). eqb d.id id) (take n k) c ∙ ap (λ m. option_or (class_index (take n k) id) (cond (eqb c.id id) (Some m) None)) (length-take-le n k l))
+index_next : (k : Classes) (n : ℕ) (c : Class) (id : ℕ) → slice_get k n ≡ Some c → n ≤ length k
+    → class_index (take (n + 1) k) id ≡ option_or (class_index (take n k) id) (cond (eqb c.id id) (Some n) None)
+index_next k n c id e l = ap (λ (m : Classes). class_index m id) (take_next k n c e)
+    ∙ (position_push (λ (d : Class). eqb d.id id) (take n k) c ∙ ap (λ m. option_or (class_index (take n k) id) (cond (eqb c.id id) (Some m) None)) (length-take-le n k l))
 
 -- An id that was not seen leads to its class, and every other id to what it led to before.
 led : (old : Option ℕ) (t : Bool) (n : ℕ) → (t ≡ true → old ≡ None) → cond t (Some n) old ≡ option_or old (cond t (Some n) None)

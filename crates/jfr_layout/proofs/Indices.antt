@@ -16,7 +16,8 @@ by_test f g t e false = e
 
 from_push : {X : Type 0} (p : X → Bool) (i : ℕ) (xs : List X) (x : X) → position_from p i (xs ++ x ∷ []) ≡ option_or (position_from p i xs) (cond (p x) (Some (i + length xs)) None)
 from_push p i [] x = let e : i + 0 ≡ i = omega arith in ap (λ n. cond (p x) (Some n) None) (sym e)
-from_push p i (y ∷ xs) x = by_test (λ t. cond t (Some i) (position_from p (i + 1) (xs ++ x ∷ []))) (λ t. option_or (cond t (Some i) (position_from p (i + 1) xs)) (cond (p x) (Some (i + suc (length xs))) None))
+from_push p i (y ∷ xs) x = by_test (λ t. cond t (Some i) (position_from p (i + 1) (xs ++ x ∷ [])))
+    (λ t. option_or (cond t (Some i) (position_from p (i + 1) xs)) (cond (p x) (Some (i + suc (length xs))) None))
     refl
     (from_push p (i + 1) xs x ∙ (let e : (i + 1) + length xs ≡ i + suc (length xs) = omega arith in ap (λ n. option_or (position_from p (i + 1) xs) (cond (p x) (Some n) None)) e))
     (p y)

@@ -37,7 +37,8 @@ pub nil_parts : {X : Type 0} (a b : List X) → a ++ b ≡ [] → (a ≡ []) × 
 nil_parts [] b e = (refl, e)
 nil_parts (x ∷ a) b e = cc
 
-none_from : {X Y : Type 0} (found : ℕ → X → List Y) (n : ℕ) (xs : List X) (i j : ℕ) (x : X) → flat_map (λ y. found y.0 y.1) (enumerate_from n xs) ≡ [] → slice_get xs i ≡ Some x → n + i ≡ j → found j x ≡ []
+none_from : {X Y : Type 0} (found : ℕ → X → List Y) (n : ℕ) (xs : List X) (i j : ℕ) (x : X) → flat_map (λ y. found y.0 y.1) (enumerate_from n xs) ≡ [] → slice_get xs i ≡ Some x → n + i ≡ j
+    → found j x ≡ []
 none_from found n [] i j x e s q = cc
 none_from found n (y ∷ xs) zero j x e s q =
     let m : n ≡ j = omega arith in
@@ -71,7 +72,8 @@ all_push P [] x a p = (p, tt)
 all_push P (y ∷ xs) x a p = (a.0, all_push P xs x a.1 p)
 
 -- A list that has at each index what a function says of the index.
-pub filled_push : {X : Type 0} (f : ℕ → X) (xs : List X) (x : X) → ((i : ℕ) → i < length xs → slice_get xs i ≡ Some (f i)) → x ≡ f (length xs) → (i : ℕ) → i < length (xs ++ x ∷ []) → slice_get (xs ++ x ∷ []) i ≡ Some (f i)
+pub filled_push : {X : Type 0} (f : ℕ → X) (xs : List X) (x : X) → ((i : ℕ) → i < length xs → slice_get xs i ≡ Some (f i)) → x ≡ f (length xs) → (i : ℕ) → i < length (xs ++ x ∷ [])
+    → slice_get (xs ++ x ∷ []) i ≡ Some (f i)
 filled_push f [] x a e zero l = ap Some e
 filled_push f [] x a e (suc i) l = absurd (omega arith)
 filled_push f (y ∷ xs) x a e zero l = a 0 (omega arith)

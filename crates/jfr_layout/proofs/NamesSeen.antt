@@ -150,7 +150,8 @@ pub names_end : (i : ℕ) (fs : List Field) (numbers : List ℕ) (n : ℕ) (seen
 names_end i fs numbers n seen s l = stage_none (found_name i fs) fs n (name_repeats i fs) s.left l
 
 -- The numbers of the class at an index.
-pub numbers_at : (k : Classes) (all : List (Vec ℕ Global)) (i : ℕ) (c : Class) → AreAllNumbered k all → slice_get k i ≡ Some c → (numbers : Vec ℕ Global) × (slice_get all i ≡ Some numbers) × AreNumbered c.fields numbers.items
+pub numbers_at : (k : Classes) (all : List (Vec ℕ Global)) (i : ℕ) (c : Class) → AreAllNumbered k all → slice_get k i ≡ Some c
+    → (numbers : Vec ℕ Global) × (slice_get all i ≡ Some numbers) × AreNumbered c.fields numbers.items
 numbers_at k all i c a e = zip_at (λ c numbers. AreNumbered c.fields numbers.items) k all i c a e
 
 -- There are numbers for each class.
@@ -158,7 +159,8 @@ pub numbers_within : (k : Classes) (all : List (Vec ℕ Global)) (i : ℕ) (c : 
 numbers_within k all i c a e = let n = numbers_at k all i c a e in slice_get_within all i n.0 n.1
 
 -- The numbers that an index gives are those of its class.
-pub are_numbers_of : (k : Classes) (all : List (Vec ℕ Global)) (i : ℕ) (c : Class) (numbers none : Vec ℕ Global) → AreAllNumbered k all → slice_get k i ≡ Some c → numbers ≡ get_or all i none → AreNumbered c.fields numbers.items
+pub are_numbers_of : (k : Classes) (all : List (Vec ℕ Global)) (i : ℕ) (c : Class) (numbers none : Vec ℕ Global) → AreAllNumbered k all → slice_get k i ≡ Some c → numbers ≡ get_or all i none
+    → AreNumbered c.fields numbers.items
 are_numbers_of k all i c numbers none a e is =
     let n = numbers_at k all i c a e in
     let same : numbers ≡ n.0 = is ∙ get_or_from_slice_get all i n.0 none n.1 in

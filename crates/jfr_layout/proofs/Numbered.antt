@@ -39,7 +39,8 @@ module _ (numbers : Numbers) (b name : List ℕ) (u : IsUtf8 b) (is : chars b �
 
   module _ (later : Numbers) (n : ℕ) (none : None ≡ tree.get_by (λ k. slice_cmp nat_cmp b k.now) numbers) (up : tree.UpdatesBy (λ x y. slice_cmp nat_cmp x.now y.now) (λ k. slice_cmp nat_cmp b k.now) numbers later (Some n)) where
     with_more : (q : List ℕ) → value_under later q ≡ cond (bytes_eq name q) (Some n) (value_under numbers q)
-    with_more q = btree_map_updates_str b numbers later (Some n) up (encode_utf8_all q) ∙ ap (λ t. cond t (Some n) (value_under numbers q)) (ap (λ z. bytes_eq z (encode_utf8_all q)) spelled ∙ bytes_eq-encodes name q)
+    with_more q = btree_map_updates_str b numbers later (Some n) up (encode_utf8_all q)
+        ∙ ap (λ t. cond t (Some n) (value_under numbers q)) (ap (λ z. bytes_eq z (encode_utf8_all q)) spelled ∙ bytes_eq-encodes name q)
 
     -- The name has its number now.
     pub number_added : Some n ≡ value_under later name
@@ -86,7 +87,8 @@ module _ (fs : List Field) (i : ℕ) (firsts : Numbers) (numbers : List ℕ) (f 
     first = number_each firsts b f.name u is later i none up (λ q n. name_of fs n ≡ Some q) s.first (ap (option_map (λ (f : Field). f.name)) there);
     each = subst (λ z. AllZip (λ f n. value_under later f.name ≡ Some n) z (numbers ++ i ∷ [])) (sym (take_next fs i f there))
         (zip_push (λ f n. value_under later f.name ≡ Some n) (take i fs) numbers f i
-        (zip_weaken (λ f n. value_under firsts f.name ≡ Some n) (λ f n. value_under later f.name ≡ Some n) (λ g m. number_kept firsts b f.name u is later i none up g.name m) (take i fs) numbers s.each)
+        (zip_weaken (λ f n. value_under firsts f.name ≡ Some n) (λ f n. value_under later f.name ≡ Some n) (λ g m. number_kept firsts b f.name u is later i none up g.name m)
+        (take i fs) numbers s.each)
         (sym (number_added firsts b f.name u is later i none up)));
   }
 

@@ -38,7 +38,8 @@ sound_deep : (k : Classes) → Sound k → deep k ≡ []
 sound_deep k s = (nil_parts (empty_inline k) (deep k) (nil_parts (unknown k) (empty_inline k ++ deep k) (sound_rest k s)).1).1
 
 -- The first member that passes a test.
-first_from : {X : Type 0} (p : X → Bool) (n : ℕ) (xs : List X) (i : ℕ) (x : X) (j : ℕ) → slice_get xs i ≡ Some x → p x ≡ true → list_any p (take i xs) ≡ false → n + i ≡ j → position_from p n xs ≡ Some j
+first_from : {X : Type 0} (p : X → Bool) (n : ℕ) (xs : List X) (i : ℕ) (x : X) (j : ℕ) → slice_get xs i ≡ Some x → p x ≡ true → list_any p (take i xs) ≡ false → n + i ≡ j
+    → position_from p n xs ≡ Some j
 first_from p n [] i x j e t u q = cc
 first_from p n (y ∷ xs) zero x j e t u q =
     let m : n ≡ j = omega arith in

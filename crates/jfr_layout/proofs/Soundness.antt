@@ -10,15 +10,18 @@ later a b e n t = rw n t
 
 pub told_names : (k : Classes) (e : ClassFault) → IsFirstFlaw (repeats k ++ unknown k) e → IsFirstFlaw (class_faults k) e
 unfolding class_faults
-told_names k e t = subst (λ (z : List ClassFlaw). IsFirstFlaw z e) (append_assoc (repeats k) (unknown k) (empty_inline k ++ deep k)) (tells_append (repeats k ++ unknown k) (empty_inline k ++ deep k) e t)
+told_names k e t = subst (λ (z : List ClassFlaw). IsFirstFlaw z e) (append_assoc (repeats k) (unknown k) (empty_inline k ++ deep k))
+    (tells_append (repeats k ++ unknown k) (empty_inline k ++ deep k) e t)
 
 pub told_empty : (k : Classes) (e : ClassFault) → repeats k ++ unknown k ≡ [] → IsFirstFlaw (empty_inline k) e → IsFirstFlaw (class_faults k) e
 unfolding class_faults
-told_empty k e n t = subst (λ (z : List ClassFlaw). IsFirstFlaw z e) (append_assoc (repeats k) (unknown k) (empty_inline k ++ deep k)) (later (repeats k ++ unknown k) (empty_inline k ++ deep k) e n (tells_append (empty_inline k) (deep k) e t))
+told_empty k e n t = subst (λ (z : List ClassFlaw). IsFirstFlaw z e) (append_assoc (repeats k) (unknown k) (empty_inline k ++ deep k))
+    (later (repeats k ++ unknown k) (empty_inline k ++ deep k) e n (tells_append (empty_inline k) (deep k) e t))
 
 pub told_deep : (k : Classes) (e : ClassFault) → repeats k ++ unknown k ≡ [] → empty_inline k ≡ [] → IsFirstFlaw (deep k) e → IsFirstFlaw (class_faults k) e
 unfolding class_faults
-told_deep k e n m t = subst (λ (z : List ClassFlaw). IsFirstFlaw z e) (append_assoc (repeats k) (unknown k) (empty_inline k ++ deep k)) (later (repeats k ++ unknown k) (empty_inline k ++ deep k) e n (later (empty_inline k) (deep k) e m t))
+told_deep k e n m t = subst (λ (z : List ClassFlaw). IsFirstFlaw z e) (append_assoc (repeats k) (unknown k) (empty_inline k ++ deep k))
+    (later (repeats k ++ unknown k) (empty_inline k ++ deep k) e n (later (empty_inline k) (deep k) e m t))
 
 pub sound_from : (k : Classes) → repeats k ++ unknown k ≡ [] → empty_inline k ≡ [] → deep k ≡ [] → Sound k
 unfolding class_faults

@@ -25,11 +25,13 @@ tells_append (f ∷ a) b (Flawed i j why) t = t
 tells_append (f ∷ a) b Memory t = tt
 
 -- Nothing is found at a member.
-pub stage_next : {X : Type 0} (found : ℕ → X → List ClassFlaw) (xs : List X) (i : ℕ) (x : X) (all : List ClassFlaw) → all ≡ rest found xs i → slice_get xs i ≡ Some x → found i x ≡ [] → all ≡ rest found xs (i + 1)
+pub stage_next : {X : Type 0} (found : ℕ → X → List ClassFlaw) (xs : List X) (i : ℕ) (x : X) (all : List ClassFlaw) → all ≡ rest found xs i → slice_get xs i ≡ Some x → found i x ≡ []
+    → all ≡ rest found xs (i + 1)
 stage_next found xs i x all r e n = r ∙ (rest_at found xs i x e ∙ ap (λ y. y ++ rest found xs (i + 1)) n)
 
 -- The first flaw that is found at a member is the first flaw of all.
-pub stage_tells : {X : Type 0} (found : ℕ → X → List ClassFlaw) (xs : List X) (i : ℕ) (x : X) (all : List ClassFlaw) (e : ClassFault) → all ≡ rest found xs i → slice_get xs i ≡ Some x → IsFirstFlaw (found i x) e → IsFirstFlaw all e
+pub stage_tells : {X : Type 0} (found : ℕ → X → List ClassFlaw) (xs : List X) (i : ℕ) (x : X) (all : List ClassFlaw) (e : ClassFault) → all ≡ rest found xs i → slice_get xs i ≡ Some x
+    → IsFirstFlaw (found i x) e → IsFirstFlaw all e
 stage_tells found xs i x all e r s t = rw (r ∙ rest_at found xs i x s) (tells_append (found i x) (rest found xs (i + 1)) e t)
 
 -- Nothing is left.

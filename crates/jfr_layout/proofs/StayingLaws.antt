@@ -12,7 +12,8 @@ use Rattle.jfr_layout.proofs.SoundLaws.{are_known}
 use Rattle.jfr_layout.specs.Staying.{staying, IsClosed, IsSoundSubset}
 
 -- Where nothing is found at any member, nothing is found at all.
-none_all_from : {X Y : Type 0} (found : ℕ → X → List Y) (n : ℕ) (xs : List X) → ((i j : ℕ) (x : X) → slice_get xs i ≡ Some x → n + i ≡ j → found j x ≡ []) → flat_map (λ y. found y.0 y.1) (enumerate_from n xs) ≡ []
+none_all_from : {X Y : Type 0} (found : ℕ → X → List Y) (n : ℕ) (xs : List X) → ((i j : ℕ) (x : X) → slice_get xs i ≡ Some x → n + i ≡ j → found j x ≡ [])
+    → flat_map (λ y. found y.0 y.1) (enumerate_from n xs) ≡ []
 none_all_from found n [] h = refl
 none_all_from found n (x ∷ xs) h =
     ap (λ z. z ++ flat_map (λ y. found y.0 y.1) (enumerate_from (n + 1) xs)) (h 0 n x refl (omega arith)) ∙ none_all_from found (n + 1) xs (λ i j y e q. h (suc i) j y e (omega arith))
@@ -63,7 +64,8 @@ found_get : {X : Type 0} (t : X → Bool) (xs : List X) (x : X) → find t xs �
 found_get t [] x e = cc
 found_get {X = X} t (y ∷ ys) x e = by_test (t y) refl e (found_get t ys x)
   where
-    by_test : (b : Bool) → t y ≡ b → (if b then Some y else find t ys) ≡ Some x → (find t ys ≡ Some x → (i : ℕ) × (slice_get ys i ≡ Some x) × (t x ≡ true)) → (i : ℕ) × (slice_get (y ∷ ys) i ≡ Some x) × (t x ≡ true)
+    by_test : (b : Bool) → t y ≡ b → (if b then Some y else find t ys) ≡ Some x → (find t ys ≡ Some x → (i : ℕ) × (slice_get ys i ≡ Some x) × (t x ≡ true))
+        → (i : ℕ) × (slice_get (y ∷ ys) i ≡ Some x) × (t x ≡ true)
     by_test true q e f = let h : y ≡ x = cc in (0, e, subst (λ z. t z ≡ true) h q)
     by_test false q e f = let r = f e in (suc r.0, r.1, r.2)
 
@@ -151,14 +153,16 @@ module _ (k : Classes) (stays : ℕ → Bool) where
     names_anywhere : (i j : ℕ) (fs : List Field) → name_repeats i fs ≡ [] → name_repeats j fs ≡ []
     names_anywhere i j fs e =
         none_all (λ n (f : Field). flaw_if (has_name (take n fs) f.name) j (Some n) FieldTwice) fs
-        (λ n f g. flaw_none (has_name (take n fs) f.name) j (Some n) FieldTwice (no_flaw (has_name (take n fs) f.name) i (Some n) FieldTwice (none_at (λ n (f : Field). flaw_if (has_name (take n fs) f.name) i (Some n) FieldTwice) fs n f e g)))
+        (λ n f g. flaw_none (has_name (take n fs) f.name) j (Some n) FieldTwice
+        (no_flaw (has_name (take n fs) f.name) i (Some n) FieldTwice (none_at (λ n (f : Field). flaw_if (has_name (take n fs) f.name) i (Some n) FieldTwice) fs n f e g)))
 
     repeats_none : repeats m ≡ []
     repeats_none =
         none_all (λ i (c : Class). flaw_if (has_id (take i m) c.id) i None ClassTwice ++ name_repeats i c.fields) m
         (λ i c e.
         (let r = place i c e in
-        let both = nil_parts (flaw_if (has_id (take r.at k) c.id) r.at None ClassTwice) (name_repeats r.at c.fields) (none_at (λ i (c : Class). flaw_if (has_id (take i k) c.id) i None ClassTwice ++ name_repeats i c.fields) k r.at c no_repeats r.there) in
+        let both = nil_parts (flaw_if (has_id (take r.at k) c.id) r.at None ClassTwice) (name_repeats r.at c.fields)
+        (none_at (λ i (c : Class). flaw_if (has_id (take i k) c.id) i None ClassTwice ++ name_repeats i c.fields) k r.at c no_repeats r.there) in
         let once : has_id (take i m) c.id ≡ false =
         ap (λ z. has_id z c.id) r.before ∙ none_passes (λ (d : Class). d.id == c.id) (λ (d : Class). stays d.id) (take r.at k) (no_flaw (has_id (take r.at k) c.id) r.at None ClassTwice both.0) in
         ap (λ z. z ++ name_repeats i c.fields) (flaw_none (has_id (take i m) c.id) i None ClassTwice once) ∙ names_anywhere r.at i c.fields both.1))
@@ -181,13 +185,16 @@ module _ (k : Classes) (stays : ℕ → Bool) where
     empty_none =
         fields_pass EmptyInline (is_empty_inline m)
         (λ i c e s j f g. ap (λ o. option_map_or (λ (d : Class). length d.fields == 0) o false) (step_as_before f (field_stays i c e s j f g))
-        ∙ no_flaw (is_empty_inline k f) i (Some j) EmptyInline (none_at (λ j (f : Field). flaw_if (is_empty_inline k f) i (Some j) EmptyInline) c.fields j f (none_at (λ i (c : Class). flaws_in EmptyInline (is_empty_inline k) i c.fields) k i c no_empty e) g))
+        ∙ no_flaw (is_empty_inline k f) i (Some j) EmptyInline
+        (none_at (λ j (f : Field). flaw_if (is_empty_inline k f) i (Some j) EmptyInline) c.fields j f
+        (none_at (λ i (c : Class). flaws_in EmptyInline (is_empty_inline k) i c.fields) k i c no_empty e) g))
 
     -- The class to which an inline step goes is in the list, and stays.
     step_there : (f : Field) (d : Class) → stays f.shape.class ≡ true → step_class k f ≡ Some d → (i : ℕ) × (slice_get k i ≡ Some d) × (stays d.id ≡ true)
     step_there f d s e = by_mark f.shape.constant e
       where
-        by_found : (o : Option Class) → find_class k f.shape.class ≡ o → option_and_then (λ (d : Class). if is_composite (kind_of d.name) then Some d else None) o ≡ Some d → (i : ℕ) × (slice_get k i ≡ Some d) × (stays d.id ≡ true)
+        by_found : (o : Option Class) → find_class k f.shape.class ≡ o → option_and_then (λ (d : Class). if is_composite (kind_of d.name) then Some d else None) o ≡ Some d
+            → (i : ℕ) × (slice_get k i ≡ Some d) × (stays d.id ≡ true)
         by_found None q e = cc
         by_found (Some c) q e = by_kind (is_composite (kind_of c.name)) e
           where
@@ -198,7 +205,8 @@ module _ (k : Classes) (stays : ℕ → Bool) where
                 (r.0, r.1 ∙ ap (λ z. Some z) h, ap (λ (z : Class). stays z.id) (sym h) ∙ (ap stays (eqb-true c.id f.shape.class r.2) ∙ s))
             by_kind false e = cc
 
-        by_mark : (t : Bool) → (if t then None else option_and_then (λ (d : Class). if is_composite (kind_of d.name) then Some d else None) (find_class k f.shape.class)) ≡ Some d → (i : ℕ) × (slice_get k i ≡ Some d) × (stays d.id ≡ true)
+        by_mark : (t : Bool) → (if t then None else option_and_then (λ (d : Class). if is_composite (kind_of d.name) then Some d else None) (find_class k f.shape.class)) ≡ Some d
+            → (i : ℕ) × (slice_get k i ≡ Some d) × (stays d.id ≡ true)
         by_mark true e = cc
         by_mark false e = by_found (find_class k f.shape.class) refl e
 
@@ -211,7 +219,8 @@ module _ (k : Classes) (stays : ℕ → Bool) where
         Rest : Type 0
         Rest = (i : ℕ) (c : Class) → slice_get k i ≡ Some c → stays c.id ≡ true → begins_chain n m c ≡ begins_chain n k c
 
-        one : Rest → (j : ℕ) (f : Field) → slice_get c.fields j ≡ Some f → option_map_or (λ d. begins_chain n m d) (step_class m f) false ≡ option_map_or (λ d. begins_chain n k d) (step_class k f) false
+        one : Rest → (j : ℕ) (f : Field) → slice_get c.fields j ≡ Some f
+            → option_map_or (λ d. begins_chain n m d) (step_class m f) false ≡ option_map_or (λ d. begins_chain n k d) (step_class k f) false
         one rest j f g =
             ap (λ o. option_map_or (λ d. begins_chain n m d) o false) (step_as_before f (field_stays i c e s j f g)) ∙ by_step (step_class k f) refl
           where
@@ -219,7 +228,8 @@ module _ (k : Classes) (stays : ℕ → Bool) where
             by_step None q = refl
             by_step (Some d) q = let r = step_there f d (field_stays i c e s j f g) q in rest r.0 d r.1 r.2
 
-        by_kind : Rest → (t : Bool) → list_any (λ f. option_map_or (λ d. begins_chain n m d) (step_class m f) false) (if t then c.fields else []) ≡ list_any (λ f. option_map_or (λ d. begins_chain n k d) (step_class k f) false) (if t then c.fields else [])
+        by_kind : Rest → (t : Bool)
+            → list_any (λ f. option_map_or (λ d. begins_chain n m d) (step_class m f) false) (if t then c.fields else []) ≡ list_any (λ f. option_map_or (λ d. begins_chain n k d) (step_class k f) false) (if t then c.fields else [])
         by_kind rest true = same_any (λ f. option_map_or (λ d. begins_chain n m d) (step_class m f) false) (λ f. option_map_or (λ d. begins_chain n k d) (step_class k f) false) c.fields (one rest)
         by_kind rest false = refl
 
@@ -229,11 +239,15 @@ module _ (k : Classes) (stays : ℕ → Bool) where
         (λ i c e.
         (let r = place i c e in
         flaw_none (begins_chain 33 m c) i None InlineDeep
-        (inline_as_before 33 r.at c r.there r.passes ∙ no_flaw (begins_chain 33 k c) r.at None InlineDeep (none_at (λ i (c : Class). flaw_if (begins_chain 33 k c) i None InlineDeep) k r.at c no_deep r.there))))
+        (inline_as_before 33 r.at c r.there r.passes ∙ no_flaw (begins_chain 33 k c) r.at None InlineDeep
+        (none_at (λ i (c : Class). flaw_if (begins_chain 33 k c) i None InlineDeep) k r.at c no_deep r.there))))
 
     pub staying_sound : Sound m
     unfolding class_faults
-    staying_sound = record { none = ap (λ z. z ++ (unknown m ++ (empty_inline m ++ deep m))) repeats_none ∙ (ap (λ z. z ++ (empty_inline m ++ deep m)) unknown_none ∙ (ap (λ z. z ++ deep m) empty_none ∙ deep_none)) }
+    staying_sound = record {
+      none = ap (λ z. z ++ (unknown m ++ (empty_inline m ++ deep m))) repeats_none
+          ∙ (ap (λ z. z ++ (empty_inline m ++ deep m)) unknown_none ∙ (ap (λ z. z ++ deep m) empty_none ∙ deep_none));
+    }
 
     -- The lists agree on each class that stays.
     agree_within : (n id : ℕ) (c : Class) → find_class k id ≡ Some c → stays id ≡ true → AgreeWithin n k m id

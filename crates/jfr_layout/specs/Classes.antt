@@ -211,7 +211,8 @@ pub record Sound (k : Classes) : Type 0 where
 -- Two lists agree on the class with this id, and on each class that its fields name, n levels deep.
 abbrev pub AgreeWithin : ℕ → Classes → Classes → ℕ → Type 0
 AgreeWithin zero k m id = ⊤
-AgreeWithin (suc n) k m id = (c d : Class) × (find_class k id ≡ Some c) × (find_class m id ≡ Some d) × (c.name ≡ d.name) × (c.super_name ≡ d.super_name) × (c.fields ≡ d.fields) × AllByRecursion (λ f. AgreeWithin n k m f.shape.class) c.fields
+AgreeWithin (suc n) k m id = (c d : Class) × (find_class k id ≡ Some c) × (find_class m id ≡ Some d) × (c.name ≡ d.name) × (c.super_name ≡ d.super_name) × (c.fields ≡ d.fields) × AllByRecursion
+    (λ f. AgreeWithin n k m f.shape.class) c.fields
 
 -- Two lists agree on the class with this id, and on all classes that its fields name, at any depth.
 abbrev pub Agree : Classes → Classes → ℕ → Type 0

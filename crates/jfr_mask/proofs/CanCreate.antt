@@ -52,10 +52,12 @@ module _ (g : Given) (m : Masking) (output : List ℕ) (table : Option (List ℕ
   walk_can : (bf cs : List (List ℕ)) (flaw : Option Flaw) (s : Snapshot) → s.output ≡ Some output → IsNew table s → Cans (effects (walk (masking_rule g m output table) bf cs flaw).steps) s
   walk_can bf [] (Some f) s o n = tt
   walk_can bf [] None s o n =
-      subst (λ es. Cans es s) (sym (effects_needing AtEnd (Finish ∷ table_effects table (dictionary_over g m [] bf)))) (some_open s output o, table_can table (dictionary_over g m [] bf) (apply Finish s) refl n)
+      subst (λ es. Cans es s) (sym (effects_needing AtEnd (Finish ∷ table_effects table (dictionary_over g m [] bf))))
+      (some_open s output o, table_can table (dictionary_over g m [] bf) (apply Finish s) refl n)
   walk_can bf (c ∷ cs) flaw s o n = by_asks (refusal_of c) _ (λ z k. walk_can (bf ++ c ∷ []) cs flaw (apply (Append z) s) o k)
     where
-      by_asks : (f : Option Flaw) (long : Bool) → ((z : List ℕ) → IsNew table (apply (Append z) s) → Cans (effects (walk (masking_rule g m output table) (bf ++ c ∷ []) cs flaw).steps) (apply (Append z) s))
+      by_asks : (f : Option Flaw) (long : Bool)
+          → ((z : List ℕ) → IsNew table (apply (Append z) s) → Cans (effects (walk (masking_rule g m output table) (bf ++ c ∷ []) cs flaw).steps) (apply (Append z) s))
           → Cans (effects (walk_on (asks_by f long (length bf + 1) (masked g m (dictionary_over g m [] bf) c)) (length bf + 1) (walk (masking_rule g m output table) (bf ++ c ∷ []) cs flaw)).steps) s
       by_asks (Some f) long later = tt
       by_asks None true later = tt
@@ -113,7 +115,8 @@ no_write_fault : (k : MaskWork) (e : Ending) (a b : State) → CanCreateBoth k a
 no_write_fault k e a b c ran is =
     let h : Broken (mask_task k) (without_sink a) (without_sink b) = ran.broken is in
     told_at a.contents c.output.world (λ w. AreNew k w → ⊥) c.output.contents
-    (before_of a.contents b.contents (λ w v. Breaks a.steady (effects (mask_plan k w).steps) (snapshot w None) (snapshot v None)) (λ w. AreNew k w → ⊥) h (λ w v z are. never_breaks k w v a.steady c.output.steady are z))
+    (before_of a.contents b.contents (λ w v. Breaks a.steady (effects (mask_plan k w).steps) (snapshot w None) (snapshot v None)) (λ w. AreNew k w → ⊥) h
+    (λ w v z are. never_breaks k w v a.steady c.output.steady are z))
     (are_new k a c)
 
 pub can_create : (k : MaskWork) (e : Ending) (a b : State) → Ran (mask_task k) e (without_sink a) (without_sink b) → CanCreateBoth k a → (e ≡ WriteFault → ⊥) × (b.write_faults ≡ a.write_faults)

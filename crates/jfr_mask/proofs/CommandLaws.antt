@@ -95,7 +95,8 @@ module _ (each : EachIsMasked) (k : MaskWork) (a b : State) where
   ended_masks : (e : End) → IsByChunks e → Ended (mask_task k) e (without_sink a) (without_sink b) → IfKnown a.contents b.contents (Masks k)
   ended_masks e by d = told a.contents b.contents (λ w v. AllDone (mask_plan k w) e (snapshot w None) (snapshot v None)) (Masks k) d (λ w v h. masks_by each k w v None None e by h)
 
-  pub headline : (e : Ending) → (e ≡ ending.Done → Ended (mask_task k) Fine (without_sink a) (without_sink b)) → ((r : Refusal) → e ≡ ending.Refused r → Ended (mask_task k) (Refused r) (without_sink a) (without_sink b)) → IsByPlan e → IfKnown a.contents b.contents (Masks k)
+  pub headline : (e : Ending) → (e ≡ ending.Done → Ended (mask_task k) Fine (without_sink a) (without_sink b))
+      → ((r : Refusal) → e ≡ ending.Refused r → Ended (mask_task k) (Refused r) (without_sink a) (without_sink b)) → IsByPlan e → IfKnown a.contents b.contents (Masks k)
   headline ending.Done d r h = ended_masks Fine tt (d refl)
   headline (ending.Refused x) d r h = ended_masks (Refused x) tt (r x refl)
   headline ending.ReadFault d r h = absurd h

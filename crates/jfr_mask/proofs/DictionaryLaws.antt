@@ -33,7 +33,8 @@ module _ (m : Masking) where
   all_numbered [] d = tt
   all_numbered (c ∷ cs) d =
       let e : List (List ℕ) = next_dictionary m d c in (
-        all_so (λ t. has_text e t ≡ true) (λ t. (has_text (last_dictionary m e cs) t ≡ true) × (number_of e t ≡ number_of (last_dictionary m e cs) t)) (λ t h. (has_last cs e t h, number_last cs e t h))
+        all_so (λ t. has_text e t ≡ true) (λ t. (has_text (last_dictionary m e cs) t ≡ true) × (number_of e t ≡ number_of (last_dictionary m e cs) t))
+            (λ t h. (has_last cs e t h, number_last cs e t h))
             (chunk_texts m c.parts (events_kept c)) (after d c).there,
         all_numbered cs e,
       )

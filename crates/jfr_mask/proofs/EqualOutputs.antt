@@ -89,7 +89,8 @@ module _ (m : Masking) (g : List ℕ → List ℕ) (ex : IsExchange m.known g) (
 
   group_mapped : (x y : Group) → AlikeGroup m g p q x y → group_texts m q y ≡ map g (group_texts m p x)
   group_mapped x y a =
-      flat_map_mapped (AlikeEntry m g p q) g (λ e. node_texts m p (entry_node e)) (λ e. node_texts m q (entry_node e)) (λ e f b. node_mapped (entry_node e) (entry_node f) b.value) x.entries y.entries a.entries
+      flat_map_mapped (AlikeEntry m g p q) g (λ e. node_texts m p (entry_node e)) (λ e. node_texts m q (entry_node e))
+      (λ e f b. node_mapped (entry_node e) (entry_node f) b.value) x.entries y.entries a.entries
 
   origin_mapped : (x y : Origin) → AlikeOrigin m g p q x y → origin_texts m q y ≡ map g (origin_texts m p x)
   origin_mapped (Event e) (Event f) a = node_mapped e.node f.node a.fields
@@ -233,10 +234,12 @@ module _ (m : Masking) (g : List ℕ → List ℕ) (ex : IsExchange m.known g) (
         let u : Written = record { output_record = y; at = at; newest = older } in
         let v : Written = record { output_record = x; at = at; newest = older } in
         record {
-          bytes = ap (λ z. second y at older ++ flat_map (bytes_by second) z) moves ∙ (ap (λ z. z ++ flat_map (bytes_by second) (ws to (newest_after x at older))) same ∙ ap (λ z. first x at older ++ z) i.bytes);
+          bytes = ap (λ z. second y at older ++ flat_map (bytes_by second) z) moves
+              ∙ (ap (λ z. z ++ flat_map (bytes_by second) (ws to (newest_after x at older))) same ∙ ap (λ z. first x at older ++ z) i.bytes);
           last =
               last_cons older u rest
-              ∙ (ap (newest_at (newest_after y at older)) moves ∙ (ap (λ z. newest_at z (ws to (newest_after x at older))) next ∙ (i.last ∙ sym (last_cons older v (written_by first to (newest_after x at older) xs)))));
+              ∙ (ap (newest_at (newest_after y at older)) moves
+              ∙ (ap (λ z. newest_at z (ws to (newest_after x at older))) next ∙ (i.last ∙ sym (last_cons older v (written_by first to (newest_after x at older) xs)))));
           position =
               moved_cons u rest (metadata_at q.bytes)
               ∙ (ap (λ z. if z then at else moved rest (metadata_at q.bytes)) (sym a.0.position)

@@ -58,7 +58,8 @@ module _ (known : List ℕ → Bool) (g : List ℕ → List ℕ) (ex : IsExchang
   pub shown_alike : (d : List (List ℕ)) (t : List ℕ) → shown known (map g d) (g t) ≡ shown known d t
   shown_alike d t = ap (λ b. if b then g t else pseudonym (is_descriptor (g t)) (number_of (map g d) (g t))) (ex.others t) ∙ by_stays (is_unmasked known t) refl
     where
-      by_stays : (b : Bool) → is_unmasked known t ≡ b → (if b then g t else pseudonym (is_descriptor (g t)) (number_of (map g d) (g t))) ≡ (if b then t else pseudonym (is_descriptor t) (number_of d t))
+      by_stays : (b : Bool) → is_unmasked known t ≡ b
+          → (if b then g t else pseudonym (is_descriptor (g t)) (number_of (map g d) (g t))) ≡ (if b then t else pseudonym (is_descriptor t) (number_of d t))
       by_stays true e = ex.same t e
       by_stays false e = ap (λ z. pseudonym z (number_of (map g d) (g t))) (ex.descriptor t) ∙ ap (pseudonym (is_descriptor t)) (same_number d t)
 

@@ -48,7 +48,8 @@ module _ (masked : Option Holder → Bool) (p : Parts) where
           ∙ sym (flat_map-append (leaf_texts masked known p) (marked_leaves s.array holder at s h) inner
           ∙ ap (λ z. z ++ flat_map (leaf_texts masked known p) inner) (head_texts holder at s h s.array))
 
-      pub texts_by_leaves : (k : Classes) (holders : ℕ → Option Holder) (at : ℕ) (vs : Values) → AllFit k vs → masked_texts_all masked known p holders vs ≡ flat_map (leaf_texts masked known p) (leaves_from holders at vs)
+      pub texts_by_leaves : (k : Classes) (holders : ℕ → Option Holder) (at : ℕ) (vs : Values) → AllFit k vs
+          → masked_texts_all masked known p holders vs ≡ flat_map (leaf_texts masked known p) (leaves_from holders at vs)
       texts_by_leaves k holders at Nil f = refl
       texts_by_leaves k holders at (Cons v vs) f =
           let others : ℕ → Option Holder = λ n. holders (suc n) in

@@ -61,7 +61,8 @@ eqb_self n = by_test (n == n) refl
 
 -- A text that isn't there is added to the list and to a map, with the next number.
 module _ (d : List (List ℕ)) (firsts firsts_after : BTreeMap ℕ ℕ) (others others_after : BTreeMap (RcStr Global) ℕ) (text : List ℕ) (v : ℕ)
-    (old : AreNumbersOf d firsts others) (absent : has_text d (chars text) ≡ false) (utf8 : IsUtf8 text) (next : v ≡ length d + 1) (put : IsPut firsts others firsts_after others_after text (text_hash text) v) where
+    (old : AreNumbersOf d firsts others) (absent : has_text d (chars text) ≡ false) (utf8 : IsUtf8 text) (next : v ≡ length d + 1)
+    (put : IsPut firsts others firsts_after others_after text (text_hash text) v) where
   abbrev after : List (List ℕ)
   after = d ++ chars text ∷ []
 
@@ -72,7 +73,8 @@ module _ (d : List (List ℕ)) (firsts firsts_after : BTreeMap ℕ ℕ) (others 
   kept : (q n : ℕ) → first_under firsts q ≡ Some n → first_under firsts_after q ≡ Some n
   kept q n e = put.first q ∙ by_first (first_under firsts (text_hash text)) (text_hash text == q) refl refl
     where
-      by_first : (o : Option ℕ) (b : Bool) → first_under firsts (text_hash text) ≡ o → (text_hash text == q) ≡ b → (if is_some o then first_under firsts q else cond b (Some v) (first_under firsts q)) ≡ Some n
+      by_first : (o : Option ℕ) (b : Bool) → first_under firsts (text_hash text) ≡ o → (text_hash text == q) ≡ b
+          → (if is_some o then first_under firsts q else cond b (Some v) (first_under firsts q)) ≡ Some n
       by_first (Some m) b f g = e
       by_first None false f g = e
       by_first None true f g = let h : Some n ≡ None = sym e ∙ (ap (first_under firsts) (sym (eqb-true (text_hash text) q g)) ∙ f) in cc
@@ -88,10 +90,13 @@ module _ (d : List (List ℕ)) (firsts firsts_after : BTreeMap ℕ ℕ) (others 
   here = by_first (first_under firsts (text_hash text)) refl
     where
       by_first : (o : Option ℕ) → first_under firsts (text_hash text) ≡ o → IsNumbered firsts_after others_after text v
-      by_first None f = inl (put.first (text_hash text) ∙ (ap (λ z. if is_some z then first_under firsts (text_hash text) else cond (text_hash text == text_hash text) (Some v) (first_under firsts (text_hash text))) f ∙ ap (λ b. cond b (Some v) (first_under firsts (text_hash text))) (eqb_self (text_hash text))))
+      by_first None f = inl (put.first (text_hash text)
+          ∙ (ap (λ z. if is_some z then first_under firsts (text_hash text) else cond (text_hash text == text_hash text) (Some v) (first_under firsts (text_hash text))) f
+          ∙ ap (λ b. cond b (Some v) (first_under firsts (text_hash text))) (eqb_self (text_hash text))))
       by_first (Some n) f = inr (
         ap is_some (kept (text_hash text) n f),
-        put.other text ∙ (ap (λ z. if is_some z then cond (bytes_eq text text) (Some v) (number_under others text) else number_under others text) f ∙ ap (λ b. cond b (Some v) (number_under others text)) (eq_self text)),
+        put.other text ∙ (ap (λ z. if is_some z then cond (bytes_eq text text) (Some v) (number_under others text) else number_under others text) f
+            ∙ ap (λ b. cond b (Some v) (number_under others text)) (eq_self text)),
       )
 
   still : (bytes : List ℕ) (n : ℕ) → bytes_eq text bytes ≡ false → IsNumbered firsts others bytes n → IsNumbered firsts_after others_after bytes n
@@ -110,12 +115,14 @@ module _ (d : List (List ℕ)) (firsts firsts_after : BTreeMap ℕ ℕ) (others 
   }
     where
       by_eq : (bytes : List ℕ) → IsUtf8 bytes → has_text after (chars bytes) ≡ true → (b : Bool) → bytes_eq text bytes ≡ b → IsNumbered firsts_after others_after bytes (number_of after (chars bytes))
-      by_eq bytes u h true e = subst (λ z. IsNumbered firsts_after others_after z (number_of after (chars z))) (eq_is text bytes e) (subst (IsNumbered firsts_after others_after text) (sym at_last) here)
+      by_eq bytes u h true e = subst (λ z. IsNumbered firsts_after others_after z (number_of after (chars z))) (eq_is text bytes e)
+          (subst (IsNumbered firsts_after others_after text) (sym at_last) here)
       by_eq bytes u h false e =
           let there : has_text d (chars bytes) ≡ true = sym (has_other d (chars text) (chars bytes) (chars_apart text bytes utf8 u ∙ e)) ∙ h in
           subst (IsNumbered firsts_after others_after bytes) (sym (number_old d (chars text) (chars bytes) there)) (still bytes (number_of d (chars bytes)) e (old.each bytes u there))
 
-      by_listed : (bytes : List ℕ) (n : ℕ) → IsUtf8 bytes → number_under others_after bytes ≡ Some n → (b : Bool) → bytes_eq text bytes ≡ b → (has_text after (chars bytes) ≡ true) × (n ≡ number_of after (chars bytes))
+      by_listed : (bytes : List ℕ) (n : ℕ) → IsUtf8 bytes → number_under others_after bytes ≡ Some n → (b : Bool) → bytes_eq text bytes ≡ b
+          → (has_text after (chars bytes) ≡ true) × (n ≡ number_of after (chars bytes))
       by_listed bytes n u h false e =
           let r = old.listed bytes n u (sym (other_kept bytes e) ∙ h) in
           (has_append d (chars text ∷ []) (chars bytes) r.0, r.1 ∙ sym (number_old d (chars text) (chars bytes) r.0))
@@ -128,13 +135,17 @@ module _ (d : List (List ℕ)) (firsts firsts_after : BTreeMap ℕ ℕ) (others 
             where
               by_first : (o : Option ℕ) → first_under firsts (text_hash text) ≡ o → n ≡ v
               by_first None f =
-                  let was : number_under others text ≡ Some n = sym (put.other text ∙ ap (λ z. if is_some z then cond (bytes_eq text text) (Some v) (number_under others text) else number_under others text) f) ∙ h in
+                  let was : number_under others text ≡ Some n =
+                  sym (put.other text ∙ ap (λ z. if is_some z then cond (bytes_eq text text) (Some v) (number_under others text) else number_under others text) f) ∙ h in
                   let clash : false ≡ true = sym absent ∙ (old.listed text n utf8 was).0 in cc
               by_first (Some m) f =
-                  let is : Some v ≡ Some n = sym (put.other text ∙ (ap (λ z. if is_some z then cond (bytes_eq text text) (Some v) (number_under others text) else number_under others text) f ∙ ap (λ b. cond b (Some v) (number_under others text)) (eq_self text))) ∙ h in cc
+                  let is : Some v ≡ Some n = sym (put.other text
+                  ∙ (ap (λ z. if is_some z then cond (bytes_eq text text) (Some v) (number_under others text) else number_under others text) f
+                  ∙ ap (λ b. cond b (Some v) (number_under others text)) (eq_self text))) ∙ h in cc
 
 -- The same numbers are in other maps.
-pub numbers_same : (d : List (List ℕ)) (firsts after : BTreeMap ℕ ℕ) (others others_after : BTreeMap (RcStr Global) ℕ) → AreSame firsts others after others_after → AreNumbersOf d firsts others → AreNumbersOf d after others_after
+pub numbers_same : (d : List (List ℕ)) (firsts after : BTreeMap ℕ ℕ) (others others_after : BTreeMap (RcStr Global) ℕ) → AreSame firsts others after others_after → AreNumbersOf d firsts others
+    → AreNumbersOf d after others_after
 numbers_same d firsts after others others_after s a = record {
   distinct = a.distinct;
   each = λ bytes u h. by_number bytes (number_of d (chars bytes)) (a.each bytes u h);
@@ -146,7 +157,8 @@ numbers_same d firsts after others others_after s a = record {
     by_number bytes n (inr e) = inr (ap is_some (s.first (text_hash bytes)) ∙ e.0, s.other bytes ∙ e.1)
 
 -- A text that is added has the last number.
-pub added_last : {E : Type 0} (r : Result ℕ E) (d new : List (List ℕ)) (t : List ℕ) → has_text d t ≡ false → OnOk r (new ≡ d ++ t ∷ []) → IfOk r (λ n. n ≡ length d + 1) → IfOk r (λ n. n ≡ number_of new t)
+pub added_last : {E : Type 0} (r : Result ℕ E) (d new : List (List ℕ)) (t : List ℕ) → has_text d t ≡ false → OnOk r (new ≡ d ++ t ∷ []) → IfOk r (λ n. n ≡ length d + 1)
+    → IfOk r (λ n. n ≡ number_of new t)
 added_last (Ok n) d new t h e m = m ∙ (sym (number_last d t h) ∙ ap (λ z. number_of z t) (sym e))
 added_last (Err x) d new t h e m = tt
 

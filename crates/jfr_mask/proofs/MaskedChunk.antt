@@ -24,7 +24,8 @@ written_with m p kept masks d es metadata =
 
 -- With those that masking asks for, it is the masked chunk.
 pub masked_is : (m : Masking) (before d : List (List ℕ)) (p : Parts) (kept : List EventAt) (masks : Masks) (es : List EntryAt) (metadata : Option (List ℕ))
-    → masks ≡ masks_of m.strings m.except p.classes → d ≡ dictionary_after m before p kept → es ≡ remain_but (is_masked_string (is_held_masked masks p.classes)) p kept → metadata ≡ new_metadata m.described p kept
+    → masks ≡ masks_of m.strings m.except p.classes → d ≡ dictionary_after m before p kept → es ≡ remain_but (is_masked_string (is_held_masked masks p.classes)) p kept
+    → metadata ≡ new_metadata m.described p kept
     → written_with m p kept masks d es metadata ≡ mask_of m before p kept
 unfolding mask_of
 masked_is m before d p kept masks es metadata masks_is d_is es_is metadata_is =

@@ -29,7 +29,8 @@ abbrev pub appends : List (List ℕ) → List Effect
 appends bs = map (λ b. Append b) bs
 
 -- What is appended to the open output is in its file.
-pub appended : (name : List ℕ) (bs : List (List ℕ)) (s : Snapshot) (b : List ℕ) → s.output ≡ Some name → fin.get s.files name ≡ Some b → fin.get (done (appends bs) s).files name ≡ Some (b ++ joined bs)
+pub appended : (name : List ℕ) (bs : List (List ℕ)) (s : Snapshot) (b : List ℕ) → s.output ≡ Some name → fin.get s.files name ≡ Some b
+    → fin.get (done (appends bs) s).files name ≡ Some (b ++ joined bs)
 appended name [] s b o g = g ∙ ap Some (sym (append-nil b))
 appended name (c ∷ bs) s b o g = appended name bs (apply (Append c) s) (b ++ c) o (grown_by s.output o) ∙ ap Some (append_assoc b c (joined bs))
   where
@@ -107,7 +108,8 @@ module _ (g : Given) (m : Masking) (output : List ℕ) (table : Option (List ℕ
   abbrev L : List (List ℕ) → ℕ
   L bf = length (joined (all_masked g m [] bf))
 
-  pub walked : (bf cs : List (List ℕ)) (flaw : Option Flaw) → IsByChunks (walk (masking_rule g m output table) bf cs flaw).end → Walked (D bf) (L bf) cs (before_refused refusal_of cs) (walk (masking_rule g m output table) bf cs flaw)
+  pub walked : (bf cs : List (List ℕ)) (flaw : Option Flaw) → IsByChunks (walk (masking_rule g m output table) bf cs flaw).end
+      → Walked (D bf) (L bf) cs (before_refused refusal_of cs) (walk (masking_rule g m output table) bf cs flaw)
   walked bf [] None by = record { last = Finish ∷ table_effects table (D bf); effects_are = effects_needing AtEnd (Finish ∷ table_effects table (D bf)); fine = λ e. refl; others = inr refl; fit = tt }
   walked bf [] (Some f) by = record { last = []; effects_are = refl; fine = λ e. absurd (refused_fine (length bf + 1) f e); others = inl refl; fit = tt }
   walked bf (c ∷ cs) flaw by =
@@ -131,7 +133,8 @@ module _ (g : Given) (m : Masking) (output : List ℕ) (table : Option (List ℕ
     written = appended output bs (apply (Create output) (snapshot w p)) [] refl (is_there w.files output [])
 
     all_of : (last : List Effect) → effects (plan_after (masking_rule g m output table) [] (Some x)).steps ≡ Create output ∷ (appends bs ++ last) → v.files ≡ (done last s).files
-    all_of last is = ap (λ (t : Snapshot). t.files) d.holds ∙ ap (λ es. (done es (snapshot w p)).files) is ∙ ap (λ (t : Snapshot). t.files) (done_append (appends bs) last (apply (Create output) (snapshot w p)))
+    all_of last is = ap (λ (t : Snapshot). t.files) d.holds ∙ ap (λ es. (done es (snapshot w p)).files) is
+        ∙ ap (λ (t : Snapshot). t.files) (done_append (appends bs) last (apply (Create output) (snapshot w p)))
 
     only_finish : effects (plan_after (masking_rule g m output table) [] (Some x)).steps ≡ Create output ∷ (appends bs ++ Finish ∷ []) → file v output ≡ Some (joined bs)
     only_finish is = ap (λ f. fin.get f output) (all_of (Finish ∷ []) is) ∙ written
@@ -146,8 +149,10 @@ module _ (g : Given) (m : Masking) (output : List ℕ) (table : Option (List ℕ
       -- The table is another file, since it is created after the output.
       apart : name ≡ output → ⊥
       apart same =
-          let none : fin.get (done (Create output ∷ (appends bs ++ Finish ∷ [])) (snapshot w p)).files name ≡ None = created_new (plan_after (masking_rule g m output table) [] (Some x)) e (Create output ∷ (appends bs ++ Finish ∷ [])) (appends lines ++ Finish ∷ []) name p q w v d (is ∙ regrouped) in
-          let there : fin.get (done (Create output ∷ (appends bs ++ Finish ∷ [])) (snapshot w p)).files output ≡ Some (joined bs) = ap (λ (t : Snapshot). fin.get t.files output) (done_append (appends bs) (Finish ∷ []) (apply (Create output) (snapshot w p))) ∙ written in
+          let none : fin.get (done (Create output ∷ (appends bs ++ Finish ∷ [])) (snapshot w p)).files name ≡ None =
+          created_new (plan_after (masking_rule g m output table) [] (Some x)) e (Create output ∷ (appends bs ++ Finish ∷ [])) (appends lines ++ Finish ∷ []) name p q w v d (is ∙ regrouped) in
+          let there : fin.get (done (Create output ∷ (appends bs ++ Finish ∷ [])) (snapshot w p)).files output ≡ Some (joined bs) =
+          ap (λ (t : Snapshot). fin.get t.files output) (done_append (appends bs) (Finish ∷ []) (apply (Create output) (snapshot w p))) ∙ written in
           absurd_by (sym none ∙ subst (λ z. fin.get (done (Create output ∷ (appends bs ++ Finish ∷ [])) (snapshot w p)).files z ≡ Some (joined bs)) (sym same) there)
         where
           absurd_by : None ≡ Some (joined bs) → ⊥
@@ -188,8 +193,12 @@ module _ (g : Given) (m : Masking) (output : List ℕ) (table : Option (List ℕ
         in_table = λ is. (output_by table (dictionary_over g m [] cs) x bs w v p q e d (steps ∙ ap (λ es. Create output ∷ (appends bs ++ es)) (h.fine (end_is ∙ is)))).1;
       }
     where
-      by_last : (x : List ℕ) (cs : List (List ℕ)) (w v : World) (p q : Option (List ℕ)) (e : End) → AllDone (plan_after (masking_rule g m output table) [] (Some x)) e (snapshot w p) (snapshot v q) → (last : List Effect) → (last ≡ []) ⊎ (last ≡ Finish ∷ table_effects table (dictionary_over g m [] cs))
+      by_last : (x : List ℕ) (cs : List (List ℕ)) (w v : World) (p q : Option (List ℕ)) (e : End) → AllDone (plan_after (masking_rule g m output table) [] (Some x)) e (snapshot w p) (snapshot v q)
+          → (last : List Effect) → (last ≡ []) ⊎ (last ≡ Finish ∷ table_effects table (dictionary_over g m [] cs))
           → effects (plan_after (masking_rule g m output table) [] (Some x)).steps ≡ Create output ∷ (appends (all_masked g m [] (before_refused refusal_of cs)) ++ last)
           → file v output ≡ Some (joined (all_masked g m [] (before_refused refusal_of cs)))
-      by_last x cs w v p q e d last (inl none) is = nothing_last x (all_masked g m [] (before_refused refusal_of cs)) w v p q e d (is ∙ ap (λ es. Create output ∷ (appends (all_masked g m [] (before_refused refusal_of cs)) ++ es)) none)
-      by_last x cs w v p q e d last (inr some) is = (output_by table (dictionary_over g m [] cs) x (all_masked g m [] (before_refused refusal_of cs)) w v p q e d (is ∙ ap (λ es. Create output ∷ (appends (all_masked g m [] (before_refused refusal_of cs)) ++ es)) some)).0
+      by_last x cs w v p q e d last (inl none) is =
+          nothing_last x (all_masked g m [] (before_refused refusal_of cs)) w v p q e d (is ∙ ap (λ es. Create output ∷ (appends (all_masked g m [] (before_refused refusal_of cs)) ++ es)) none)
+      by_last x cs w v p q e d last (inr some) is =
+          (output_by table (dictionary_over g m [] cs) x (all_masked g m [] (before_refused refusal_of cs)) w v p q e d
+          (is ∙ ap (λ es. Create output ∷ (appends (all_masked g m [] (before_refused refusal_of cs)) ++ es)) some)).0

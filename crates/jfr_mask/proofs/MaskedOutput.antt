@@ -39,7 +39,8 @@ module _ (each : EachIsMasked) (g : Given) (m : Masking) where
     pub outputs : AreMaskedOutputs g m d cs (all_masked g m d cs)
     pub cut_so : AreCut (all_masked g m d cs) None (joined (all_masked g m d cs)) before false
 
-  outputs_of : (d : List (List ℕ)) (before : ℕ) (cs : List (List ℕ)) → AllByRecursion Whole cs → AllFitAfter g m d before (before_refused refusal_of cs) → Outputs d before (before_refused refusal_of cs)
+  outputs_of : (d : List (List ℕ)) (before : ℕ) (cs : List (List ℕ)) → AllByRecursion Whole cs → AllFitAfter g m d before (before_refused refusal_of cs)
+      → Outputs d before (before_refused refusal_of cs)
   outputs_of d before [] w f = record { outputs = tt; cut_so = nothing_is_the_end before }
   outputs_of d before (c ∷ cs) w f = by_flaw (refusal_of c) refl f (λ e h. outputs_of (dictionary_with g m d c) (before + length (masked g m d c)) cs w.1 h)
     where

@@ -53,10 +53,12 @@ noted_more p known d numbers entry number l here a = record {
   each = λ i index e n there. by_less i index e n there (cases_lt i entry) (cases_lt entry i);
 }
   where
-    other : (i index : ℕ) (e : EntryAt) → get_or (set numbers entry number) i 0 ≡ suc index → slice_get p.entries i ≡ Some e → i ≢ entry → (text : List ℕ) × (entry_text p e ≡ Some text) × IsMaskedAt known d text index
+    other : (i index : ℕ) (e : EntryAt) → get_or (set numbers entry number) i 0 ≡ suc index → slice_get p.entries i ≡ Some e → i ≢ entry
+        → (text : List ℕ) × (entry_text p e ≡ Some text) × IsMaskedAt known d text index
     other i index e n there apart = a.each i index e (sym (get_or-set_other numbers entry i number 0 apart) ∙ n) there
 
-    by_less : (i index : ℕ) (e : EntryAt) → get_or (set numbers entry number) i 0 ≡ suc index → slice_get p.entries i ≡ Some e → (i < entry) ⊎ (entry ≤ i) → (entry < i) ⊎ (i ≤ entry) → (text : List ℕ) × (entry_text p e ≡ Some text) × IsMaskedAt known d text index
+    by_less : (i index : ℕ) (e : EntryAt) → get_or (set numbers entry number) i 0 ≡ suc index → slice_get p.entries i ≡ Some e → (i < entry) ⊎ (entry ≤ i) → (entry < i) ⊎ (i ≤ entry)
+        → (text : List ℕ) × (entry_text p e ≡ Some text) × IsMaskedAt known d text index
     by_less i index e n there (inl less) h = other i index e n there (λ q. absurd (omega (arith, less, q)))
     by_less i index e n there (inr more) (inl less) = other i index e n there (λ q. absurd (omega (arith, less, q)))
     by_less i index e n there (inr more) (inr most) =
@@ -73,7 +75,8 @@ leads_there p l entry h = by_key (leaf_key l.kind l.spelled) refl
         let f : number_in_force p.entries (l.class, key) ≡ Some entry = sym (ap (option_and_then (λ key. number_in_force p.entries (l.class, key))) q) ∙ h in
         (force_within p.entries (l.class, key) entry f, λ e there. text_by key e there f q)
       where
-        text_by : (key : ℕ) (e : EntryAt) → slice_get p.entries entry ≡ Some e → number_in_force p.entries (l.class, key) ≡ Some entry → leaf_key l.kind l.spelled ≡ Some key → leaf_text p l ≡ entry_text p e
+        text_by : (key : ℕ) (e : EntryAt) → slice_get p.entries entry ≡ Some e → number_in_force p.entries (l.class, key) ≡ Some entry → leaf_key l.kind l.spelled ≡ Some key
+            → leaf_text p l ≡ entry_text p e
         text_by key e there f q = ap (string_text p l.class l.spelled) q ∙ ap (option_and_then (entry_text p)) (ap (option_and_then (λ n. slice_get p.entries n)) f ∙ there)
 
 -- A text that is noted is in the dictionary.
@@ -82,12 +85,18 @@ noted_same known d text index m =
     ap (λ b. with_texts d (if b then [] else text ∷ [])) m.hidden ∙ ap (λ b. if b then d else d ++ text ∷ []) (has_at d index text m.there)
 
 -- A text that is added has its number.
-pub masked_added : (known : List ℕ → Bool) (d : List (List ℕ)) (text : List ℕ) (index : ℕ) → is_unmasked known text ≡ false → suc index ≡ number_of (with_text d text) text → IsMaskedAt known (with_text d text) text index
+pub masked_added : (known : List ℕ → Bool) (d : List (List ℕ)) (text : List ℕ) (index : ℕ) → is_unmasked known text ≡ false → suc index ≡ number_of (with_text d text) text
+    → IsMaskedAt known (with_text d text) text index
 masked_added known d text index h e =
-    record { there = (let n : number_of (with_text d text) text - 1 ≡ index = omega (arith, e) in subst (λ z. slice_get (with_text d text) z ≡ Some text) n (at_number (with_text d text) text (has_one d text))); hidden = h }
+    record {
+      there = (let n : number_of (with_text d text) text - 1 ≡ index = omega (arith, e) in subst (λ z. slice_get (with_text d text) z ≡ Some text) n
+          (at_number (with_text d text) text (has_one d text)));
+      hidden = h;
+    }
 
 -- A string with what is shown for a text that isn't shown as it is.
-pub noted_string : (known : List ℕ → Bool) (d : List (List ℕ)) (text u : List ℕ) → is_unmasked known text ≡ false → u ≡ encode_utf8_all (shown known d text) → string_bytes (option_map (shown known d) (Some text)) ≡ utf8_string u
+pub noted_string : (known : List ℕ → Bool) (d : List (List ℕ)) (text u : List ℕ) → is_unmasked known text ≡ false → u ≡ encode_utf8_all (shown known d text)
+    → string_bytes (option_map (shown known d) (Some text)) ≡ utf8_string u
 noted_string known d text u h e =
     let s : shown known d text ≡ pseudonym (is_descriptor text) (number_of d text) = ap (λ b. if b then text else pseudonym (is_descriptor text) (number_of d text)) h in
     ap text_bytes s ∙ (by_descriptor (is_descriptor text) (number_of d text) ∙ (ap filled (sym s) ∙ ap utf8_string (sym e)))
@@ -100,7 +109,8 @@ noted_string known d text u h e =
     by_descriptor false n = refl
 
 -- A string that leads to an entry with a noted number has this text.
-pub noted_leads : (p : Parts) (known : List ℕ → Bool) (d : List (List ℕ)) (numbers : List ℕ) (l : LeafAt) (entry index : ℕ) → entry_by p l ≡ Some entry → get_or numbers entry 0 ≡ suc index → AreNoted p known d numbers
+pub noted_leads : (p : Parts) (known : List ℕ → Bool) (d : List (List ℕ)) (numbers : List ℕ) (l : LeafAt) (entry index : ℕ) → entry_by p l ≡ Some entry → get_or numbers entry 0 ≡ suc index
+    → AreNoted p known d numbers
     → (text : List ℕ) × (leaf_text p l ≡ Some text) × IsMaskedAt known d text index
 noted_leads p known d numbers l entry index h n a =
     let none : EntryAt = record { class = 0; key = 0; key_at = 0; value_at = 0; end = 0; checkpoint = 0; pool = 0 } in
@@ -110,14 +120,16 @@ noted_leads p known d numbers l entry index h n a =
     (r.0, leads.1 (get_or p.entries entry none) there ∙ r.1, r.2)
 
 -- Its text needn't be added.
-pub noted_ok : (p : Parts) (known : List ℕ → Bool) (d : List (List ℕ)) (numbers : List ℕ) (l : LeafAt) (entry : ℕ) (o : Option ℕ) → is_some o ≡ true → ((index : ℕ) → o ≡ Some index → get_or numbers entry 0 ≡ suc index)
+pub noted_ok : (p : Parts) (known : List ℕ → Bool) (d : List (List ℕ)) (numbers : List ℕ) (l : LeafAt) (entry : ℕ) (o : Option ℕ) → is_some o ≡ true
+    → ((index : ℕ) → o ≡ Some index → get_or numbers entry 0 ≡ suc index)
     → entry_by p l ≡ Some entry → AreNoted p known d numbers → d ≡ with_texts d (numbered_text known (leaf_text p l))
 noted_ok p known d numbers l entry None s f h a = cc
 noted_ok p known d numbers l entry (Some index) s f h a =
     let r = noted_leads p known d numbers l entry index h (f index refl) a in
     sym (ap (λ o. with_texts d (numbered_text known o)) r.1 ∙ noted_same known d r.0 index r.2)
 
-pub added_number : {E : Type 0} (known : List ℕ → Bool) (old new : List (List ℕ)) (text : List ℕ) (r : Result ℕ E) → is_unmasked known text ≡ false → OnOk r (new ≡ with_text old text) → IfOk r (λ n. n ≡ number_of new text) → IfOk r (λ n. (index : ℕ) → n ≡ suc index → IsMaskedAt known new text index)
+pub added_number : {E : Type 0} (known : List ℕ → Bool) (old new : List (List ℕ)) (text : List ℕ) (r : Result ℕ E) → is_unmasked known text ≡ false → OnOk r (new ≡ with_text old text)
+    → IfOk r (λ n. n ≡ number_of new text) → IfOk r (λ n. (index : ℕ) → n ≡ suc index → IsMaskedAt known new text index)
 added_number known old new text (Ok n) h e m = λ index q. subst (λ z. IsMaskedAt known z text index) (sym e) (masked_added known old text index h (sym q ∙ (m ∙ ap (λ z. number_of z text) e)))
 added_number known old new text (Err x) h e m = tt
 

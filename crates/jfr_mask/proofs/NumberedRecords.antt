@@ -46,7 +46,8 @@ metadata_no_event p a flags r t = by_find (find (λ e. e.record_of.at == r.at) (
         let s : IsRecord p.bytes e.record_of = all_in (IsRecord p.bytes) p.records e.record_of (recorded p a) (event_of_chunk p a (kept_by p flags) (chosen_events p flags) e f.0).listed in
         let same : e.record_of ≡ a.metadata_record =
         record_one p.bytes e.record_of a.metadata_record s (metadata_stands p a) (eqb-true e.record_of.at r.at f.1 ∙ (eqb-true r.at (metadata_at p.bytes) t ∙ sym a.metadata_there.place)) in
-        let none : is_event_class p.classes e.record_of.type_id ≡ false = ap (λ (z : Framed). is_event_class p.classes z.type_id) same ∙ (ap (is_event_class p.classes) a.metadata_there.type_is ∙ no_metadata_event p.classes) in
+        let none : is_event_class p.classes e.record_of.type_id ≡ false =
+        ap (λ (z : Framed). is_event_class p.classes z.type_id) same ∙ (ap (is_event_class p.classes) a.metadata_there.type_is ∙ no_metadata_event p.classes) in
         absurd (clash (is_event_class p.classes e.record_of.type_id) (computed p e i).class none)
 
 flat_flat : {X Y Z : Type 0} (f : Y → List Z) (g : X → List Y) (xs : List X) → flat_map f (flat_map g xs) ≡ flat_map (λ x. flat_map f (g x)) xs

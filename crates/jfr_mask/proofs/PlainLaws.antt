@@ -63,7 +63,8 @@ module _ (masks : Masks) (k : Classes) (flags : List Bool) where
   )
 
   -- A composite class is plain if the layouts of its fields are.
-  pub composite_plain : (index : ℕ) (kind : Kind) (o : Option Class) (ss : List FieldLayout) → kind ≡ kinds.Composite → IfSome o (λ c. kind ≡ kind_of c.name) → IfSome o (λ c. AreFieldLayouts k c.fields ss)
+  pub composite_plain : (index : ℕ) (kind : Kind) (o : Option Class) (ss : List FieldLayout) → kind ≡ kinds.Composite → IfSome o (λ c. kind ≡ kind_of c.name)
+      → IfSome o (λ c. AreFieldLayouts k c.fields ss)
       → ((number : ℕ) (s : FieldLayout) → slice_get ss number ≡ Some s → LayoutIsPlain masks flags index number s) → IfSome o (ClassIsPlain masks k flags index)
   composite_plain index kind None ss e a l p = tt
   composite_plain index kind (Some c) ss e a l p = record {
@@ -196,11 +197,13 @@ mutual
       ap (λ z. z ++ masked_texts_all masked known p (λ n. f (suc n)) vs) (plain_texts masked known p (f zero) v q.0) ∙ no_texts masked known p (λ n. f (suc n)) vs q.1
 
 -- The node of a value without masked strings has no texts for the dictionary.
-pub node_no_texts : (p : Parts) (masked : Option Holder → Bool) (known : List ℕ → Bool) (n : NodeAt) (v : Value) → Sound p.classes → IsNode p.classes p.bytes n v → HasNoMasked masked None v → node_texts masked known p n ≡ []
+pub node_no_texts : (p : Parts) (masked : Option Holder → Bool) (known : List ℕ → Bool) (n : NodeAt) (v : Value) → Sound p.classes → IsNode p.classes p.bytes n v → HasNoMasked masked None v
+    → node_texts masked known p n ≡ []
 node_no_texts p masked known n v sound i h = ap (λ o. option_map_or (masked_texts masked known p None) o []) (value_is p.classes p.bytes n v sound i) ∙ plain_texts masked known p None v h
 
 -- The node of such a value keeps its bytes.
-pub node_unchanged : (p : Parts) (masked : Option Holder → Bool) (show : List ℕ → List ℕ) (n : NodeAt) (v : Value) → Sound p.classes → IsNode p.classes p.bytes n v → HasNoMasked masked None v → changed_bytes (masking masked show p) p.classes p.bytes n ≡ slice_range p.bytes n.at n.end
+pub node_unchanged : (p : Parts) (masked : Option Holder → Bool) (show : List ℕ → List ℕ) (n : NodeAt) (v : Value) → Sound p.classes → IsNode p.classes p.bytes n v → HasNoMasked masked None v
+    → changed_bytes (masking masked show p) p.classes p.bytes n ≡ slice_range p.bytes n.at n.end
 node_unchanged p masked show n v sound i h =
     ap (λ o. option_map_or (λ x. bytes_of (changed (masking masked show p) None x)) o []) (value_is p.classes p.bytes n v sound i) ∙ (ap bytes_of (plain_masked masked show p None v h) ∙ sym i.bytes)
 
@@ -214,7 +217,8 @@ node_plain p masks flags n v m sound right i at f =
 
 -- A node of a plain class refers to what is listed, given what the code knows of the node.
 pub known_plain : (p : Parts) (masks : Masks) (flags : List Bool) (k : Classes) (b : List ℕ) (n : NodeAt) → Sound p.classes → ArePlain masks p.classes flags → k ≡ p.classes → b ≡ p.bytes
-    → (v : Value) × IsNode p.classes b n v → (m : ℕ) × (class_index k n.shape.class ≡ Some m) × IsPlain flags m → targets k b n ≡ node_targets_but (is_masked_string (is_held_masked masks p.classes)) p n
+    → (v : Value) × IsNode p.classes b n v → (m : ℕ) × (class_index k n.shape.class ≡ Some m) × IsPlain flags m
+    → targets k b n ≡ node_targets_but (is_masked_string (is_held_masked masks p.classes)) p n
 known_plain p masks flags k b n sound right e q v x =
     ap (λ z. targets z b n) e ∙ (ap (λ z. targets p.classes z n) q
     ∙ sym (node_plain p masks flags n v.0 x.0 sound right (subst (λ z. IsNode p.classes z n v.0) q v.1) (sym (ap (λ z. class_index z n.shape.class) e) ∙ x.1) x.2))

@@ -168,7 +168,8 @@ module _ (stops : Stops) (p : Parts) where
     closed : (t u : ℕ × ℕ) (e : EntryAt) → AllFound t → in_force p.entries t ≡ Some e → Contains (node_targets_but stops p (entry_node e)) u → AllFound u
     closed t u e a q c i r =
         let n = numbered p.entries t e q in
-        let m : In (entry_targets n.number) u = subst (λ o. In (option_map_or (λ e. node_targets_but stops p (entry_node e)) o []) u) (sym n.there) (contains_in (node_targets_but stops p (entry_node e)) u c) in
+        let m : In (entry_targets n.number) u = subst (λ o. In (option_map_or (λ e. node_targets_but stops p (entry_node e)) o []) u) (sym n.there)
+        (contains_in (node_targets_but stops p (entry_node e)) u c) in
         more (a n.number n.forced) (those_in (number_in_force p.entries) (entry_targets n.number) u i m r)
 
     -- What a part refers to, the value does.
@@ -239,10 +240,24 @@ module _ (stops : Stops) (p : Parts) where
             → Inside n (st ∷ path) u
         onward (steps.Field f) k b c j l g =
             let r = g (held_after n (steps.Field f) k) b j l in
-            record { node = r.node; leads_there = ap (option_and_then (λ m. leads_but stops p (held_after n (steps.Field f) m) path)) c ∙ r.leads_there; value = r.value; is = r.is; changes = r.changes }
+            record {
+              node = r.node;
+              leads_there = ap (option_and_then (λ m. leads_but stops p (held_after n (steps.Field f) m) path)) c
+                  ∙ r.leads_there;
+              value = r.value;
+              is = r.is;
+              changes = r.changes;
+            }
         onward (steps.Item f) k b c j l g =
             let r = g (held_after n (steps.Item f) k) b j l in
-            record { node = r.node; leads_there = ap (option_and_then (λ m. leads_but stops p (held_after n (steps.Item f) m) path)) c ∙ r.leads_there; value = r.value; is = r.is; changes = r.changes }
+            record {
+              node = r.node;
+              leads_there = ap (option_and_then (λ m. leads_but stops p (held_after n (steps.Item f) m) path)) c
+                  ∙ r.leads_there;
+              value = r.value;
+              is = r.is;
+              changes = r.changes;
+            }
         onward steps.Follow k b c j l g = let h : None ≡ Some k = c in cc
 
         by_part : (o : Option Value) → part v st ≡ o → After → Inside n (st ∷ path) u
@@ -290,7 +305,8 @@ module _ (stops : Stops) (p : Parts) where
           let t = in_those (number_in_force p.entries) event_targets i j in
           let e = in_flat (λ (e : EventAt). node_targets_but stops p e.node) kept t.0 t.1 in
           let v = nodes e.0 e.1 in
-          let a : At (paths.root e.0.node) t.0 = at (paths.root e.0.node) v.0 t.0 v.1 (subst (λ z. Contains z t.0) (node_targets e.0.node v.0 v.1) (in_contains (node_targets_but stops p e.0.node) t.0 e.2)) in
+          let a : At (paths.root e.0.node) t.0 = at (paths.root e.0.node) v.0 t.0 v.1
+          (subst (λ z. Contains z t.0) (node_targets e.0.node v.0 v.1) (in_contains (node_targets_but stops p e.0.node) t.0 e.2)) in
           record { key = t.0; met = record { event = e.0; is_kept = in_contains kept e.0 e.1; path = a.path; node = a.node; leads_there = a.leads_there; refers = a.refers }; in_force = t.2 }
       reach_but {i} (more {j = j} r k) =
           let h : ReachedBut stops p kept j = reach_but r in
@@ -299,7 +315,8 @@ module _ (stops : Stops) (p : Parts) where
           let t = in_those (number_in_force p.entries) (entry_targets j) i k in
           let m : In (node_targets_but stops p (entry_node f.entry)) t.0 = subst (λ o. In (option_map_or (λ e. node_targets_but stops p (entry_node e)) o []) t.0) f.there t.1 in
           let a : At (paths.root (entry_node f.entry)) t.0 =
-          at (paths.root (entry_node f.entry)) v.0 t.0 v.1 (subst (λ z. Contains z t.0) (node_targets (entry_node f.entry) v.0 v.1) (in_contains (node_targets_but stops p (entry_node f.entry)) t.0 m)) in
+          at (paths.root (entry_node f.entry)) v.0 t.0 v.1
+          (subst (λ z. Contains z t.0) (node_targets (entry_node f.entry) v.0 v.1) (in_contains (node_targets_but stops p (entry_node f.entry)) t.0 m)) in
           let there : leads_but stops p h.met.node (steps.Follow ∷ a.path) ≡ Some a.node =
           ap (option_and_then (λ m. leads_but stops p (paths.root m) a.path)) (after_target h.met.node h.key f.entry h.met.refers f.is) ∙ a.leads_there in
           record {

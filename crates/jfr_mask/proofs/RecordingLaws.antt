@@ -20,13 +20,15 @@ some_none : (flaw : Flaw) → Some flaw ≡ None → ⊥
 some_none flaw e = cc
 
 -- What an accepted chunk becomes is masked.
-masked_one : EachIsMasked → (g : Given) (m : Masking) (d : List (List ℕ)) (c : List ℕ) (r : Result Parts Flaw) → Whole c → read_parts c ≡ r → flaw_in r ≡ None → length (masked_by g m d r) < 2 ^ 30 → IsMaskedOutput g m d c (masked_by g m d r)
+masked_one : EachIsMasked → (g : Given) (m : Masking) (d : List (List ℕ)) (c : List ℕ) (r : Result Parts Flaw) → Whole c → read_parts c ≡ r → flaw_in r ≡ None → length (masked_by g m d r) < 2 ^ 30
+    → IsMaskedOutput g m d c (masked_by g m d r)
 masked_one each g m d c (Err flaw) w e n small = absurd (some_none flaw n)
 masked_one each g m d c (Ok p) w e n small =
     let h : (p.bytes ≡ c) × AreParts p = ((is_computed c w.long).parts p).1 e in
     record { parts = p; bytes = h.0; valid = h.1; becomes = refl; masked = each m d p (chosen g p) h.1 (subst Whole (sym h.0) w) small }
 
-pub is_masked_output : EachIsMasked → (g : Given) (m : Masking) (d : List (List ℕ)) (c : List ℕ) → Whole c → refusal_of c ≡ None → length (masked g m d c) < 2 ^ 30 → IsMaskedOutput g m d c (masked g m d c)
+pub is_masked_output : EachIsMasked → (g : Given) (m : Masking) (d : List (List ℕ)) (c : List ℕ) → Whole c → refusal_of c ≡ None → length (masked g m d c) < 2 ^ 30
+    → IsMaskedOutput g m d c (masked g m d c)
 unfolding refusal_of masked
 is_masked_output each g m d c w n small = masked_one each g m d c (read_parts c) w refl n small
 

@@ -90,7 +90,8 @@ asked_by : (o : Option Flaw) (long : Bool) (n : ℕ) (bytes : List ℕ) (t : Boo
 asked_by o long n bytes t e f = ap (λ z. asks_by z long n bytes) e ∙ ap (λ z. asks_by None z n bytes) f
 
 -- What is asked for an accepted chunk, by what is known of its masked chunk.
-pub asks_append : (g : Given) (m : Masking) (d : List (List ℕ)) (before n : ℕ) (c bytes : List ℕ) → refusal_of c ≡ None → masked g m d c ≡ bytes → before < 2 ^ 40 → length bytes < 2 ^ 30 → asks_masked g m d before n c ≡ Goes (Append bytes ∷ [])
+pub asks_append : (g : Given) (m : Masking) (d : List (List ℕ)) (before n : ℕ) (c bytes : List ℕ) → refusal_of c ≡ None → masked g m d c ≡ bytes → before < 2 ^ 40 → length bytes < 2 ^ 30
+    → asks_masked g m d before n c ≡ Goes (Append bytes ∷ [])
 asks_append g m d before n c bytes none e h k =
     asked_by (refusal_of c) (is_too_long before (masked g m d c)) n (masked g m d c) false none (ap (is_too_long before) e ∙ not_long before bytes h k)
     ∙ ap (λ z. Goes (Append z ∷ [])) e
@@ -104,7 +105,8 @@ asks_long g m d before n c none h =
     asked_by (refusal_of c) (is_too_long before (masked g m d c)) n (masked g m d c) true none (long_itself before (masked g m d c) h)
 
 -- A chunk that couldn't be read.
-pub asks_refused : (g : Given) (m : Masking) (d : List (List ℕ)) (before n number : ℕ) (c bytes : List ℕ) (fault : ReadFault) (e : Ending) → number ≡ n → IsFlawOf (refusal_of c) fault → e ≡ after_chunk number fault → AnswersAsked (asks_masked g m d before n c) (Err e) bytes
+pub asks_refused : (g : Given) (m : Masking) (d : List (List ℕ)) (before n number : ℕ) (c bytes : List ℕ) (fault : ReadFault) (e : Ending) → number ≡ n → IsFlawOf (refusal_of c) fault
+    → e ≡ after_chunk number fault → AnswersAsked (asks_masked g m d before n c) (Err e) bytes
 asks_refused g m d before n number c bytes (readings.Flawed f) e same flaw is =
     subst (λ z. AnswersAsked (asks_masked g m d before n c) (Err z) bytes) (sym is)
     (ap (λ o. asks_by o (is_too_long before (masked g m d c)) n (masked g m d c)) flaw ∙ ap (λ k. Stops (refused k f)) (sym same))
@@ -115,7 +117,8 @@ unread_unmasked number (readings.Flawed f) e is = subst IsUnmasked (sym is) tt
 unread_unmasked number readings.Memory e is = subst IsUnmasked (sym is) tt
 
 -- A chunk that couldn't be masked.
-pub asks_unmasked : (g : Given) (m : Masking) (d : List (List ℕ)) (before n number : ℕ) (c bytes : List ℕ) (fault : MaskFault) (e : Ending) → number ≡ n → refusal_of c ≡ None → (fault ≡ faults.TooLong → 2 ^ 30 ≤ length (masked g m d c)) → e ≡ after_masking number fault → AnswersAsked (asks_masked g m d before n c) (Err e) bytes
+pub asks_unmasked : (g : Given) (m : Masking) (d : List (List ℕ)) (before n number : ℕ) (c bytes : List ℕ) (fault : MaskFault) (e : Ending) → number ≡ n → refusal_of c ≡ None
+    → (fault ≡ faults.TooLong → 2 ^ 30 ≤ length (masked g m d c)) → e ≡ after_masking number fault → AnswersAsked (asks_masked g m d before n c) (Err e) bytes
 asks_unmasked g m d before n number c bytes faults.TooLong e same none long is =
     subst (λ z. AnswersAsked (asks_masked g m d before n c) (Err z) bytes) (sym is) (asks_long g m d before n c none (long refl) ∙ ap (λ k. Stops (TooLong k)) (sym same))
 asks_unmasked g m d before n number c bytes faults.Memory e same none long is = subst (λ z. AnswersAsked (asks_masked g m d before n c) (Err z) bytes) (sym is) tt

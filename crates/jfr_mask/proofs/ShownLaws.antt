@@ -137,7 +137,8 @@ other_string known d text u w some e = by_chars (chars text) refl ∙ ap (λ z. 
     by_descriptor true n = refl
     by_descriptor false n = refl
 
-    by_stay : (b : Bool) (c : ℕ) (cs : List ℕ) → text_bytes (if b then c ∷ cs else pseudonym (is_descriptor (c ∷ cs)) (number_of d (c ∷ cs))) ≡ filled (if b then c ∷ cs else pseudonym (is_descriptor (c ∷ cs)) (number_of d (c ∷ cs)))
+    by_stay : (b : Bool) (c : ℕ) (cs : List ℕ)
+        → text_bytes (if b then c ∷ cs else pseudonym (is_descriptor (c ∷ cs)) (number_of d (c ∷ cs))) ≡ filled (if b then c ∷ cs else pseudonym (is_descriptor (c ∷ cs)) (number_of d (c ∷ cs)))
     by_stay true c cs = refl
     by_stay false c cs = by_descriptor (is_descriptor (c ∷ cs)) (number_of d (c ∷ cs))
 

@@ -63,14 +63,16 @@ no_lines x = record { leaves = λ sink. nothing x.contents sink; counts = λ sin
 appends_next : (lines : List (List ℕ)) (line : List ℕ) → appends (lines ++ line ∷ []) ≡ appends lines ++ Append line ∷ []
 appends_next lines line = map-append (λ b. Append b) lines (line ∷ [])
 
-pub one_more : (lines : List (List ℕ)) (line : List ℕ) (o : Unit {0}) (x y z : State) → LinesDone lines x y → IsPlaceAfter (Append line ∷ []) (Ok o) y z → PlaceCounts (Ok o) y z → LinesDone (lines ++ line ∷ []) x z
+pub one_more : (lines : List (List ℕ)) (line : List ℕ) (o : Unit {0}) (x y z : State) → LinesDone lines x y → IsPlaceAfter (Append line ∷ []) (Ok o) y z → PlaceCounts (Ok o) y z
+    → LinesDone (lines ++ line ∷ []) x z
 one_more lines line o x y z h l c = record {
   leaves = subst (λ es. IsPlaceAfter es (Ok tt) x z) (sym (appends_next lines line)) (leaves_then (appends lines) (Append line ∷ []) tt (Ok tt) x y z h.counts h.leaves l);
   counts = counts_then tt (Ok tt) x y z h.counts c;
 }
 
 -- One more failed, of all lines.
-pub one_failed : (lines rest all : List (List ℕ)) (line : List ℕ) (e : Ending) (x y z : State) → all ≡ lines ++ line ∷ rest → LinesDone lines x y → IsPlaceAfter (Append line ∷ []) (Err e) y z → IsPlaceAfter (appends all) (Err e) x z
+pub one_failed : (lines rest all : List (List ℕ)) (line : List ℕ) (e : Ending) (x y z : State) → all ≡ lines ++ line ∷ rest → LinesDone lines x y → IsPlaceAfter (Append line ∷ []) (Err e) y z
+    → IsPlaceAfter (appends all) (Err e) x z
 one_failed lines rest all line e x y z is h l =
     subst (λ es. IsPlaceAfter es (Err e) x z) (sym (ap appends is ∙ split))
     (leaves_more (appends lines ++ Append line ∷ []) (appends rest) e x z (leaves_then (appends lines) (Append line ∷ []) tt (Err e) x y z h.counts h.leaves l))

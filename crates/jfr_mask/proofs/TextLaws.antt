@@ -59,7 +59,8 @@ module _ (p : Parts) (n : NodeAt) (s : Shape) (b : List ℕ) (key : Option ℕ) 
   string_is : string_of p n ≡ Some is_text.content
   string_is =
       let t : IsText = is_text in
-      let r = exact_run p.bytes n.end i.within (string_format true) n.at n.end b t.content (is_exact b t.content t.string) (node_stands p.classes p.bytes n (Single s (leaf_kinds.Base kinds.Text) b key) i) (omega arith) in
+      let r = exact_run p.bytes n.end i.within (string_format true) n.at n.end b t.content (is_exact b t.content t.string)
+      (node_stands p.classes p.bytes n (Single s (leaf_kinds.Base kinds.Text) b key) i) (omega arith) in
       ap (λ z. read_by z n.shape.constant (find_class p.classes n.shape.class)) t.no_array
       ∙ (ap (λ z. read_by false z (find_class p.classes n.shape.class)) t.no_constant
       ∙ (ap (read_by false false) t.there

@@ -38,7 +38,8 @@ module _ (stops : Stops) (p : Parts) where
   abbrev pub EventsRest : List Bool → ℕ → Worklist → Worklist → Type 0
   EventsRest keep i a b = Rests (roots_but stops p (kept_by p keep)) (roots_but stops p (marked (drop i keep) (drop i (events_of p)))) a b
 
-  pub events_next : (keep : List Bool) (i : ℕ) (a b c : Worklist) → i < length keep → EventsRest keep i a b → Puts (roots_but stops p (option_to_list (marked_get keep (events_of p) i))) b c → EventsRest keep (i + 1) a c
+  pub events_next : (keep : List Bool) (i : ℕ) (a b c : Worklist) → i < length keep → EventsRest keep i a b → Puts (roots_but stops p (option_to_list (marked_get keep (events_of p) i))) b c
+      → EventsRest keep (i + 1) a c
   events_next keep i a b c h r q =
       let here : List EventAt = option_to_list (marked_get keep (events_of p) i) in
       let later : List EventAt = marked (drop (i + 1) keep) (drop (i + 1) (events_of p)) in
@@ -85,9 +86,11 @@ module _ (stops : Stops) (p : Parts) where
         (q.marks ∙ ap (λ v. marked_at v (roots_but stops p kept)) f)
         (q.order ∙ (ap (λ v. ordered_all v a.order.items (roots_but stops p kept)) f ∙ ap (λ v. ordered_all (replicate (length p.entries) false) v (roots_but stops p kept)) o)) (omega arith)
 
-    pub going_on : (a b : Worklist) (at j : ℕ) → at < length a.order.items → Going a.flags.items a.order.items at → j ≡ slice_index a.order.items at → Puts (next_but stops p j) a b → Going b.flags.items b.order.items (at + 1)
+    pub going_on : (a b : Worklist) (at j : ℕ) → at < length a.order.items → Going a.flags.items a.order.items at → j ≡ slice_index a.order.items at → Puts (next_but stops p j) a b
+        → Going b.flags.items b.order.items (at + 1)
     going_on a b at j h w e q =
-        went_on (length p.entries) (next_but stops p) (roots_but stops p kept) (λ i. 0) roots_below next_below 0 a.flags.items b.flags.items a.order.items b.order.items at 0 0 j h w e q.marks q.order (omega arith)
+        went_on (length p.entries) (next_but stops p) (roots_but stops p kept) (λ i. 0) roots_below next_below 0 a.flags.items b.flags.items a.order.items b.order.items at 0 0 j h w e q.marks q.order
+        (omega arith)
 
     pub going_ends : (a : Worklist) (at : ℕ) → length a.order.items ≤ at → Going a.flags.items a.order.items at → a.flags.items ≡ marks_but stops p kept
     unfolding marks_but

@@ -45,7 +45,8 @@ pub record AreNumbersOf (texts : List (List ℕ)) (firsts : BTreeMap ℕ ℕ) (o
 -- The maps have got the number of a text with this hash, in one of them.
 pub record IsPut (firsts : BTreeMap ℕ ℕ) (others : BTreeMap (RcStr Global) ℕ) (firsts_after : BTreeMap ℕ ℕ) (others_after : BTreeMap (RcStr Global) ℕ) (text : List ℕ) (hash number : ℕ) : Type 0 where
   pub first : (q : ℕ) → first_under firsts_after q ≡ (if is_some (first_under firsts hash) then first_under firsts q else cond (hash == q) (Some number) (first_under firsts q))
-  pub other : (bytes : List ℕ) → number_under others_after bytes ≡ (if is_some (first_under firsts hash) then cond (bytes_eq text bytes) (Some number) (number_under others bytes) else number_under others bytes)
+  pub other : (bytes : List ℕ)
+      → number_under others_after bytes ≡ (if is_some (first_under firsts hash) then cond (bytes_eq text bytes) (Some number) (number_under others bytes) else number_under others bytes)
 
 -- The numbers in the maps are as before.
 pub record AreSame (firsts : BTreeMap ℕ ℕ) (others : BTreeMap (RcStr Global) ℕ) (firsts_after : BTreeMap ℕ ℕ) (others_after : BTreeMap (RcStr Global) ℕ) : Type 0 where

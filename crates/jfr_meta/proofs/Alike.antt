@@ -86,7 +86,8 @@ module _ (texts table : List (List ℕ)) where
   field_alike t u a = λ i. option_and_then (λ name. option_map (λ shape. record { name = name; shape = shape }) (shape_alike t u a i)) (attribute_alike (codes "name") t u a i)
 
   pub fields_alike : (t u : Tree) → Alike t u → filter_map (field_of texts) (field_elements texts t) ≡ filter_map (field_of table) (field_elements table u)
-  fields_alike t u a = filter_map_zip Alike (field_of texts) (field_of table) field_alike (field_elements texts t) (field_elements table u) (named_alike (codes "field") (children_of t) (children_of u) (children_alike t u a))
+  fields_alike t u a = filter_map_zip Alike (field_of texts) (field_of table) field_alike (field_elements texts t) (field_elements table u)
+      (named_alike (codes "field") (children_of t) (children_of u) (children_alike t u a))
 
   -- Categories.
   is_category_alike : (hs : List (ℕ × List ℕ)) (t u : Tree) → Alike t u → is_category texts hs t ≡ is_category table hs u
@@ -107,7 +108,8 @@ module _ (texts table : List (List ℕ)) where
   pub categories_alike : (hs : List (ℕ × List ℕ)) (t u : Tree) → Alike t u → categories_of texts hs t ≡ categories_of table hs u
   categories_alike hs t u a =
       by_found (category_annotation texts hs t) (category_annotation table hs u)
-      (find_zip Alike (is_category texts hs) (is_category table hs) (is_category_alike hs) (annotations_of texts t) (annotations_of table u) (named_alike (codes "annotation") (children_of t) (children_of u) (children_alike t u a)))
+      (find_zip Alike (is_category texts hs) (is_category table hs) (is_category_alike hs) (annotations_of texts t) (annotations_of table u)
+      (named_alike (codes "annotation") (children_of t) (children_of u) (children_alike t u a)))
     where
       by_found : (o p : Option Tree) → Beside Alike o p → option_map_or (values_of texts) o [] ≡ option_map_or (values_of table) p []
       by_found None None b = refl
@@ -141,16 +143,19 @@ module _ (texts table : List (List ℕ)) where
   class_good t u a n =
       let p = two_parts (flaw_unless (is_some (class_head texts t)) t ClassBad) (flat_map (field_flaws texts) (field_elements texts t)) n in
       ap (λ z. z ++ flat_map (field_flaws table) (field_elements table u)) (good_alike (is_some (class_head texts t)) (is_some (class_head table u)) t u ClassBad (ap is_some (head_alike t u a)) p.0)
-      ∙ flat_map_none Alike (field_flaws texts) (field_flaws table) field_good (field_elements texts t) (field_elements table u) (named_alike (codes "field") (children_of t) (children_of u) (children_alike t u a))
+      ∙ flat_map_none Alike (field_flaws texts) (field_flaws table) field_good (field_elements texts t) (field_elements table u)
+      (named_alike (codes "field") (children_of t) (children_of u) (children_alike t u a))
       (nothing_each (field_flaws texts) (field_elements texts t) p.1)
 
   -- The elements for the classes.
   pub elements_alike : (t u : Tree) → Alike t u → Beside (AllZip Alike) (class_elements texts t) (class_elements table u)
   elements_alike t u a =
       by_found (find (λ t. bytes_eq (text_at texts (name_of t)) (codes "metadata")) (children_of t)) (find (λ u. bytes_eq (text_at table (name_of u)) (codes "metadata")) (children_of u))
-      (find_zip Alike (λ t. bytes_eq (text_at texts (name_of t)) (codes "metadata")) (λ u. bytes_eq (text_at table (name_of u)) (codes "metadata")) (is_named_alike (codes "metadata")) (children_of t) (children_of u) (children_alike t u a))
+      (find_zip Alike (λ t. bytes_eq (text_at texts (name_of t)) (codes "metadata")) (λ u. bytes_eq (text_at table (name_of u)) (codes "metadata")) (is_named_alike (codes "metadata")) (children_of t)
+      (children_of u) (children_alike t u a))
     where
-      by_found : (o p : Option Tree) → Beside Alike o p → Beside (AllZip Alike) (option_map (λ m. named texts (codes "class") (children_of m)) o) (option_map (λ m. named table (codes "class") (children_of m)) p)
+      by_found : (o p : Option Tree) → Beside Alike o p
+          → Beside (AllZip Alike) (option_map (λ m. named texts (codes "class") (children_of m)) o) (option_map (λ m. named table (codes "class") (children_of m)) p)
       by_found None None b = tt
       by_found None (Some q) b = absurd b
       by_found (Some p) None b = absurd b

@@ -34,7 +34,8 @@ body_refused x r (Flawed f) h e = inl (says x r (Err f) h e)
 body_refused x r Memory h e = tt
 
 -- A body that describes no classes.
-pub classes_refused : (x : List ℕ) (r : Framed) (b : Body) (e : ReadFault) → IsRecord x r → run meta_format x (record_end r) r.body ≡ ok b (record_end r) → IsFault (told_of b) e → IfFlawed (IsMetadataFlaw x r) e
+pub classes_refused : (x : List ℕ) (r : Framed) (b : Body) (e : ReadFault) → IsRecord x r → run meta_format x (record_end r) r.body ≡ ok b (record_end r) → IsFault (told_of b) e
+    → IfFlawed (IsMetadataFlaw x r) e
 unfolding described
 classes_refused x r b (Flawed f) h e g = inr (b, says x r (ok b (record_end r)) h e, g)
 classes_refused x r b Memory h e g = tt

@@ -52,15 +52,18 @@ filter_map_bare g s (t ∷ ts) = ap (λ z. cons_option z (filter_map g (map bare
 
 -- What a bare element says.
 pub named_bare : (texts : List (List ℕ)) (key : List ℕ) (t : Tree) → named texts key (children_of (bare t)) ≡ map bare (named texts key (children_of t))
-named_bare texts key t = ap (named texts key) (children_bare t) ∙ filter_bare (λ t. bytes_eq (text_at texts (name_of t)) key) (λ t. ap (λ z. bytes_eq (text_at texts z) key) (name_bare t)) (children_of t)
+named_bare texts key t = ap (named texts key) (children_bare t) ∙ filter_bare (λ t. bytes_eq (text_at texts (name_of t)) key) (λ t. ap (λ z. bytes_eq (text_at texts z) key) (name_bare t))
+    (children_of t)
 
 pub elements_bare : (texts : List (List ℕ)) (root : Tree) → class_elements texts (bare root) ≡ option_map (map bare) (class_elements texts root)
 elements_bare texts root =
     ap (λ z. option_map (λ m. named texts (codes "class") (children_of m)) (find (λ t. bytes_eq (text_at texts (name_of t)) (codes "metadata")) z)) (children_bare root)
-    ∙ (ap (option_map (λ m. named texts (codes "class") (children_of m))) (find_bare (λ t. bytes_eq (text_at texts (name_of t)) (codes "metadata")) (λ t. ap (λ z. bytes_eq (text_at texts z) (codes "metadata")) (name_bare t)) (children_of root))
+    ∙ (ap (option_map (λ m. named texts (codes "class") (children_of m)))
+    (find_bare (λ t. bytes_eq (text_at texts (name_of t)) (codes "metadata")) (λ t. ap (λ z. bytes_eq (text_at texts z) (codes "metadata")) (name_bare t)) (children_of root))
     ∙ by_one (find (λ t. bytes_eq (text_at texts (name_of t)) (codes "metadata")) (children_of root)))
   where
-    by_one : (o : Option Tree) → option_map (λ m. named texts (codes "class") (children_of m)) (option_map bare o) ≡ option_map (map bare) (option_map (λ m. named texts (codes "class") (children_of m)) o)
+    by_one : (o : Option Tree)
+        → option_map (λ m. named texts (codes "class") (children_of m)) (option_map bare o) ≡ option_map (map bare) (option_map (λ m. named texts (codes "class") (children_of m)) o)
     by_one None = refl
     by_one (Some t) = ap Some (named_bare texts (codes "class") t)
 
@@ -82,7 +85,8 @@ fields_bare texts t = ap (filter_map (field_of texts)) (named_bare texts (codes 
 
 categories_bare : (texts : List (List ℕ)) (hs : List (ℕ × List ℕ)) (t : Tree) → categories_of texts hs (bare t) ≡ categories_of texts hs t
 categories_bare texts hs t =
-    ap (λ z. option_map_or (values_of texts) z []) (ap (find (is_category texts hs)) (named_bare texts (codes "annotation") t) ∙ find_bare (is_category texts hs) (is_category_bare texts hs) (annotations_of texts t))
+    ap (λ z. option_map_or (values_of texts) z [])
+    (ap (find (is_category texts hs)) (named_bare texts (codes "annotation") t) ∙ find_bare (is_category texts hs) (is_category_bare texts hs) (annotations_of texts t))
     ∙ by_one (find (is_category texts hs) (annotations_of texts t))
   where
     by_one : (o : Option Tree) → option_map_or (values_of texts) (option_map bare o) [] ≡ option_map_or (values_of texts) o []
@@ -99,7 +103,8 @@ class_bare texts hs t = λ i. made (head_bare texts t i) (super_bare texts t i) 
 classes_bare : (texts : List (List ℕ)) (ts : List Tree) → classes_of texts (map bare ts) ≡ classes_of texts ts
 unfolding classes_of
 classes_bare texts ts =
-    ap (λ hs. filter_map (class_of texts hs) (map bare ts)) (filter_map_bare (class_head texts) (head_bare texts) ts) ∙ filter_map_bare (class_of texts (heads texts ts)) (class_bare texts (heads texts ts)) ts
+    ap (λ hs. filter_map (class_of texts hs) (map bare ts)) (filter_map_bare (class_head texts) (head_bare texts) ts)
+    ∙ filter_map_bare (class_of texts (heads texts ts)) (class_bare texts (heads texts ts)) ts
 
 -- What is faulty about a bare tree is faulty about the tree.
 abbrev erased : Flaw → Flaw
@@ -126,7 +131,8 @@ one_bare : (texts : List (List ℕ)) (t : Tree) → class_flaws texts (bare t) �
 unfolding class_flaws
 one_bare texts t =
     let own : List Flaw = flaw_unless (is_some (class_head texts t)) t ClassBad in
-    ap (λ z. z ++ flat_map (field_flaws texts) (field_elements texts (bare t))) (unless_bare t (is_some (class_head texts (bare t))) (is_some (class_head texts t)) ClassBad (ap is_some (head_bare texts t)))
+    ap (λ z. z ++ flat_map (field_flaws texts) (field_elements texts (bare t)))
+    (unless_bare t (is_some (class_head texts (bare t))) (is_some (class_head texts t)) ClassBad (ap is_some (head_bare texts t)))
     ∙ (ap (λ z. map erased own ++ z) (ap (flat_map (field_flaws texts)) (named_bare texts (codes "field") t) ∙ field_flaws_bare texts (field_elements texts t))
     ∙ sym (erased_append own (flat_map (field_flaws texts) (field_elements texts t))))
 
@@ -143,7 +149,8 @@ no_place (Some t) = place_bare t
 no_element_place : (texts : List (List ℕ)) (t : Tree) (field : Option ℕ) → element_place texts (bare t) field ≡ 0
 no_element_place texts t None = place_bare t
 no_element_place texts t (Some n) =
-    ap (λ z. option_map_or element_offset z 0) (ap (λ z. slice_get z n) (named_bare texts (codes "field") t) ∙ slice_get-map bare (field_elements texts t) n) ∙ no_place (slice_get (field_elements texts t) n)
+    ap (λ z. option_map_or element_offset z 0) (ap (λ z. slice_get z n) (named_bare texts (codes "field") t) ∙ slice_get-map bare (field_elements texts t) n)
+    ∙ no_place (slice_get (field_elements texts t) n)
 
 no_flaw_place : (texts : List (List ℕ)) (ts : List Tree) (class : ℕ) (field : Option ℕ) → flaw_place texts (map bare ts) class field ≡ 0
 no_flaw_place texts ts class field = ap (λ z. option_map_or (λ t. element_place texts t field) z 0) (slice_get-map bare ts class) ∙ by_one (slice_get ts class)
@@ -159,7 +166,8 @@ placed_bare texts ts (e ∷ es) = λ i. record { offset = no_flaw_place texts ts
 flaws_bare : (texts : List (List ℕ)) (ts : List Tree) → tree_flaws texts (map bare ts) ≡ map erased (tree_flaws texts ts)
 flaws_bare texts ts =
     ap (λ z. z ++ list_flaws texts (map bare ts)) (attributes_bare texts ts)
-    ∙ (ap (λ z. map erased (flat_map (class_flaws texts) ts) ++ z) (ap (λ k. map (placed texts (map bare ts)) (class_faults k)) (classes_bare texts ts) ∙ placed_bare texts ts (class_faults (classes_of texts ts)))
+    ∙ (ap (λ z. map erased (flat_map (class_flaws texts) ts) ++ z)
+    (ap (λ k. map (placed texts (map bare ts)) (class_faults k)) (classes_bare texts ts) ∙ placed_bare texts ts (class_faults (classes_of texts ts)))
     ∙ sym (erased_append (flat_map (class_flaws texts) ts) (list_flaws texts ts)))
 
 -- The classes, if they have no flaw.
@@ -184,11 +192,13 @@ same_told : (texts : List (List ℕ)) (t u : Tree) → bare t ≡ bare u → cla
 same_told texts t u e = sym (to_bare t) ∙ (ap (λ z. classes_in (told_of texts z)) e ∙ to_bare u)
   where
     to_bare : (t : Tree) → classes_in (told_of texts (bare t)) ≡ classes_in (told_of texts t)
-    to_bare t = ap (λ z. classes_in (described_classes texts (element_offset (bare t)) z)) (elements_bare texts t) ∙ told_bare texts (element_offset (bare t)) (element_offset t) (class_elements texts t)
+    to_bare t = ap (λ z. classes_in (described_classes texts (element_offset (bare t)) z)) (elements_bare texts t)
+        ∙ told_bare texts (element_offset (bare t)) (element_offset t) (class_elements texts t)
 
 -- Two trees that are the same but for their places describe the same classes.
 pub described_bare : (start duration id : ℕ) (strings : List (List ℕ)) (t u : Tree) (k : Classes) → bare t ≡ bare u
-    → described (record { start = start; duration = duration; id = id; strings = strings; root = t }) ≡ Ok k → described (record { start = start; duration = duration; id = id; strings = strings; root = u }) ≡ Ok k
+    → described (record { start = start; duration = duration; id = id; strings = strings; root = t }) ≡ Ok k
+    → described (record { start = start; duration = duration; id = id; strings = strings; root = u }) ≡ Ok k
 unfolding described
 described_bare start duration id strings t u k e d = by_answer (told_of strings u) refl
   where

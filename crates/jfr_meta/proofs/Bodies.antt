@@ -31,19 +31,24 @@ started x end at start p e = bind_ok integer after_start x end at start p e
 pub no_duration : (x : List ℕ) (end at : ℕ) (start p : ℕ) (w : Flaw) → run integer x end at ≡ ok start p → run integer x end p ≡ Err w → run head_format x end at ≡ Err w
 no_duration x end at start p w e f = started x end at start p e ∙ bind_err integer (after_duration start) x end p w f
 
-lasted : (x : List ℕ) (end at : ℕ) (start p duration q : ℕ) → run integer x end at ≡ ok start p → run integer x end p ≡ ok duration q → run head_format x end at ≡ run (after_duration start duration) x end q
+lasted : (x : List ℕ) (end at : ℕ) (start p duration q : ℕ) → run integer x end at ≡ ok start p → run integer x end p ≡ ok duration q
+    → run head_format x end at ≡ run (after_duration start duration) x end q
 lasted x end at start p duration q e f = started x end at start p e ∙ bind_ok integer (after_duration start) x end p duration q f
 
-pub no_id : (x : List ℕ) (end at : ℕ) (start p duration q : ℕ) (w : Flaw) → run integer x end at ≡ ok start p → run integer x end p ≡ ok duration q → run integer x end q ≡ Err w → run head_format x end at ≡ Err w
+pub no_id : (x : List ℕ) (end at : ℕ) (start p duration q : ℕ) (w : Flaw) → run integer x end at ≡ ok start p → run integer x end p ≡ ok duration q → run integer x end q ≡ Err w
+    → run head_format x end at ≡ Err w
 no_id x end at start p duration q w e f g = lasted x end at start p duration q e f ∙ bind_err integer (after_id start duration) x end q w g
 
-numbered : (x : List ℕ) (end at : ℕ) (start p duration q id r : ℕ) → run integer x end at ≡ ok start p → run integer x end p ≡ ok duration q → run integer x end q ≡ ok id r → run head_format x end at ≡ run (after_id start duration id) x end r
+numbered : (x : List ℕ) (end at : ℕ) (start p duration q id r : ℕ) → run integer x end at ≡ ok start p → run integer x end p ≡ ok duration q → run integer x end q ≡ ok id r
+    → run head_format x end at ≡ run (after_id start duration id) x end r
 numbered x end at start p duration q id r e f g = lasted x end at start p duration q e f ∙ bind_ok integer (after_id start duration) x end q id r g
 
-pub no_count : (x : List ℕ) (end at : ℕ) (start p duration q id r : ℕ) (w : Flaw) → run integer x end at ≡ ok start p → run integer x end p ≡ ok duration q → run integer x end q ≡ ok id r → run integer x end r ≡ Err w → run head_format x end at ≡ Err w
+pub no_count : (x : List ℕ) (end at : ℕ) (start p duration q id r : ℕ) (w : Flaw) → run integer x end at ≡ ok start p → run integer x end p ≡ ok duration q → run integer x end q ≡ ok id r
+    → run integer x end r ≡ Err w → run head_format x end at ≡ Err w
 no_count x end at start p duration q id r w e f g h = numbered x end at start p duration q id r e f g ∙ bind_err integer (λ count. Done (start, duration, id, count)) x end r w h
 
-pub whole_head : (x : List ℕ) (end at : ℕ) (start p duration q id r count s : ℕ) → run integer x end at ≡ ok start p → run integer x end p ≡ ok duration q → run integer x end q ≡ ok id r → run integer x end r ≡ ok count s
+pub whole_head : (x : List ℕ) (end at : ℕ) (start p duration q id r count s : ℕ) → run integer x end at ≡ ok start p → run integer x end p ≡ ok duration q → run integer x end q ≡ ok id r
+    → run integer x end r ≡ ok count s
     → run head_format x end at ≡ ok (start, duration, id, count) s
 unfolding run
 whole_head x end at start p duration q id r count s e f g h = numbered x end at start p duration q id r e f g ∙ bind_ok integer (λ count. Done (start, duration, id, count)) x end r count s h
@@ -80,26 +85,31 @@ headed x end at h p e = in_parts x end at ∙ bind_ok head_format after_head x e
 pub no_strings : (x : List ℕ) (end at : ℕ) (h : Four) (p : ℕ) (w : Flaw) → run head_format x end at ≡ ok h p → run (times h.3 table_string) x end p ≡ Err w → run meta_format x end at ≡ Err w
 no_strings x end at h p w e f = stopped_err x end at w (headed x end at h p e ∙ bind_err (times h.3 table_string) (after_strings h) x end p w f)
 
-stringed : (x : List ℕ) (end at : ℕ) (h : Four) (p : ℕ) (strings : List (List ℕ)) (q : ℕ) → run head_format x end at ≡ ok h p → run (times h.3 table_string) x end p ≡ ok strings q → run body_format x end at ≡ run (after_strings h strings) x end q
+stringed : (x : List ℕ) (end at : ℕ) (h : Four) (p : ℕ) (strings : List (List ℕ)) (q : ℕ) → run head_format x end at ≡ ok h p → run (times h.3 table_string) x end p ≡ ok strings q
+    → run body_format x end at ≡ run (after_strings h strings) x end q
 stringed x end at h p strings q e f = headed x end at h p e ∙ bind_ok (times h.3 table_string) (after_strings h) x end p strings q f
 
-pub no_root : (x : List ℕ) (end at : ℕ) (h : Four) (p : ℕ) (strings : List (List ℕ)) (q : ℕ) (w : Flaw) → run head_format x end at ≡ ok h p → run (times h.3 table_string) x end p ≡ ok strings q → run (element_format 16 h.3) x end q ≡ Err w
+pub no_root : (x : List ℕ) (end at : ℕ) (h : Four) (p : ℕ) (strings : List (List ℕ)) (q : ℕ) (w : Flaw) → run head_format x end at ≡ ok h p → run (times h.3 table_string) x end p ≡ ok strings q
+    → run (element_format 16 h.3) x end q ≡ Err w
     → run meta_format x end at ≡ Err w
 no_root x end at h p strings q w e f g = stopped_err x end at w (stringed x end at h p strings q e f ∙ bind_err (element_format 16 h.3) (λ root. Done (body_of h strings root)) x end q w g)
 
-rooted : (x : List ℕ) (end at : ℕ) (h : Four) (p : ℕ) (strings : List (List ℕ)) (q : ℕ) (root : Tree) (r : ℕ) → run head_format x end at ≡ ok h p → run (times h.3 table_string) x end p ≡ ok strings q → run (element_format 16 h.3) x end q ≡ ok root r
+rooted : (x : List ℕ) (end at : ℕ) (h : Four) (p : ℕ) (strings : List (List ℕ)) (q : ℕ) (root : Tree) (r : ℕ) → run head_format x end at ≡ ok h p → run (times h.3 table_string) x end p ≡ ok strings q
+    → run (element_format 16 h.3) x end q ≡ ok root r
     → run body_format x end at ≡ ok (body_of h strings root) r
 unfolding run
 rooted x end at h p strings q root r e f g = stringed x end at h p strings q e f ∙ bind_ok (element_format 16 h.3) (λ root. Done (body_of h strings root)) x end q root r g
 
-pub left_over : (x : List ℕ) (end at : ℕ) (h : Four) (p : ℕ) (strings : List (List ℕ)) (q : ℕ) (root : Tree) (r : ℕ) → run head_format x end at ≡ ok h p → run (times h.3 table_string) x end p ≡ ok strings q → run (element_format 16 h.3) x end q ≡ ok root r
+pub left_over : (x : List ℕ) (end at : ℕ) (h : Four) (p : ℕ) (strings : List (List ℕ)) (q : ℕ) (root : Tree) (r : ℕ) → run head_format x end at ≡ ok h p
+    → run (times h.3 table_string) x end p ≡ ok strings q → run (element_format 16 h.3) x end q ≡ ok root r
     → r < end → run meta_format x end at ≡ refused r Trailing
 unfolding run
 left_over x end at h p strings q root r e f g l =
     let t : nat_lt r end ≡ true = grind arith in
     stopped_ok x end at (body_of h strings root) r (rooted x end at h p strings q root r e f g) ∙ rw t refl
 
-pub whole_body : (x : List ℕ) (end at : ℕ) (h : Four) (p : ℕ) (strings : List (List ℕ)) (q : ℕ) (root : Tree) (r : ℕ) → run head_format x end at ≡ ok h p → run (times h.3 table_string) x end p ≡ ok strings q → run (element_format 16 h.3) x end q ≡ ok root r
+pub whole_body : (x : List ℕ) (end at : ℕ) (h : Four) (p : ℕ) (strings : List (List ℕ)) (q : ℕ) (root : Tree) (r : ℕ) → run head_format x end at ≡ ok h p
+    → run (times h.3 table_string) x end p ≡ ok strings q → run (element_format 16 h.3) x end q ≡ ok root r
     → r ≡ end → run meta_format x end at ≡ ok (body_of h strings root) end
 unfolding run
 whole_body x end at h p strings q root r e f g l =

@@ -21,7 +21,8 @@ pub ids_next : (texts : List (List ℕ)) (refs : List (Bor Tree)) (i : ℕ) (r :
 ids_next texts refs i r ids later known l e h = λ q.
     h q ∙ (ap (λ z. z || is_category_id (option_to_list (class_head texts r.now)) q) (known q)
     ∙ sym (ap (λ z. is_category_id (heads texts z) q) (refs_next refs i r l e)
-    ∙ (ap (λ z. is_category_id z q) (filter_map-append (class_head texts) (map (λ e. e.now) (take i refs)) (r.now ∷ []) ∙ ap (λ z. heads texts (map (λ e. e.now) (take i refs)) ++ z) (one (class_head texts r.now)))
+    ∙ (ap (λ z. is_category_id z q) (filter_map-append (class_head texts) (map (λ e. e.now) (take i refs)) (r.now ∷ [])
+    ∙ ap (λ z. heads texts (map (λ e. e.now) (take i refs)) ++ z) (one (class_head texts r.now)))
     ∙ list_any-append (is_category_head q) (heads texts (map (λ e. e.now) (take i refs))) (option_to_list (class_head texts r.now)))))
   where
     one : (o : Option (ℕ × List ℕ)) → cons_option o [] ≡ option_to_list o

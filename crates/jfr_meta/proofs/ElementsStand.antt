@@ -119,7 +119,8 @@ module _ (x : List ℕ) (end : ℕ) where
         after_head = h.place;
         after_strings = c.place;
         head = record { after_start = i.0; after_duration = i.1; after_id = i.2; start = i.3; duration = i.4; id = i.5; count = subst (IntAt x i.2 h.place) count i.6 };
-        strings = subst (λ z. Reads (times z table_string) x (record_end record_of) h.place c.value c.place) count (subst (λ z. Reads (times h.value.3 table_string) x z h.place c.value c.place) (sym ends) c.first);
+        strings = subst (λ z. Reads (times z table_string) x (record_end record_of) h.place c.value c.place) count
+            (subst (λ z. Reads (times h.value.3 table_string) x z h.place c.value c.place) (sym ends) c.first);
         root = subst (λ z. IsElement x z 16 c.place (record_end record_of) e.value) count (subst (λ z. IsElement x h.value.3 16 c.place z e.value) (there ∙ sym ends) holds);
       })
 

@@ -32,7 +32,8 @@ by_test true p o m h = refl
 by_test false p o m h = h
 
 -- One more attribute, in front of those that were seen.
-pub first_next : (texts : List (List ℕ)) (ps : List (ℕ × ℕ)) (i : ℕ) (p : ℕ × ℕ) (b : List ℕ) (old new : BTreeMap (Bor (List ℕ)) ℕ) → HasFirst texts (drop (i + 1) ps) old → slice_get ps i ≡ Some p → IsUtf8 b → chars b ≡ text_at texts p.0
+pub first_next : (texts : List (List ℕ)) (ps : List (ℕ × ℕ)) (i : ℕ) (p : ℕ × ℕ) (b : List ℕ) (old new : BTreeMap (Bor (List ℕ)) ℕ) → HasFirst texts (drop (i + 1) ps) old → slice_get ps i ≡ Some p
+    → IsUtf8 b → chars b ≡ text_at texts p.0
     → tree.UpdatesBy (λ x y. slice_cmp nat_cmp x.now y.now) (λ k. slice_cmp nat_cmp b k.now) old new (Some p.1) → HasFirst texts (drop i ps) new
 first_next texts ps i p b old new h e u c up = λ key asked.
     btree_map_updates_str b old new (Some p.1) up (encode_utf8_all key)
@@ -49,10 +50,12 @@ longer a b h = by_test a b (bytes_eq a b) h (bytes_eq-Decides a b)
     by_test a b true h d = let l : length a ≡ length b = ap length (d.0 refl) in absurd (omega arith)
 
 -- One more attribute, in front of those that were seen, whose key is longer than any that can be asked for.
-pub first_skipped : (texts : List (List ℕ)) (ps : List (ℕ × ℕ)) (i : ℕ) (p : ℕ × ℕ) (b : List ℕ) (m : BTreeMap (Bor (List ℕ)) ℕ) → HasFirst texts (drop (i + 1) ps) m → slice_get ps i ≡ Some p → IsUtf8 b → chars b ≡ text_at texts p.0 → 26 < length b
+pub first_skipped : (texts : List (List ℕ)) (ps : List (ℕ × ℕ)) (i : ℕ) (p : ℕ × ℕ) (b : List ℕ) (m : BTreeMap (Bor (List ℕ)) ℕ) → HasFirst texts (drop (i + 1) ps) m → slice_get ps i ≡ Some p
+    → IsUtf8 b → chars b ≡ text_at texts p.0 → 26 < length b
     → HasFirst texts (drop i ps) m
 first_skipped texts ps i p b m h e u c long = λ key asked.
-    (let other : bytes_eq (text_at texts p.0) key ≡ false = sym (bytes_eq-encodes (text_at texts p.0) key) ∙ (ap (λ z. bytes_eq z (encode_utf8_all key)) (sym (spelled b (text_at texts p.0) u c)) ∙ longer b (encode_utf8_all key) (omega (arith, asked))) in
+    (let other : bytes_eq (text_at texts p.0) key ≡ false = sym (bytes_eq-encodes (text_at texts p.0) key)
+    ∙ (ap (λ z. bytes_eq z (encode_utf8_all key)) (sym (spelled b (text_at texts p.0) u c)) ∙ longer b (encode_utf8_all key) (omega (arith, asked))) in
     h key asked ∙ sym (ap (option_map (λ p. p.1)) (passed_at (λ p. bytes_eq (text_at texts p.0) key) ps i p e other)))
 
 -- Nothing is there at first.
@@ -64,7 +67,8 @@ first_start texts ps n m e h = λ key asked.
     none_in m e key = ap (lookup (tree.is_at (λ k. slice_cmp nat_cmp (encode_utf8_all key) k.now))) e
 
 -- What is found under a key is the first value.
-pub first_found : (texts : List (List ℕ)) (ps : List (ℕ × ℕ)) (m : BTreeMap (Bor (List ℕ)) ℕ) (key : List ℕ) (v : Option ℕ) → HasFirst texts ps m → CanBeAsked key → v ≡ value_under m key → option_map (text_at texts) v ≡ first_value texts key ps
+pub first_found : (texts : List (List ℕ)) (ps : List (ℕ × ℕ)) (m : BTreeMap (Bor (List ℕ)) ℕ) (key : List ℕ) (v : Option ℕ) → HasFirst texts ps m → CanBeAsked key → v ≡ value_under m key
+    → option_map (text_at texts) v ≡ first_value texts key ps
 first_found texts ps m key v h asked e = ap (option_map (text_at texts)) (e ∙ h key asked) ∙ by_pair (find (λ p. bytes_eq (text_at texts p.0) key) ps)
   where
     by_pair : (o : Option (ℕ × ℕ)) → option_map (text_at texts) (option_map (λ p. p.1) o) ≡ option_map (λ p. text_at texts p.1) o
@@ -83,7 +87,8 @@ key_asked n h =
     let spelled : length (encode_utf8_all (value_key n)) ≡ length (value_key n) = ap length (key_ascii n h) in
     omega arith
 
-pub key_found : (n : ℕ) (b : List ℕ) (m : BTreeMap (Bor (List ℕ)) ℕ) (v : Option ℕ) → n < 2 ^ 64 → b ≡ value_key n → v ≡ tree.get_by (λ k. slice_cmp nat_cmp b k.now) m → v ≡ value_under m (value_key n)
+pub key_found : (n : ℕ) (b : List ℕ) (m : BTreeMap (Bor (List ℕ)) ℕ) (v : Option ℕ) → n < 2 ^ 64 → b ≡ value_key n → v ≡ tree.get_by (λ k. slice_cmp nat_cmp b k.now) m
+    → v ≡ value_under m (value_key n)
 key_found n b m v h e f = f ∙ ap (λ z. tree.get_by (λ k. slice_cmp nat_cmp z k.now) m) (e ∙ sym (key_ascii n h))
 
 -- The values from a number on: one more, or the end.

@@ -38,7 +38,8 @@ all_in P (y ∷ xs) x a (inl e) = subst P e a.0
 all_in P (y ∷ xs) x a (inr i) = all_in P xs x a.1 i
 
 -- Two lists whose members are related one by one.
-pub filter_zip : {A B : Type 0} (R : A → B → Type 0) (p : A → Bool) (q : B → Bool) → ((a : A) (b : B) → R a b → p a ≡ q b) → (xs : List A) (ys : List B) → AllZip R xs ys → AllZip R (filter p xs) (filter q ys)
+pub filter_zip : {A B : Type 0} (R : A → B → Type 0) (p : A → Bool) (q : B → Bool) → ((a : A) (b : B) → R a b → p a ≡ q b) → (xs : List A) (ys : List B) → AllZip R xs ys
+    → AllZip R (filter p xs) (filter q ys)
 filter_zip R p q s [] [] z = tt
 filter_zip R p q s [] (y ∷ ys) z = absurd z
 filter_zip R p q s (x ∷ xs) [] z = absurd z
@@ -57,7 +58,8 @@ Beside R None (Some b) = ⊥
 Beside R (Some a) None = ⊥
 Beside R (Some a) (Some b) = R a b
 
-pub find_zip : {A B : Type 0} (R : A → B → Type 0) (p : A → Bool) (q : B → Bool) → ((a : A) (b : B) → R a b → p a ≡ q b) → (xs : List A) (ys : List B) → AllZip R xs ys → Beside R (find p xs) (find q ys)
+pub find_zip : {A B : Type 0} (R : A → B → Type 0) (p : A → Bool) (q : B → Bool) → ((a : A) (b : B) → R a b → p a ≡ q b) → (xs : List A) (ys : List B) → AllZip R xs ys
+    → Beside R (find p xs) (find q ys)
 find_zip R p q s [] [] z = tt
 find_zip R p q s [] (y ∷ ys) z = absurd z
 find_zip R p q s (x ∷ xs) [] z = absurd z
@@ -69,13 +71,15 @@ find_zip R p q s (x ∷ xs) (y ∷ ys) z = by_test (p x) (q y) (s x y z.0) (find
     by_test true false e r = cc
     by_test false true e r = cc
 
-pub filter_map_zip : {A B C : Type 0} (R : A → B → Type 0) (f : A → Option C) (g : B → Option C) → ((a : A) (b : B) → R a b → f a ≡ g b) → (xs : List A) (ys : List B) → AllZip R xs ys → filter_map f xs ≡ filter_map g ys
+pub filter_map_zip : {A B C : Type 0} (R : A → B → Type 0) (f : A → Option C) (g : B → Option C) → ((a : A) (b : B) → R a b → f a ≡ g b) → (xs : List A) (ys : List B) → AllZip R xs ys
+    → filter_map f xs ≡ filter_map g ys
 filter_map_zip R f g s [] [] z = refl
 filter_map_zip R f g s [] (y ∷ ys) z = absurd z
 filter_map_zip R f g s (x ∷ xs) [] z = absurd z
 filter_map_zip R f g s (x ∷ xs) (y ∷ ys) z = ap (λ o. cons_option o (filter_map f xs)) (s x y z.0) ∙ ap (cons_option (g y)) (filter_map_zip R f g s xs ys z.1)
 
-pub flat_map_none : {A B C : Type 0} (R : A → B → Type 0) (f : A → List C) (g : B → List C) → ((a : A) (b : B) → R a b → f a ≡ [] → g b ≡ []) → (xs : List A) (ys : List B) → AllZip R xs ys → AllByRecursion (λ a. f a ≡ []) xs → flat_map g ys ≡ []
+pub flat_map_none : {A B C : Type 0} (R : A → B → Type 0) (f : A → List C) (g : B → List C) → ((a : A) (b : B) → R a b → f a ≡ [] → g b ≡ []) → (xs : List A) (ys : List B) → AllZip R xs ys
+    → AllByRecursion (λ a. f a ≡ []) xs → flat_map g ys ≡ []
 flat_map_none R f g s [] [] z e = refl
 flat_map_none R f g s [] (y ∷ ys) z e = absurd z
 flat_map_none R f g s (x ∷ xs) [] z e = absurd z
@@ -110,7 +114,8 @@ filter_both p q (x ∷ xs) = by_tests (p x) refl (q x) refl (filter_both p q xs)
     by_tests false e u f h = ap (λ b. if b then x ∷ filter p (filter (λ x. not (p x) || q x) xs) else filter p (filter (λ x. not (p x) || q x) xs)) e ∙ h
 
 -- Filtering before a map is filtering after it, if the tests agree.
-pub filter_map_filter : {A B : Type 0} (f : A → Option B) (p : A → Bool) (q : B → Bool) (xs : List A) → AllByRecursion (λ x. (y : B) × (f x ≡ Some y) × (p x ≡ q y)) xs → filter_map f (filter p xs) ≡ filter q (filter_map f xs)
+pub filter_map_filter : {A B : Type 0} (f : A → Option B) (p : A → Bool) (q : B → Bool) (xs : List A) → AllByRecursion (λ x. (y : B) × (f x ≡ Some y) × (p x ≡ q y)) xs
+    → filter_map f (filter p xs) ≡ filter q (filter_map f xs)
 filter_map_filter f p q [] a = refl
 filter_map_filter {B = B} f p q (x ∷ xs) a = by_test (p x) refl (filter_map_filter f p q xs a.1)
   where

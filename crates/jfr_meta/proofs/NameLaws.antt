@@ -41,7 +41,8 @@ module _ (texts : List (List ℕ)) where
   }
 
   -- A text that has a number.
-  pub text_found : (m : NameNumbers) (b : List ℕ) (i n : ℕ) → IsUtf8 b → chars b ≡ text_at texts i → Some n ≡ tree.get_by (λ k. slice_cmp nat_cmp b k.now) m.by_text → number_of m (text_at texts i) ≡ Some n
+  pub text_found : (m : NameNumbers) (b : List ℕ) (i n : ℕ) → IsUtf8 b → chars b ≡ text_at texts i → Some n ≡ tree.get_by (λ k. slice_cmp nat_cmp b k.now) m.by_text
+      → number_of m (text_at texts i) ≡ Some n
   text_found m b i n u is e = sym (number_found m.by_text b (text_at texts i) u is (Some n) e)
 
   module _ (m : NameNumbers) (b : List ℕ) (i : ℕ) (later : BTreeMap (Bor (List ℕ)) ℕ) (u : IsUtf8 b) (is : chars b ≡ text_at texts i) (none : None ≡ tree.get_by (λ k. slice_cmp nat_cmp b k.now) m.by_text)
@@ -60,7 +61,8 @@ module _ (texts : List (List ℕ)) where
     }
 
   -- The number of a string is kept by its index.
-  pub grow_index : (m : NameNumbers) (later : BTreeMap ℕ ℕ) (i n : ℕ) → AreNumbers texts m → number_of m (text_at texts i) ≡ Some n → tree.Updates nat_cmp m.by_index later i (Some n) → Grow texts m (with_indices m later)
+  pub grow_index : (m : NameNumbers) (later : BTreeMap ℕ ℕ) (i n : ℕ) → AreNumbers texts m → number_of m (text_at texts i) ≡ Some n → tree.Updates nat_cmp m.by_index later i (Some n)
+      → Grow texts m (with_indices m later)
   grow_index m later i n a e up = record {
     numbers = record { text = a.text; index = λ j k f. by_index j k (is_at (nat_cmp i) j) refl (sym (up.0 j) ∙ f) };
     kept = λ name k f. f;
@@ -75,7 +77,8 @@ abbrev pub HaveNumbers : NameNumbers → List Field → List ℕ → Type 0
 HaveNumbers m fs ns = AllZip (λ f n. number_of m f.name ≡ Some n) fs ns
 
 -- One field more.
-pub numbers_push : (texts : List (List ℕ)) (m later : NameNumbers) (fs : List Field) (ns : List ℕ) (f : Field) (n : ℕ) → HaveNumbers m fs ns → Grow texts m later → number_of later f.name ≡ Some n → HaveNumbers later (fs ++ f ∷ []) (ns ++ n ∷ [])
+pub numbers_push : (texts : List (List ℕ)) (m later : NameNumbers) (fs : List Field) (ns : List ℕ) (f : Field) (n : ℕ) → HaveNumbers m fs ns → Grow texts m later → number_of later f.name ≡ Some n
+    → HaveNumbers later (fs ++ f ∷ []) (ns ++ n ∷ [])
 numbers_push texts m later fs ns f n h g e =
     zip_push (λ f n. number_of later f.name ≡ Some n) fs ns f n
     (zip_weaken (λ f n. number_of m f.name ≡ Some n) (λ f n. number_of later f.name ≡ Some n) (λ f n. g.kept f.name n) fs ns h) e

@@ -39,7 +39,8 @@ module _ (texts : List (List ℕ)) (hs : List (ℕ × List ℕ)) (t : Tree) wher
       → (c : Class) × (class_of texts hs t ≡ Some c) × IsNamedBy texts c names
   unfolding class_of
   name_first name None names e f s h = let z : false ≡ true = s in cc
-  name_first name (Some i) names e f s h = (class_with texts hs t (i, name), ap (option_map (class_with texts hs t)) h, record { name = e; super_name = f.super_name; fields = f.fields; categories = f.categories })
+  name_first name (Some i) names e f s h =
+      (class_with texts hs t (i, name), ap (option_map (class_with texts hs t)) h, record { name = e; super_name = f.super_name; fields = f.fields; categories = f.categories })
 
   -- A class element with a head and with these names is a class that they name.
   pub named : (names : ClassNames) → Some (text_at texts names.name) ≡ attribute texts t (codes "name") → ArePartNames texts hs t names
@@ -59,7 +60,8 @@ module _ (texts : List (List ℕ)) (hs : List (ℕ × List ℕ)) (t : Tree) wher
       subst (λ o. AllZip (IsNamedBy texts) (ks ++ option_to_list o) (old ++ names ∷ [])) (sym n.1) (zip_push (IsNamedBy texts) ks old n.0 names z n.2)
 
   -- A class element without a head is no class.
-  pub unnamed : (ks : Classes) (names : List ClassNames) → AllZip (IsNamedBy texts) ks names → is_some (class_head texts t) ≡ false → AllZip (IsNamedBy texts) (ks ++ option_to_list (class_of texts hs t)) names
+  pub unnamed : (ks : Classes) (names : List ClassNames) → AllZip (IsNamedBy texts) ks names → is_some (class_head texts t) ≡ false
+      → AllZip (IsNamedBy texts) (ks ++ option_to_list (class_of texts hs t)) names
   unfolding class_of
   unnamed ks names z s = rw (none_there (class_head texts t) s) (subst (λ k. AllZip (IsNamedBy texts) k names) (sym (append-nil ks)) z)
 
@@ -86,7 +88,8 @@ pub elements_next : (texts : List (List ℕ)) (hs : List (ℕ × List ℕ)) (ref
     → AllZip (IsNamedBy texts) (filter_map (class_of texts hs) (map (λ e. e.now) (take (i + 1) refs))) names
 elements_next texts hs refs i r names l e z = subst (λ k. AllZip (IsNamedBy texts) k names)
     (sym (ap (filter_map (class_of texts hs)) (refs_next refs i r l e)
-    ∙ (filter_map-append (class_of texts hs) (map (λ e. e.now) (take i refs)) (r.now ∷ []) ∙ ap (λ z. filter_map (class_of texts hs) (map (λ e. e.now) (take i refs)) ++ z) (as_list (class_of texts hs r.now)))))
+    ∙ (filter_map-append (class_of texts hs) (map (λ e. e.now) (take i refs)) (r.now ∷ [])
+    ∙ ap (λ z. filter_map (class_of texts hs) (map (λ e. e.now) (take i refs)) ++ z) (as_list (class_of texts hs r.now)))))
     z
   where
     as_list : (o : Option Class) → cons_option o [] ≡ option_to_list o

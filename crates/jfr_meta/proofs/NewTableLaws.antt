@@ -40,7 +40,8 @@ index_kept : (table ys : List (List ℕ)) (x : List ℕ) → has_text table x �
 index_kept [] ys x e = cc
 index_kept (t ∷ ts) ys x e = by_test (bytes_eq t x) e (index_kept ts ys x)
   where
-    by_test : (b : Bool) → (b || has_text ts x) ≡ true → (has_text ts x ≡ true → index_in (ts ++ ys) x ≡ index_in ts x) → (if b then 0 else suc (index_in (ts ++ ys) x)) ≡ (if b then 0 else suc (index_in ts x))
+    by_test : (b : Bool) → (b || has_text ts x) ≡ true → (has_text ts x ≡ true → index_in (ts ++ ys) x ≡ index_in ts x)
+        → (if b then 0 else suc (index_in (ts ++ ys) x)) ≡ (if b then 0 else suc (index_in ts x))
     by_test true e f = refl
     by_test false e f = ap (λ n. suc n) (f e)
 
@@ -143,11 +144,13 @@ added_firsts table (x ∷ xs) = by_test (has_text table x) refl (added_firsts ta
         by_tests false true = refl
         by_tests false false = refl
 
-    by_test : (b : Bool) → has_text table x ≡ b → added table xs ≡ table ++ filter (lacks table) (firsts xs) → added (table ++ x ∷ []) xs ≡ (table ++ x ∷ []) ++ filter (lacks (table ++ x ∷ [])) (firsts xs)
+    by_test : (b : Bool) → has_text table x ≡ b → added table xs ≡ table ++ filter (lacks table) (firsts xs)
+        → added (table ++ x ∷ []) xs ≡ (table ++ x ∷ []) ++ filter (lacks (table ++ x ∷ [])) (firsts xs)
         → added (if b then table else table ++ x ∷ []) xs ≡ table ++ filter (lacks table) (x ∷ others)
     by_test true e f g =
         f
-        ∙ ap (λ z. table ++ z) (sym (ap (λ b. if not b then x ∷ filter (lacks table) others else filter (lacks table) others) e ∙ filter_through (lacks table) (λ y. not (bytes_eq x y)) (not_x e) (firsts xs)))
+        ∙ ap (λ z. table ++ z) (sym (ap (λ b. if not b then x ∷ filter (lacks table) others else filter (lacks table) others) e
+        ∙ filter_through (lacks table) (λ y. not (bytes_eq x y)) (not_x e) (firsts xs)))
     by_test false e f g =
         g
         ∙ (append_assoc table (x ∷ []) (filter (lacks (table ++ x ∷ [])) (firsts xs))
@@ -182,7 +185,8 @@ none_yet (suc count) zero n e = cc
 none_yet (suc count) (suc i) n e = none_yet count i n e
 
 -- What holds of each number that is kept still does after one more is kept.
-noted_each : {Q : ℕ → ℕ → Type 0} (kept : List (Option ℕ)) (i n : ℕ) → ((j k : ℕ) → slice_get kept j ≡ Some (Some k) → Q j k) → Q i n → (j k : ℕ) → slice_get (slice_set kept i (Some n)) j ≡ Some (Some k) → Q j k
+noted_each : {Q : ℕ → ℕ → Type 0} (kept : List (Option ℕ)) (i n : ℕ) → ((j k : ℕ) → slice_get kept j ≡ Some (Some k) → Q j k) → Q i n → (j k : ℕ)
+    → slice_get (slice_set kept i (Some n)) j ≡ Some (Some k) → Q j k
 noted_each [] i n h q j k e = h j k e
 noted_each {Q = Q} (o ∷ kept) zero n h q zero k e = let same : n ≡ k = cc in subst (Q 0) same q
 noted_each (o ∷ kept) zero n h q (suc j) k e = h (suc j) k e
@@ -201,7 +205,8 @@ module _ (texts : List (List ℕ)) where
 
   pub tabled_then : (xs ys : List ℕ) (a b c : NewTable) → Tabled texts xs a b → Tabled texts ys b c → Tabled texts (xs ++ ys) a c
   tabled_then xs ys a b c p q = record {
-    words = q.words ∙ (ap (λ z. added z (map (text_at texts) ys)) p.words ∙ (sym (added_append a.words (map (text_at texts) xs) (map (text_at texts) ys)) ∙ ap (added a.words) (sym (map-append (text_at texts) xs ys))));
+    words = q.words ∙ (ap (λ z. added z (map (text_at texts) ys)) p.words
+        ∙ (sym (added_append a.words (map (text_at texts) xs) (map (text_at texts) ys)) ∙ ap (added a.words) (sym (map-append (text_at texts) xs ys))));
     table = q.table;
   }
 
@@ -224,7 +229,8 @@ module _ (texts : List (List ℕ)) where
   }
 
   -- A text that has its index.
-  pub text_numbered : (t : NewTable) (b : List ℕ) (i n : ℕ) → IsTable texts t → IsUtf8 b → chars b ≡ text_at texts i → Some n ≡ tree.get_by (λ k. slice_cmp nat_cmp b k.now) t.by_text → (n ≡ number_in t.words texts i) × Tabled texts (i ∷ []) t t
+  pub text_numbered : (t : NewTable) (b : List ℕ) (i n : ℕ) → IsTable texts t → IsUtf8 b → chars b ≡ text_at texts i → Some n ≡ tree.get_by (λ k. slice_cmp nat_cmp b k.now) t.by_text
+      → (n ≡ number_in t.words texts i) × Tabled texts (i ∷ []) t t
   text_numbered t b i n a u is e =
       let h = a.text (text_at texts i) n (sym (number_found t.by_text b (text_at texts i) u is (Some n) e)) in
       (sym h.0, record { words = sym (with_there t.words (text_at texts i) h.1); table = a })
@@ -237,13 +243,15 @@ module _ (texts : List (List ℕ)) where
   with_numbers t numbers = record { words = t.words; numbers = numbers; by_text = t.by_text }
 
   -- The number is kept at the old index.
-  pub index_noted : (a t : NewTable) (later : Vec (Option ℕ) Global) (i n : ℕ) → Tabled texts (i ∷ []) a t → n ≡ number_in t.words texts i → later.items ≡ slice_set t.numbers.items i (Some n) → Tabled texts (i ∷ []) a (with_numbers t later)
+  pub index_noted : (a t : NewTable) (later : Vec (Option ℕ) Global) (i n : ℕ) → Tabled texts (i ∷ []) a t → n ≡ number_in t.words texts i → later.items ≡ slice_set t.numbers.items i (Some n)
+      → Tabled texts (i ∷ []) a (with_numbers t later)
   index_noted a t later i n p e set = record {
     words = p.words;
     table = record {
       text = p.table.text;
       lacks = p.table.lacks;
-      index = λ j k f. noted_each {Q = λ j k. (number_in t.words texts j ≡ k) × (has_text t.words (text_at texts j) ≡ true)} t.numbers.items i n p.table.index (sym e, has) j k (sym (ap (λ z. slice_get z j) set) ∙ f);
+      index = λ j k f. noted_each {Q = λ j k. (number_in t.words texts j ≡ k) × (has_text t.words (text_at texts j) ≡ true)} t.numbers.items i n p.table.index (sym e, has) j k
+          (sym (ap (λ z. slice_get z j) set) ∙ f);
     };
   }
     where
@@ -251,7 +259,8 @@ module _ (texts : List (List ℕ)) where
       has = ap (λ z. has_text z (text_at texts i)) p.words ∙ has_with a.words (text_at texts i)
 
   module _ (t : NewTable) (b : List ℕ) (i : ℕ) (words : List (List ℕ)) (later : BTreeMap (Bor (List ℕ)) ℕ) (a : IsTable texts t) (u : IsUtf8 b) (is : chars b ≡ text_at texts i) (none : None ≡ tree.get_by (λ k. slice_cmp nat_cmp b k.now) t.by_text)
-      (more : words ≡ t.words ++ text_at texts i ∷ []) (n : ℕ) (at : n ≡ length t.words) (up : tree.UpdatesBy (λ x y. slice_cmp nat_cmp x.now y.now) (λ k. slice_cmp nat_cmp b k.now) t.by_text later (Some n)) where
+      (more : words ≡ t.words ++ text_at texts i ∷ []) (n : ℕ) (at : n ≡ length t.words)
+      (up : tree.UpdatesBy (λ x y. slice_cmp nat_cmp x.now y.now) (λ k. slice_cmp nat_cmp b k.now) t.by_text later (Some n)) where
     abbrev x : List ℕ
     x = text_at texts i
 

@@ -51,29 +51,35 @@ pub record Counted (levels limit : ℕ) (x : List ℕ) (end at name n : ℕ) (p 
 pub counted_ok : (levels limit : ℕ) (x : List ℕ) (end at name p n q : ℕ) → Begun levels limit x end at name p → run integer x end p ≡ ok n q → Counted levels limit x end at name n q
 counted_ok levels limit x end at name p n q b e = record { same = b.same ∙ bind_ok integer (λ n. after_count levels limit at name n) x end p n q e }
 
-pub counted_err : (levels limit : ℕ) (x : List ℕ) (end at name p : ℕ) (w : Flaw) → Begun levels limit x end at name p → run integer x end p ≡ Err w → run (element_format (suc levels) limit) x end at ≡ Err w
+pub counted_err : (levels limit : ℕ) (x : List ℕ) (end at name p : ℕ) (w : Flaw) → Begun levels limit x end at name p → run integer x end p ≡ Err w
+    → run (element_format (suc levels) limit) x end at ≡ Err w
 counted_err levels limit x end at name p w b e = b.same ∙ bind_err integer (λ n. after_count levels limit at name n) x end p w e
 
 pub record Paired (levels limit : ℕ) (x : List ℕ) (end at name : ℕ) (pairs : List (ℕ × ℕ)) (p : ℕ) : Type 0 where
   pub same : run (element_format (suc levels) limit) x end at ≡ run (after_pairs levels limit at name pairs) x end p
 
-pub paired_ok : (levels limit : ℕ) (x : List ℕ) (end at name n p : ℕ) (pairs : List (ℕ × ℕ)) (q : ℕ) → Counted levels limit x end at name n p → run (times n (pair limit)) x end p ≡ ok pairs q → Paired levels limit x end at name pairs q
+pub paired_ok : (levels limit : ℕ) (x : List ℕ) (end at name n p : ℕ) (pairs : List (ℕ × ℕ)) (q : ℕ) → Counted levels limit x end at name n p → run (times n (pair limit)) x end p ≡ ok pairs q
+    → Paired levels limit x end at name pairs q
 paired_ok levels limit x end at name n p pairs q b e = record { same = b.same ∙ bind_ok (times n (pair limit)) (λ pairs. after_pairs levels limit at name pairs) x end p pairs q e }
 
-pub paired_err : (levels limit : ℕ) (x : List ℕ) (end at name n p : ℕ) (w : Flaw) → Counted levels limit x end at name n p → run (times n (pair limit)) x end p ≡ Err w → run (element_format (suc levels) limit) x end at ≡ Err w
+pub paired_err : (levels limit : ℕ) (x : List ℕ) (end at name n p : ℕ) (w : Flaw) → Counted levels limit x end at name n p → run (times n (pair limit)) x end p ≡ Err w
+    → run (element_format (suc levels) limit) x end at ≡ Err w
 paired_err levels limit x end at name n p w b e = b.same ∙ bind_err (times n (pair limit)) (λ pairs. after_pairs levels limit at name pairs) x end p w e
 
 pub record Numbered (levels limit : ℕ) (x : List ℕ) (end at name : ℕ) (pairs : List (ℕ × ℕ)) (m p : ℕ) : Type 0 where
   pub same : run (element_format (suc levels) limit) x end at ≡ run (after_number levels limit at name pairs m) x end p
 
-pub numbered_ok : (levels limit : ℕ) (x : List ℕ) (end at name : ℕ) (pairs : List (ℕ × ℕ)) (p m q : ℕ) → Paired levels limit x end at name pairs p → run integer x end p ≡ ok m q → Numbered levels limit x end at name pairs m q
+pub numbered_ok : (levels limit : ℕ) (x : List ℕ) (end at name : ℕ) (pairs : List (ℕ × ℕ)) (p m q : ℕ) → Paired levels limit x end at name pairs p → run integer x end p ≡ ok m q
+    → Numbered levels limit x end at name pairs m q
 numbered_ok levels limit x end at name pairs p m q b e = record { same = b.same ∙ bind_ok integer (λ m. after_number levels limit at name pairs m) x end p m q e }
 
-pub numbered_err : (levels limit : ℕ) (x : List ℕ) (end at name : ℕ) (pairs : List (ℕ × ℕ)) (p : ℕ) (w : Flaw) → Paired levels limit x end at name pairs p → run integer x end p ≡ Err w → run (element_format (suc levels) limit) x end at ≡ Err w
+pub numbered_err : (levels limit : ℕ) (x : List ℕ) (end at name : ℕ) (pairs : List (ℕ × ℕ)) (p : ℕ) (w : Flaw) → Paired levels limit x end at name pairs p → run integer x end p ≡ Err w
+    → run (element_format (suc levels) limit) x end at ≡ Err w
 numbered_err levels limit x end at name pairs p w b e = b.same ∙ bind_err integer (λ m. after_number levels limit at name pairs m) x end p w e
 
 pub element_ok : (levels limit : ℕ) (x : List ℕ) (end at name : ℕ) (pairs : List (ℕ × ℕ)) (m p : ℕ) (children : List Tree) (q : ℕ)
-    → Numbered levels limit x end at name pairs m p → run (times m (element_format levels limit)) x end p ≡ ok children q → run (element_format (suc levels) limit) x end at ≡ ok (tree at name pairs children) q
+    → Numbered levels limit x end at name pairs m p → run (times m (element_format levels limit)) x end p ≡ ok children q
+    → run (element_format (suc levels) limit) x end at ≡ ok (tree at name pairs children) q
 unfolding run
 element_ok levels limit x end at name pairs m p children q b e = b.same ∙ bind_ok (times m (element_format levels limit)) (λ children. Done (tree at name pairs children)) x end p children q e
 

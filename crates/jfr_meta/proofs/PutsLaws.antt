@@ -39,7 +39,8 @@ module _ (texts : List (List ℕ)) where
   with_each (Cons t ts) =
       by_own (own t) (filter_map-append own (below t) (all_below ts) ∙ ap (λ z. filter_map own (below t) ++ z) (with_each ts))
     where
-      by_own : (o : Option ℕ) → filter_map own (below t ++ all_below ts) ≡ ids_below texts t ++ flat_map (ids_with texts) (list_of ts) → cons_option o (filter_map own (below t ++ all_below ts)) ≡ (option_to_list o ++ ids_below texts t) ++ flat_map (ids_with texts) (list_of ts)
+      by_own : (o : Option ℕ) → filter_map own (below t ++ all_below ts) ≡ ids_below texts t ++ flat_map (ids_with texts) (list_of ts)
+          → cons_option o (filter_map own (below t ++ all_below ts)) ≡ (option_to_list o ++ ids_below texts t) ++ flat_map (ids_with texts) (list_of ts)
       by_own None e = e
       by_own (Some id) e = ap (λ z. id ∷ z) e
 
@@ -53,7 +54,8 @@ module _ (texts : List (List ℕ)) where
 
   -- One element more.
   pub each_next : (k : Classes) (ts : List Tree) (i : ℕ) (t : Tree) (a b c d : Worklist) → slice_get ts i ≡ Some t → Puts (those (class_index k) (flat_map (ids_with texts) (take i ts))) a b
-      → Puts (those (class_index k) (option_to_list (own t))) b c → Puts (those (class_index k) (ids_below texts t)) c d → Puts (those (class_index k) (flat_map (ids_with texts) (take (i + 1) ts))) a d
+      → Puts (those (class_index k) (option_to_list (own t))) b c → Puts (those (class_index k) (ids_below texts t)) c d
+      → Puts (those (class_index k) (flat_map (ids_with texts) (take (i + 1) ts))) a d
   each_next k ts i t a b c d e p q r =
       subst (λ z. Puts (those (class_index k) z) a d) (sym (flat_next ts i t e))
       (ids_then k (flat_map (ids_with texts) (take i ts)) (ids_with texts t) a b d p (ids_then k (option_to_list (own t)) (ids_below texts t) b c d q r))
@@ -118,7 +120,8 @@ module _ (texts : List (List ℕ)) (ts : List Tree) (k : Classes) (used : ℕ �
       started (length k) next roots (λ i. 0) (those_below (first_ids k used)) next_below 0 0 b.flags.items b.order.items
       (p.marks ∙ ap (λ z. marked_at z roots) e) (p.order ∙ (ap (λ z. ordered_all z a.order.items roots) e ∙ ap (λ z. ordered_all (replicate (length k) false) z roots) o)) (omega arith)
 
-  pub going_on : (a b : Worklist) (at j : ℕ) → at < length a.order.items → Going a.flags.items a.order.items at → j ≡ slice_index a.order.items at → Puts (next j) a b → Going b.flags.items b.order.items (at + 1)
+  pub going_on : (a b : Worklist) (at j : ℕ) → at < length a.order.items → Going a.flags.items a.order.items at → j ≡ slice_index a.order.items at → Puts (next j) a b
+      → Going b.flags.items b.order.items (at + 1)
   going_on a b at j h w e p =
       went_on (length k) next roots (λ i. 0) (those_below (first_ids k used)) next_below 0 a.flags.items b.flags.items a.order.items b.order.items at 0 0 j h w e p.marks p.order (omega arith)
 
@@ -205,7 +208,8 @@ module _ (marks : List Bool) (k : Classes) (sound : Sound k) where
                   by_more false g = refl
                   by_more true g = let u : i ≡ at = grind (arith, nat_tests) in absurd (n u)
 
-      by_index : (o : Option ℕ) → class_index k id ≡ o → option_map_or (λ i. nat_lt i (at + 1) && is_marked marks i) o false ≡ (option_map_or (λ i. nat_lt i at && is_marked marks i) o false || ((c.id == id) && is_marked marks at))
+      by_index : (o : Option ℕ) → class_index k id ≡ o
+          → option_map_or (λ i. nat_lt i (at + 1) && is_marked marks i) o false ≡ (option_map_or (λ i. nat_lt i at && is_marked marks i) o false || ((c.id == id) && is_marked marks at))
       by_index None q = by_test (c.id == id) refl
         where
           by_test : (t : Bool) → (c.id == id) ≡ t → false ≡ (t && is_marked marks at)

@@ -43,11 +43,13 @@ exact_pair limit p g =
     (bind_exact (index limit) (λ value. Done (p.0, value)) (spell p.1) [] (spell p.1) p.1 p (sym (append-nil (spell p.1))) (exact_index limit p.1 g.1) (refl, refl))
 
 -- So many things, one after another.
-exact_times : {A : Type 0} (f : Format A) (bytes : A → List ℕ) (Good : A → Type 0) → ((x : A) → Good x → Exactly f (bytes x) x) → (xs : List A) → AllByRecursion Good xs → Exactly (times (length xs) f) (flat_map bytes xs) xs
+exact_times : {A : Type 0} (f : Format A) (bytes : A → List ℕ) (Good : A → Type 0) → ((x : A) → Good x → Exactly f (bytes x) x) → (xs : List A) → AllByRecursion Good xs
+    → Exactly (times (length xs) f) (flat_map bytes xs) xs
 exact_times f bytes Good one [] g = (refl, refl)
 exact_times f bytes Good one (x ∷ xs) g =
     bind_exact f (λ a. times (length xs) f >>= λ rest. Done (a ∷ rest)) (bytes x) (flat_map bytes xs) (bytes x ++ flat_map bytes xs) x (x ∷ xs) refl (one x g.0)
-    (bind_exact (times (length xs) f) (λ rest. Done (x ∷ rest)) (flat_map bytes xs) [] (flat_map bytes xs) xs (x ∷ xs) (sym (append-nil (flat_map bytes xs))) (exact_times f bytes Good one xs g.1) (refl, refl))
+    (bind_exact (times (length xs) f) (λ rest. Done (x ∷ rest)) (flat_map bytes xs) [] (flat_map bytes xs) xs (x ∷ xs) (sym (append-nil (flat_map bytes xs))) (exact_times f bytes Good one xs g.1)
+    (refl, refl))
 
 -- Texts, exactly.
 text_scalars : (cs : List ℕ) → IsText cs → scalars cs ≡ true
@@ -99,14 +101,16 @@ nothing x at to s =
 
 -- Reading a tree at its offset.
 mutual
-  pub tree_run : (t : Tree) (limit levels : ℕ) (x : List ℕ) (end at to : ℕ) → end ≤ length x → HasIndices limit t → depth t ≤ levels → Stands x at to (tree_bytes t) → to ≤ end → run (element_format levels limit) x end at ≡ ok (moved at t) to
+  pub tree_run : (t : Tree) (limit levels : ℕ) (x : List ℕ) (end at to : ℕ) → end ≤ length x → HasIndices limit t → depth t ≤ levels → Stands x at to (tree_bytes t) → to ≤ end
+      → run (element_format levels limit) x end at ≡ ok (moved at t) to
   tree_run (Node place name pairs children) limit zero x end at to w g d s i = absurd (omega arith)
   tree_run (Node place name pairs children) limit (suc levels) x end at to w g d s i =
       let n : ℕ = length pairs in
       let m : ℕ = how_many children in
       let flat : List ℕ = flat_map pair_bytes pairs in
       let below : List ℕ = trees_bytes children in
-      let a : Halves x at to (spell name) (spell n ++ (flat ++ (spell m ++ below))) = stands_split x at to (tree_bytes (Node place name pairs children)) (spell name) (spell n ++ (flat ++ (spell m ++ below))) s refl in
+      let a : Halves x at to (spell name) (spell n ++ (flat ++ (spell m ++ below))) =
+      stands_split x at to (tree_bytes (Node place name pairs children)) (spell name) (spell n ++ (flat ++ (spell m ++ below))) s refl in
       let p : ℕ = at + length (spell name) in
       let b : Halves x p to (spell n) (flat ++ (spell m ++ below)) = stands_split x p to (spell n ++ (flat ++ (spell m ++ below))) (spell n) (flat ++ (spell m ++ below)) a.second refl in
       let q : ℕ = p + length (spell n) in
@@ -121,7 +125,8 @@ mutual
       let o1 : p ≤ end = omega arith in
       let named = named_ok levels limit x end at name p (exact_run x end w (index limit) at p (spell name) name (exact_index limit name g.0) a.first o1) in
       let counted = counted_ok levels limit x end at name p n q named (int_run x end p q n w b.first o2) in
-      let paired = paired_ok levels limit x end at name n q pairs r counted (exact_run x end w (times n (pair limit)) q r flat pairs (exact_times (pair limit) pair_bytes (λ z. (z.0 < limit) × (z.1 < limit)) (exact_pair limit) pairs g.1) c.first o3) in
+      let paired = paired_ok levels limit x end at name n q pairs r counted
+      (exact_run x end w (times n (pair limit)) q r flat pairs (exact_times (pair limit) pair_bytes (λ z. (z.0 < limit) × (z.1 < limit)) (exact_pair limit) pairs g.1) c.first o3) in
       let numbered = numbered_ok levels limit x end at name pairs r m u paired (int_run x end r u m w e.first o4) in
       element_ok levels limit x end at name pairs m u (list_of (moveds u children)) to numbered (trees_run children limit levels x end u to w g.2 (omega arith) e.second i)
       ∙ ap (λ z. ok (Node at name pairs z) to) (trees_of-list_of (moveds u children))
@@ -150,9 +155,11 @@ module _ (start duration id : ℕ) (strings : List (List ℕ)) (root : Tree) (x 
       let count : ℕ = length strings in
       let flat : List ℕ = flat_map text_bytes strings in
       let tree : List ℕ = tree_bytes root in
-      let a : Halves x 6 n (spell start) (spell duration ++ (spell id ++ (spell count ++ (flat ++ tree)))) = stands_split x 6 n (body_bytes start duration id strings root) (spell start) (spell duration ++ (spell id ++ (spell count ++ (flat ++ tree)))) s refl in
+      let a : Halves x 6 n (spell start) (spell duration ++ (spell id ++ (spell count ++ (flat ++ tree)))) =
+      stands_split x 6 n (body_bytes start duration id strings root) (spell start) (spell duration ++ (spell id ++ (spell count ++ (flat ++ tree)))) s refl in
       let p : ℕ = 6 + length (spell start) in
-      let b : Halves x p n (spell duration) (spell id ++ (spell count ++ (flat ++ tree))) = stands_split x p n (spell duration ++ (spell id ++ (spell count ++ (flat ++ tree)))) (spell duration) (spell id ++ (spell count ++ (flat ++ tree))) a.second refl in
+      let b : Halves x p n (spell duration) (spell id ++ (spell count ++ (flat ++ tree))) =
+      stands_split x p n (spell duration ++ (spell id ++ (spell count ++ (flat ++ tree)))) (spell duration) (spell id ++ (spell count ++ (flat ++ tree))) a.second refl in
       let q : ℕ = p + length (spell duration) in
       let c : Halves x q n (spell id) (spell count ++ (flat ++ tree)) = stands_split x q n (spell id ++ (spell count ++ (flat ++ tree))) (spell id) (spell count ++ (flat ++ tree)) b.second refl in
       let r : ℕ = q + length (spell id) in
@@ -165,7 +172,8 @@ module _ (start duration id : ℕ) (strings : List (List ℕ)) (root : Tree) (x 
       let o3 : r ≤ n = c.second.order in
       let o2 : q ≤ n = b.second.order in
       let o1 : p ≤ n = a.second.order in
-      let head = whole_head x n 6 start p duration q id r count u (int_run x n 6 p start w a.first o1) (int_run x n p q duration w b.first o2) (int_run x n q r id w c.first o3) (int_run x n r u count w d.first o4) in
+      let head = whole_head x n 6 start p duration q id r count u (int_run x n 6 p start w a.first o1) (int_run x n p q duration w b.first o2) (int_run x n q r id w c.first o3)
+      (int_run x n r u count w d.first o4) in
       let table = exact_run x n w (times count table_string) u v flat strings (exact_times table_string text_bytes IsText exact_text strings texts) e.first o5 in
       let element = tree_run root count 16 x n v n w good shallow e.second w in
       (moved v root, moved_bare v root, whole_body x n 6 (start, duration, id, count) u strings v (moved v root) n head table element refl)
@@ -193,7 +201,8 @@ pub record StandsAlone (x : List ℕ) (start duration id : ℕ) (strings : List 
   pub long : 6 ≤ length x
 
 module _ (start duration id : ℕ) (strings : List (List ℕ)) (root : Tree) (x : List ℕ) where
-  pub stands_alone : HasIndices (length strings) root → depth root ≤ 16 → length (table_bytes strings root) < 536870912 → AllByRecursion IsText strings → x ≡ record_bytes start duration id strings root → StandsAlone x start duration id strings root
+  pub stands_alone : HasIndices (length strings) root → depth root ≤ 16 → length (table_bytes strings root) < 536870912 → AllByRecursion IsText strings
+      → x ≡ record_bytes start duration id strings root → StandsAlone x start duration id strings root
   stands_alone good shallow small texts e =
       let body : List ℕ = body_bytes start duration id strings root in
       let n : ℕ = length x in
@@ -213,7 +222,12 @@ module _ (start duration id : ℕ) (strings : List (List ℕ)) (root : Tree) (x 
       let r = body_run start duration id strings root x good shallow texts s4 in
       let b : Body = record { start = start; duration = duration; id = id; strings = strings; root = r.0 } in
       let P : Answer Body → Type 0 = λ a. ReadsOrFails meta_format x n 6 a in
-      let size_at : IntAt x 0 5 n = record { order = omega arith; within = s1.within; spelled = subst (λ z. Spells z n) (sym s1.bytes) (subst (Spells front) (sym whole) (fits_spells size 5 (omega arith) (omega arith) fits)) } in
+      let size_at : IntAt x 0 5 n = record {
+        order = omega arith;
+        within = s1.within;
+        spelled = subst (λ z. Spells z n) (sym s1.bytes)
+            (subst (Spells front) (sym whole) (fits_spells size 5 (omega arith) (omega arith) fits));
+      } in
       let type_at : IntAt x 5 6 0 = record { order = omega arith; within = s3.within; spelled = subst (λ z. Spells z 0) (sym s3.bytes) zero_spelled } in
       let covers : 6 ≤ 0 + n = omega arith in
       let within : 0 + n ≤ n = omega arith in
@@ -227,7 +241,8 @@ module _ (start duration id : ℕ) (strings : List (List ℕ)) (root : Tree) (x 
         long = omega arith;
       }
 
-  pub read_back : HasIndices (length strings) root → depth root ≤ 16 → length (table_bytes strings root) < 536870912 → AllByRecursion IsText strings → x ≡ record_bytes start duration id strings root → ReadsBack x start duration id strings root
+  pub read_back : HasIndices (length strings) root → depth root ≤ 16 → length (table_bytes strings root) < 536870912 → AllByRecursion IsText strings → x ≡ record_bytes start duration id strings root
+      → ReadsBack x start duration id strings root
   read_back good shallow small texts e =
       let w = stands_alone good shallow small texts e in
       record {

@@ -40,7 +40,8 @@ module _ (texts : List (List ℕ)) where
   pub wrote_none : (a : NewTree) → IsTable texts a.table → Wrote texts [] (λ f. []) a a
   wrote_none a t = record { tabled = tabled_none texts a.table t; written = sym (append-nil a.bytes.items); only = λ f g h. refl }
 
-  pub wrote_index : (a b : NewTree) (i n : ℕ) → Tabled texts (i ∷ []) a.table b.table → n ≡ number_in b.table.words texts i → b.bytes.items ≡ a.bytes.items ++ spell n → Wrote texts (i ∷ []) (λ f. spell (f i)) a b
+  pub wrote_index : (a b : NewTree) (i n : ℕ) → Tabled texts (i ∷ []) a.table b.table → n ≡ number_in b.table.words texts i → b.bytes.items ≡ a.bytes.items ++ spell n
+      → Wrote texts (i ∷ []) (λ f. spell (f i)) a b
   wrote_index a b i n t e w = record { tabled = t; written = w ∙ ap (λ z. a.bytes.items ++ spell z) e; only = λ f g h. ap spell (h i (inl refl)) }
 
   pub wrote_plain : (a b : NewTree) (n : ℕ) → IsTable texts a.table → b.table ≡ a.table → b.bytes.items ≡ a.bytes.items ++ spell n → Wrote texts [] (λ f. spell n) a b
@@ -74,7 +75,8 @@ module _ (texts : List (List ℕ)) where
       one_more : (g : X → List ℕ) → flat_map g xs ++ g x ≡ flat_map g (xs ++ x ∷ [])
       one_more g = sym (flat_map-append g xs (x ∷ []) ∙ ap (λ z. flat_map g xs ++ z) (append-nil (g x)))
 
-  pub pairs_more : (ps qs : List (ℕ × ℕ)) (p : ℕ × ℕ) (a b c d : NewTree) → ps ++ p ∷ [] ≡ qs → WrotePairs texts ps a b → Wrote texts (p.0 ∷ []) (λ f. spell (f p.0)) b c → Wrote texts (p.1 ∷ []) (λ f. spell (f p.1)) c d → WrotePairs texts qs a d
+  pub pairs_more : (ps qs : List (ℕ × ℕ)) (p : ℕ × ℕ) (a b c d : NewTree) → ps ++ p ∷ [] ≡ qs → WrotePairs texts ps a b → Wrote texts (p.0 ∷ []) (λ f. spell (f p.0)) b c
+      → Wrote texts (p.1 ∷ []) (λ f. spell (f p.1)) c d → WrotePairs texts qs a d
   pairs_more ps qs p a b c d e w k v =
       subst (λ z. WrotePairs texts z a d) e (wrote_more pair_uses new_pair ps p a b d w (wrote_then (p.0 ∷ []) (p.1 ∷ []) (λ f. spell (f p.0)) (λ f. spell (f p.1)) b c d k v))
 
@@ -82,7 +84,8 @@ module _ (texts : List (List ℕ)) where
   trees_more ts us t a b c e w k = subst (λ z. WroteTrees texts z a c) e (wrote_more uses new_tree ts t a b c w k)
 
   -- An element's parts.
-  pub head_done : (t : Tree) (count : ℕ) (name n : ℕ) (ps : List (ℕ × ℕ)) (a b c d e : NewTree) → name ≡ name_of t → n ≡ length (pairs_of t) → ps ≡ pairs_of t → Wrote texts (name ∷ []) (λ f. spell (f name)) a b → Wrote texts [] (λ f. spell n) b c
+  pub head_done : (t : Tree) (count : ℕ) (name n : ℕ) (ps : List (ℕ × ℕ)) (a b c d e : NewTree) → name ≡ name_of t → n ≡ length (pairs_of t) → ps ≡ pairs_of t
+      → Wrote texts (name ∷ []) (λ f. spell (f name)) a b → Wrote texts [] (λ f. spell n) b c
       → WrotePairs texts ps c d → Wrote texts [] (λ f. spell count) d e → WroteHead texts t count a e
   head_done (Node place name pairs children) count _ _ _ a b c d e e1 e2 e3 p q r s =
       let p2 : Wrote texts (name ∷ []) (λ f. spell (f name)) a b = subst (λ z. Wrote texts (z ∷ []) (λ f. spell (f z)) a b) e1 p in
@@ -103,12 +106,14 @@ module _ (texts : List (List ℕ)) where
       (λ f. (spell (f name) ++ (spell (length pairs) ++ (flat_map (new_pair f) pairs ++ spell n))) ++ flat_map (new_tree f) cs)
       (λ f. new_tree f (Node place name pairs (trees_of cs))) a c
       (ap (λ z. name ∷ (flat_map pair_uses pairs ++ z)) (sym (uses_each cs))) spelled
-      (wrote_then (name ∷ flat_map pair_uses pairs) (flat_map uses cs) (λ f. spell (f name) ++ (spell (length pairs) ++ (flat_map (new_pair f) pairs ++ spell n))) (λ f. flat_map (new_tree f) cs) a b c h w)
+      (wrote_then (name ∷ flat_map pair_uses pairs) (flat_map uses cs) (λ f. spell (f name) ++ (spell (length pairs) ++ (flat_map (new_pair f) pairs ++ spell n)))
+      (λ f. flat_map (new_tree f) cs) a b c h w)
     where
       spelled : (f : ℕ → ℕ) → (spell (f name) ++ (spell (length pairs) ++ (flat_map (new_pair f) pairs ++ spell n))) ++ flat_map (new_tree f) cs ≡ new_tree f (Node place name pairs (trees_of cs))
       spelled f =
           five_parts (spell (f name)) (spell (length pairs)) (flat_map (new_pair f) pairs) (spell n) (flat_map (new_tree f) cs)
-          ∙ (λ i. spell (f name) ++ (spell (sym (length-map {B = ℕ × ℕ} pairs (λ (p : ℕ × ℕ). (f p.0, f p.1))) i) ++ (sym (pairs_spelled f pairs) i ++ (spell ((e ∙ sym (children_counted f cs)) i) ++ sym (children_spelled f cs) i))))
+          ∙ (λ i. spell (f name) ++ (spell (sym (length-map {B = ℕ × ℕ} pairs (λ (p : ℕ × ℕ). (f p.0, f p.1))) i)
+          ++ (sym (pairs_spelled f pairs) i ++ (spell ((e ∙ sym (children_counted f cs)) i) ++ sym (children_spelled f cs) i))))
 
   pub element_done : (t : Tree) (cs : List Tree) (n : ℕ) (a b c : NewTree) → cs ≡ children_of t → n ≡ length (children_of t) → WroteHead texts t n a b → WroteTrees texts cs b c → WroteTree texts t a c
   element_done t cs n a b c e l h w = subst (λ z. WroteTree texts z a c) (own_children t) (tree_done t (children_of t) n a b c l h (subst (λ z. WroteTrees texts z b c) e w))

@@ -25,7 +25,8 @@ find_changed : {A : Type 0} (p : A → Bool) (f : A → A) → ((x : A) → p (f
 find_changed p f s [] = refl
 find_changed p f s (x ∷ xs) = by_test (p x) refl (find_changed p f s xs)
   where
-    by_test : (t : Bool) → p x ≡ t → find p (first_changed p f xs) ≡ option_map f (find p xs) → find p (if t then f x ∷ xs else x ∷ first_changed p f xs) ≡ option_map f (if t then Some x else find p xs)
+    by_test : (t : Bool) → p x ≡ t → find p (first_changed p f xs) ≡ option_map f (find p xs)
+        → find p (if t then f x ∷ xs else x ∷ first_changed p f xs) ≡ option_map f (if t then Some x else find p xs)
     by_test true e h = ap (λ b. if b then Some (f x) else find p xs) (s x ∙ e)
     by_test false e h = ap (λ b. if b then Some x else find p (first_changed p f xs)) e ∙ h
 
@@ -33,15 +34,18 @@ module _ (texts : List (List ℕ)) (stays : ℕ → Bool) where
   pub slim_elements : (root : Tree) → class_elements texts (slim_root texts stays root) ≡ option_map (filter (head_is_needed texts stays)) (class_elements texts root)
   unfolding slim_root
   slim_elements root =
-      ap (λ cs. option_map (λ m. named texts (codes "class") (children_of m)) (find (is_named texts (codes "metadata")) cs)) (list_of-trees_of (first_changed (is_named texts (codes "metadata")) (slim_holder texts stays) (children_of root)))
+      ap (λ cs. option_map (λ m. named texts (codes "class") (children_of m)) (find (is_named texts (codes "metadata")) cs))
+      (list_of-trees_of (first_changed (is_named texts (codes "metadata")) (slim_holder texts stays) (children_of root)))
       ∙ (ap (option_map (λ m. named texts (codes "class") (children_of m))) (find_changed (is_named texts (codes "metadata")) (slim_holder texts stays) (λ m. refl) (children_of root))
       ∙ by_one (find (is_named texts (codes "metadata")) (children_of root)))
     where
-      by_one : (o : Option Tree) → option_map (λ m. named texts (codes "class") (children_of m)) (option_map (slim_holder texts stays) o) ≡ option_map (filter (head_is_needed texts stays)) (option_map (λ m. named texts (codes "class") (children_of m)) o)
+      by_one : (o : Option Tree)
+          → option_map (λ m. named texts (codes "class") (children_of m)) (option_map (slim_holder texts stays) o) ≡ option_map (filter (head_is_needed texts stays)) (option_map (λ m. named texts (codes "class") (children_of m)) o)
       by_one None = refl
       by_one (Some m) =
           ap (λ z. Some z)
-          (ap (named texts (codes "class")) (list_of-trees_of (filter (element_is_needed texts stays) (children_of m))) ∙ filter_both (is_named texts (codes "class")) (head_is_needed texts stays) (children_of m))
+          (ap (named texts (codes "class")) (list_of-trees_of (filter (element_is_needed texts stays) (children_of m)))
+          ∙ filter_both (is_named texts (codes "class")) (head_is_needed texts stays) (children_of m))
 
 -- A child is below its parent.
 child_below : (t a : Tree) → In (children_of t) a → In (below t) a
@@ -64,7 +68,8 @@ ids_same texts hs id (t ∷ ts) = by_head (class_head texts t) (ids_same texts h
     by_head (Some h) e = ap (λ b. (h.0 == id) || b) e
 
 -- Whether an id is that of a category class doesn't change when heads with other ids are removed.
-same_category_id : (stays : ℕ → Bool) (id : ℕ) (hs : List (ℕ × List ℕ)) → (list_any (λ h. h.0 == id) hs ≡ true → stays id ≡ true) → is_category_id (filter (λ h. stays h.0) hs) id ≡ is_category_id hs id
+same_category_id : (stays : ℕ → Bool) (id : ℕ) (hs : List (ℕ × List ℕ)) → (list_any (λ h. h.0 == id) hs ≡ true → stays id ≡ true)
+    → is_category_id (filter (λ h. stays h.0) hs) id ≡ is_category_id hs id
 same_category_id stays id [] k = refl
 same_category_id stays id (h ∷ hs) k = by_tests (h.0 == id) refl (stays h.0) refl (same_category_id stays id hs)
   where
@@ -72,7 +77,8 @@ same_category_id stays id (h ∷ hs) k = by_tests (h.0 == id) refl (stays h.0) r
     or_true true = refl
     or_true false = refl
 
-    by_tests : (t : Bool) → (h.0 == id) ≡ t → (s : Bool) → stays h.0 ≡ s → ((list_any (λ h. h.0 == id) hs ≡ true → stays id ≡ true) → is_category_id (filter (λ h. stays h.0) hs) id ≡ is_category_id hs id)
+    by_tests : (t : Bool) → (h.0 == id) ≡ t → (s : Bool) → stays h.0 ≡ s
+        → ((list_any (λ h. h.0 == id) hs ≡ true → stays id ≡ true) → is_category_id (filter (λ h. stays h.0) hs) id ≡ is_category_id hs id)
         → is_category_id (if s then h ∷ filter (λ h. stays h.0) hs else filter (λ h. stays h.0) hs) id ≡ is_category_id (h ∷ hs) id
     by_tests t e true f g = ap (λ b. is_category_head id h || b) (g (λ a. k (ap (λ b. (h.0 == id) || b) a ∙ or_true (h.0 == id))))
     by_tests false e false f g =
@@ -100,7 +106,8 @@ first_part (x ∷ xs) ys e = cc
 pub has_head : (texts : List (List ℕ)) (t : Tree) → class_flaws texts t ≡ [] → (h : ℕ × List ℕ) × (class_head texts t ≡ Some h)
 unfolding class_flaws
 has_head texts t e =
-    some_of (class_head texts t) (good_of (is_some (class_head texts t)) t ClassBad (first_part (flaw_unless (is_some (class_head texts t)) t ClassBad) (flat_map (field_flaws texts) (field_elements texts t)) e))
+    some_of (class_head texts t) (good_of (is_some (class_head texts t)) t ClassBad
+    (first_part (flaw_unless (is_some (class_head texts t)) t ClassBad) (flat_map (field_flaws texts) (field_elements texts t)) e))
 
 -- A field's class is the id that its element names.
 field_class : (texts : List (List ℕ)) (e : Tree) (f : Field) → field_of texts e ≡ Some f → id_attribute texts e (codes "class") ≡ Some f.shape.class
@@ -132,9 +139,11 @@ module _ (texts : List (List ℕ)) (ts : List Tree) (k : Classes) (stays : ℕ �
   made_each = made
 
   -- An id of a child of a class element that stays is that of a class that stays, or of no class.
-  child_names : (t a : Tree) (h : ℕ × List ℕ) (id : ℕ) → In ts t → class_head texts t ≡ Some h → stays h.0 ≡ true → In (children_of t) a → id_attribute texts a (codes "class") ≡ Some id → has_id k id ≡ true → stays id ≡ true
+  child_names : (t a : Tree) (h : ℕ × List ℕ) (id : ℕ) → In ts t → class_head texts t ≡ Some h → stays h.0 ≡ true → In (children_of t) a → id_attribute texts a (codes "class") ≡ Some id
+      → has_id k id ≡ true → stays id ≡ true
   child_names t a h id i e s j q there =
-      closed t h.0 id (in_contains ts t i) (ap (option_map (λ (h : ℕ × List ℕ). h.0)) e) s (in_contains (ids_below texts t) id (filter_map_in (λ e. id_attribute texts e (codes "class")) (below t) a id (child_below t a j) q)) there
+      closed t h.0 id (in_contains ts t i) (ap (option_map (λ (h : ℕ × List ℕ). h.0)) e) s
+      (in_contains (ids_below texts t) id (filter_map_in (λ e. id_attribute texts e (codes "class")) (below t) a id (child_below t a j) q)) there
 
   -- So its categories are the same.
   same_is_category : (t a : Tree) (h : ℕ × List ℕ) → In ts t → class_head texts t ≡ Some h → stays h.0 ≡ true → In (annotations_of texts t) a → is_category texts hs_left a ≡ is_category texts hs a
@@ -149,12 +158,16 @@ module _ (texts : List (List ℕ)) (ts : List Tree) (k : Classes) (stays : ℕ �
 
   same_categories : (t : Tree) (h : ℕ × List ℕ) → In ts t → class_head texts t ≡ Some h → stays h.0 ≡ true → categories_of texts hs_left t ≡ categories_of texts hs t
   same_categories t h i e s =
-      ap (λ o. option_map_or (values_of texts) o []) (same_find (is_category texts hs_left) (is_category texts hs) (annotations_of texts t) (all_members (λ a. is_category texts hs_left a ≡ is_category texts hs a) (annotations_of texts t) (λ a j. same_is_category t a h i e s j)))
+      ap (λ o. option_map_or (values_of texts) o [])
+      (same_find (is_category texts hs_left) (is_category texts hs) (annotations_of texts t)
+      (all_members (λ a. is_category texts hs_left a ≡ is_category texts hs a) (annotations_of texts t) (λ a j. same_is_category t a h i e s j)))
 
   same_class : (t : Tree) (h : ℕ × List ℕ) → In ts t → class_head texts t ≡ Some h → stays h.0 ≡ true → class_of texts hs_left t ≡ class_of texts hs t
   unfolding class_of
   same_class t h i e s =
-      ap (λ c. option_map (λ (h : ℕ × List ℕ). record { id = h.0; name = h.1; super_name = attribute texts t (codes "superType"); fields = filter_map (field_of texts) (field_elements texts t); categories = c }) (class_head texts t)) (same_categories t h i e s)
+      ap (λ c. option_map (λ (h : ℕ × List ℕ).
+      record { id = h.0; name = h.1; super_name = attribute texts t (codes "superType"); fields = filter_map (field_of texts) (field_elements texts t); categories = c }) (class_head texts t))
+      (same_categories t h i e s)
 
   head_test : (t : Tree) (h : ℕ × List ℕ) → class_head texts t ≡ Some h → head_is_needed texts stays t ≡ stays h.0
   head_test t h e = ap (λ o. option_map_or (λ (h : ℕ × List ℕ). stays h.0) o false) e
@@ -181,7 +194,8 @@ module _ (texts : List (List ℕ)) (ts : List Tree) (k : Classes) (stays : ℕ �
         (all_members (λ t. class_of texts hs_left t ≡ class_of texts hs t) (filter (head_is_needed texts stays) ts)
         (λ t j. (let i = in_filter (head_is_needed texts stays) ts t j in let h = head_in t i.0 in same_class t h.0 i.0 h.1 (sym (head_test t h.0 h.1) ∙ i.1))))
         ∙ (filter_map_filter (class_of texts hs) (head_is_needed texts stays) (λ (c : Class). stays c.id) ts
-        (all_members (λ t. (c : Class) × (class_of texts hs t ≡ Some c) × (head_is_needed texts stays t ≡ stays c.id)) ts (λ t i. (let h = head_in t i in (class_with texts hs t h.0, class_here t h.0 h.1, head_test t h.0 h.1))))
+        (all_members (λ t. (c : Class) × (class_of texts hs t ≡ Some c) × (head_is_needed texts stays t ≡ stays c.id)) ts
+        (λ t i. (let h = head_in t i in (class_with texts hs t h.0, class_here t h.0 h.1, head_test t h.0 h.1))))
         ∙ ap (staying stays) (sym made_each)))
 
     -- And the set has the classes of its members' fields.

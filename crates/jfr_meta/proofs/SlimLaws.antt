@@ -88,13 +88,15 @@ module _ (b : Body) (k : Classes) (stays : ℕ → Bool) (told : described b ≡
     told_over at (Some us) z =
         let classes : classes_of table us ≡ staying stays k = same_classes b.strings table ts_left us z ∙ left_classes in
         let none : flat_map (class_flaws table) us ≡ [] =
-        flat_map_none (Alike b.strings table) (class_flaws b.strings) (class_flaws table) (class_good b.strings table) ts_left us z (all_filter (λ t. class_flaws b.strings t ≡ []) (head_is_needed b.strings stays) ts good_each) in
+        flat_map_none (Alike b.strings table) (class_flaws b.strings) (class_flaws table) (class_good b.strings table) ts_left us z
+        (all_filter (λ t. class_flaws b.strings t ≡ []) (head_is_needed b.strings stays) ts good_each) in
         ap (λ fs. first_or fs (classes_of table us)) (no_flaws table us (staying stays k) none (sym classes) sound) ∙ ap (λ z. Ok z) classes
 
     pub is_slim : IsSlim b k stays
     unfolding slim_body described
     is_slim = record {
-      classes = told_over (element_offset over) (class_elements table over) (subst (λ o. Beside (AllZip (Alike b.strings table)) o (class_elements table over)) there (elements_alike b.strings table left over (retabled_alike b.strings left)));
+      classes = told_over (element_offset over) (class_elements table over)
+          (subst (λ o. Beside (AllZip (Alike b.strings table)) o (class_elements table over)) there (elements_alike b.strings table left over (retabled_alike b.strings left)));
       indices = retabled_below b.strings left;
       levels = omega (arith, retabled_depth b.strings left, slim_depth b.strings stays b.root);
       texts = table_texts b.strings left;

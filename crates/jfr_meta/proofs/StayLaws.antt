@@ -25,7 +25,8 @@ mapped_at f [] a i x e = cc
 mapped_at f (z ∷ xs) a zero x e = let h : z ≡ x = cc in ap (λ o. slice_get (cons_option o (filter_map f xs)) 0) a.0.1 ∙ (sym a.0.1 ∙ ap f h)
 mapped_at f (z ∷ xs) a (suc i) x e = ap (λ o. slice_get (cons_option o (filter_map f xs)) (suc i)) a.0.1 ∙ mapped_at f xs a.1 i x e
 
-pub mapped_from : {A B : Type 0} (f : A → Option B) (xs : List A) → AllByRecursion (λ x. (y : B) × (f x ≡ Some y)) xs → (i : ℕ) (y : B) → slice_get (filter_map f xs) i ≡ Some y → (x : A) × (slice_get xs i ≡ Some x) × (f x ≡ Some y)
+pub mapped_from : {A B : Type 0} (f : A → Option B) (xs : List A) → AllByRecursion (λ x. (y : B) × (f x ≡ Some y)) xs → (i : ℕ) (y : B) → slice_get (filter_map f xs) i ≡ Some y
+    → (x : A) × (slice_get xs i ≡ Some x) × (f x ≡ Some y)
 mapped_from f [] a i y e = cc
 mapped_from f (z ∷ xs) a zero y e = (z, refl, a.0.1 ∙ (sym (ap (λ o. slice_get (cons_option o (filter_map f xs)) 0) a.0.1) ∙ e))
 mapped_from f (z ∷ xs) a (suc i) y e = mapped_from f xs a.1 i y (sym (ap (λ o. slice_get (cons_option o (filter_map f xs)) (suc i)) a.0.1) ∙ e)
@@ -40,7 +41,8 @@ pub any_at : (k : Classes) (id : ℕ) → has_id k id ≡ true → (i : ℕ) × 
 any_at [] id e = cc
 any_at (c ∷ k) id e = by_test (c.id == id) refl e (any_at k id)
   where
-    by_test : (t : Bool) → (c.id == id) ≡ t → (t || has_id k id) ≡ true → (has_id k id ≡ true → (i : ℕ) × (d : Class) × (slice_get k i ≡ Some d) × (d.id ≡ id)) → (i : ℕ) × (d : Class) × (slice_get (c ∷ k) i ≡ Some d) × (d.id ≡ id)
+    by_test : (t : Bool) → (c.id == id) ≡ t → (t || has_id k id) ≡ true → (has_id k id ≡ true → (i : ℕ) × (d : Class) × (slice_get k i ≡ Some d) × (d.id ≡ id))
+        → (i : ℕ) × (d : Class) × (slice_get (c ∷ k) i ≡ Some d) × (d.id ≡ id)
     by_test true q e f = (0, c, refl, eqb-true c.id id q)
     by_test false q e f = let r = f e in (suc r.0, r.1, r.2, r.3)
 
@@ -133,7 +135,8 @@ module _ (texts : List (List ℕ)) (ts : List Tree) (k : Classes) (used : ℕ �
       let c = any_at k id e in
       let i : class_index k id ≡ Some c.0 = ap (class_index k) (sym c.3) ∙ index_of c.0 c.1 c.2 in
       let p : (not (is_event_class k c.1.id) || used c.1.id) ≡ true = ap (λ z. not (is_event_class k z) || used z) c.3 ∙ t in
-      let m : In (first_ids k used) c.1.id = in_map (λ (c : Class). c.id) (filter (λ (c : Class). not (is_event_class k c.id) || used c.id) k) c.1 (filter_in (λ (c : Class). not (is_event_class k c.id) || used c.id) k c.1 (get_in k c.0 c.1 c.2) p) in
+      let m : In (first_ids k used) c.1.id = in_map (λ (c : Class). c.id) (filter (λ (c : Class). not (is_event_class k c.id) || used c.id) k) c.1
+      (filter_in (λ (c : Class). not (is_event_class k c.id) || used c.id) k c.1 (get_in k c.0 c.1 c.2) p) in
       stays_at id c.0 i ((is_reached c.0).1 (root (those_in (class_index k) (first_ids k used) c.1.id c.0 m (index_of c.0 c.1 c.2))))
 
   or_true : (b : Bool) → (b || true) ≡ true
@@ -155,7 +158,8 @@ module _ (texts : List (List ℕ)) (ts : List Tree) (k : Classes) (used : ℕ �
       let r : Reach next roots p.0 = subst (Reach next roots) same ((is_reached a.0).0 a.2) in
       let d = any_at k other o in
       let q : class_index k other ≡ Some d.0 = ap (class_index k) (sym d.3) ∙ index_of d.0 d.1 d.2 in
-      let j : In (next p.0) d.0 = those_in (class_index k) (option_map_or (ids_below texts) (slice_get ts p.0) []) other d.0 (subst (λ z. In (option_map_or (ids_below texts) z []) other) (sym p.1) (contains_in (ids_below texts t) other n)) q in
+      let j : In (next p.0) d.0 = those_in (class_index k) (option_map_or (ids_below texts) (slice_get ts p.0) []) other d.0
+      (subst (λ z. In (option_map_or (ids_below texts) z []) other) (sym p.1) (contains_in (ids_below texts t) other n)) q in
       stays_at other d.0 q ((is_reached d.0).1 (more r j))
 
   -- Each such set has all that is reached.

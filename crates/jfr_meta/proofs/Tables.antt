@@ -44,7 +44,8 @@ all_firsts P (x ∷ xs) a = (a.0, all_filter P (λ y. not (bytes_eq x y)) (first
 
 -- What holds of all indices that a tree uses holds of the renumbered tree.
 module _ (f : ℕ → ℕ) where
-  pairs_used : (R : ℕ × ℕ → ℕ × ℕ → Type 0) (S : ℕ → ℕ → Type 0) (ps : List (ℕ × ℕ)) → ((i : ℕ) → In (flat_map (λ p. p.0 ∷ p.1 ∷ []) ps) i → S i (f i)) → ((p : ℕ × ℕ) → S p.0 (f p.0) → S p.1 (f p.1) → R p (f p.0, f p.1)) → AllZip R ps (map (λ p. (f p.0, f p.1)) ps)
+  pairs_used : (R : ℕ × ℕ → ℕ × ℕ → Type 0) (S : ℕ → ℕ → Type 0) (ps : List (ℕ × ℕ)) → ((i : ℕ) → In (flat_map (λ p. p.0 ∷ p.1 ∷ []) ps) i → S i (f i))
+      → ((p : ℕ × ℕ) → S p.0 (f p.0) → S p.1 (f p.1) → R p (f p.0, f p.1)) → AllZip R ps (map (λ p. (f p.0, f p.1)) ps)
   pairs_used R S [] h g = tt
   pairs_used R S (p ∷ ps) h g = (g p (h p.0 (inl refl)) (h p.1 (inr (inl refl))), pairs_used R S ps (λ i j. h i (inr (inr j))) g)
 
@@ -64,7 +65,8 @@ module _ (f : ℕ → ℕ) where
       all_renumbered_alike Nil h = tt
       all_renumbered_alike (Cons t ts) h = (renumbered_alike t (λ i j. h i (in_left (uses t) (all_uses ts) i j)), all_renumbered_alike ts (λ i j. h i (in_right (uses t) (all_uses ts) i j)))
 
-  pairs_below : (limit : ℕ) (ps : List (ℕ × ℕ)) → ((i : ℕ) → In (flat_map (λ p. p.0 ∷ p.1 ∷ []) ps) i → f i < limit) → AllByRecursion (λ (p : ℕ × ℕ). (p.0 < limit) × (p.1 < limit)) (map (λ p. (f p.0, f p.1)) ps)
+  pairs_below : (limit : ℕ) (ps : List (ℕ × ℕ)) → ((i : ℕ) → In (flat_map (λ p. p.0 ∷ p.1 ∷ []) ps) i → f i < limit)
+      → AllByRecursion (λ (p : ℕ × ℕ). (p.0 < limit) × (p.1 < limit)) (map (λ p. (f p.0, f p.1)) ps)
   pairs_below limit [] h = tt
   pairs_below limit (p ∷ ps) h = ((h p.0 (inl refl), h p.1 (inr (inl refl))), pairs_below limit ps (λ i j. h i (inr (inr j))))
 
@@ -78,7 +80,8 @@ module _ (f : ℕ → ℕ) where
 
     all_renumbered_below : (limit : ℕ) (ts : Trees) → ((i : ℕ) → In (all_uses ts) i → f i < limit) → HaveIndices limit (all_renumbered f ts)
     all_renumbered_below limit Nil h = tt
-    all_renumbered_below limit (Cons t ts) h = (renumbered_below limit t (λ i j. h i (in_left (uses t) (all_uses ts) i j)), all_renumbered_below limit ts (λ i j. h i (in_right (uses t) (all_uses ts) i j)))
+    all_renumbered_below limit (Cons t ts) h =
+        (renumbered_below limit t (λ i j. h i (in_left (uses t) (all_uses ts) i j)), all_renumbered_below limit ts (λ i j. h i (in_right (uses t) (all_uses ts) i j)))
 
   mutual
     pub renumbered_depth : (t : Tree) → depth (renumbered f t) ≡ depth t
@@ -151,4 +154,5 @@ holder_depth texts stays (Node place name pairs children) = omega (arith, filter
 
 pub slim_depth : (texts : List (List ℕ)) (stays : ℕ → Bool) (t : Tree) → depth (slim_root texts stays t) ≤ depth t
 unfolding slim_root
-slim_depth texts stays (Node place name pairs children) = omega (arith, changed_depths (is_named texts (codes "metadata")) (slim_holder texts stays) (holder_depth texts stays) (list_of children), depths_of children)
+slim_depth texts stays (Node place name pairs children) =
+    omega (arith, changed_depths (is_named texts (codes "metadata")) (slim_holder texts stays) (holder_depth texts stays) (list_of children), depths_of children)

@@ -73,7 +73,8 @@ any_next p xs i x e = sym (ap (list_any p) (take_next xs i x e) ∙ any_append (
         by_test true f = refl
         by_test false f = f
 
-pub changed_next : {A : Type 0} (p : A → Bool) (f : A → A) (xs : List A) (i : ℕ) (x : A) → slice_get xs i ≡ Some x → first_changed p f (take i xs) ++ (if not (list_any p (take i xs)) && p x then f x else x) ∷ [] ≡ first_changed p f (take (i + 1) xs)
+pub changed_next : {A : Type 0} (p : A → Bool) (f : A → A) (xs : List A) (i : ℕ) (x : A) → slice_get xs i ≡ Some x
+    → first_changed p f (take i xs) ++ (if not (list_any p (take i xs)) && p x then f x else x) ∷ [] ≡ first_changed p f (take (i + 1) xs)
 changed_next {A = A} p f xs i x e = sym (ap (first_changed p f) (take_next xs i x e) ∙ changed_append (take i xs))
   where
     one : (b : Bool) → (if b then f x ∷ [] else x ∷ []) ≡ (if b then f x else x) ∷ []
@@ -113,7 +114,8 @@ module _ (b : Body) (stays : ℕ → Bool) where
   pub slim_answer : (words : List (List ℕ)) (root : Tree) (room : ℕ) → words ≡ (slim_body b stays).strings → root ≡ (slim_body b stays).root
       → (if nat_lt (length (table_bytes words root)) (2 ^ 29) && nat_le (length (record_bytes b.start b.duration b.id words root)) room then Some (record_bytes b.start b.duration b.id words root) else None) ≡ slim_in b stays room
   unfolding slim_in slim_body
-  slim_answer words root room w r = λ i. (if nat_lt (length (table_bytes (w i) (r i))) (2 ^ 29) && nat_le (length (record_bytes b.start b.duration b.id (w i) (r i))) room then Some (record_bytes b.start b.duration b.id (w i) (r i)) else None)
+  slim_answer words root room w r = λ i. (if nat_lt (length (table_bytes (w i) (r i))) (2 ^ 29) && nat_le (length (record_bytes b.start b.duration b.id (w i) (r i))) room then Some
+      (record_bytes b.start b.duration b.id (w i) (r i)) else None)
 
 -- The characters of a text are scalars.
 pub scalars_of : (cs : List ℕ) → IsText cs → scalars cs ≡ true

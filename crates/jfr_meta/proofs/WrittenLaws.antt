@@ -75,7 +75,8 @@ text_steps t o p q r b u z e f g h =
     k ∙ (text_written o (spell (length t)) t ∙ ap (λ z. o ++ z) (sym (text_some t u z)))
 
 -- How long what is written is.
-pub element_measured : (t : Tree) → length (tree_bytes t) ≡ length (spell (name_of t)) + length (spell (length (pairs_of t))) + length (flat_map pair_bytes (pairs_of t)) + length (spell (length (children_of t))) + length (flat_map tree_bytes (children_of t))
+pub element_measured : (t : Tree)
+    → length (tree_bytes t) ≡ length (spell (name_of t)) + length (spell (length (pairs_of t))) + length (flat_map pair_bytes (pairs_of t)) + length (spell (length (children_of t))) + length (flat_map tree_bytes (children_of t))
 element_measured (Node place name pairs children) =
     let n : length (list_of children) ≡ how_many children = how_many-list_of children in
     let f : flat_map tree_bytes (list_of children) ≡ trees_bytes children = flat-list_of children in
@@ -91,7 +92,8 @@ element_measured (Node place name pairs children) =
 pub caps : (a b p q m r s e f : ℕ) → p ≡ min q m → r ≡ min (p + a) m → s ≡ min (r + e) m → e ≡ min f m → b ≡ q + a + f → s ≡ min b m
 caps a b p q m r s e f g h i j k = omega arith
 
-pub text_measured : (t : List ℕ) (r v : ℕ) → IsUtf8 t → (length t == 0) ≡ false → r ≡ min (length t + (v + 1)) 18446744073709551615 → v ≡ length (spell (length t)) → r ≡ capped (length (text_bytes (chars t)))
+pub text_measured : (t : List ℕ) (r v : ℕ) → IsUtf8 t → (length t == 0) ≡ false → r ≡ min (length t + (v + 1)) 18446744073709551615 → v ≡ length (spell (length t))
+    → r ≡ capped (length (text_bytes (chars t)))
 text_measured t r v u z e f =
     let l : length (text_bytes (chars t)) ≡ suc (length (spell (length t) ++ t)) = ap length (text_some t u z) in
     let m : length t + (v + 1) ≡ length (text_bytes (chars t)) = omega (arith, length-append (spell (length t)) t) in
@@ -107,7 +109,8 @@ body_measured start duration id strings root =
 opening_parts : (o a s d i n x : List ℕ) → (((((((o ++ a) ++ 0 ∷ []) ++ s) ++ d) ++ i) ++ n) ++ x) ≡ o ++ (a ++ (0 ∷ (s ++ (d ++ (i ++ (n ++ x))))))
 opening_parts o a s d i n x = simp append_assoc
 
-pub opening_steps : (size start duration id n : ℕ) (strings : List (List ℕ)) (o p q r s t u v : List ℕ) → p ≡ o ++ spell_in 5 size → q ≡ p ++ 0 ∷ [] → r ≡ q ++ spell start → s ≡ r ++ spell duration → t ≡ s ++ spell id
+pub opening_steps : (size start duration id n : ℕ) (strings : List (List ℕ)) (o p q r s t u v : List ℕ) → p ≡ o ++ spell_in 5 size → q ≡ p ++ 0 ∷ [] → r ≡ q ++ spell start → s ≡ r ++ spell duration
+    → t ≡ s ++ spell id
     → u ≡ t ++ spell n → n ≡ length strings → v ≡ u ++ flat_map text_bytes strings → v ≡ o ++ opening_bytes size start duration id strings
 opening_steps size start duration id n strings o p q r s t u v e1 e2 e3 e4 e5 e6 e7 e8 =
     let k : v ≡ ((((((o ++ spell_in 5 size) ++ 0 ∷ []) ++ spell start) ++ spell duration) ++ spell id) ++ spell (length strings)) ++ flat_map text_bytes strings = cc in
@@ -117,7 +120,8 @@ tree_after : (a s d i n x t : List ℕ) → (a ++ (0 ∷ (s ++ (d ++ (i ++ (n ++
 tree_after a s d i n x t = simp append_assoc
 
 -- The opening and the tree are the record.
-pub record_written : (size start duration id : ℕ) (strings : List (List ℕ)) (root : Tree) (o p r tree : List ℕ) → o ≡ [] → p ≡ o ++ opening_bytes size start duration id strings → r ≡ p ++ tree → tree ≡ tree_bytes root
+pub record_written : (size start duration id : ℕ) (strings : List (List ℕ)) (root : Tree) (o p r tree : List ℕ) → o ≡ [] → p ≡ o ++ opening_bytes size start duration id strings → r ≡ p ++ tree
+    → tree ≡ tree_bytes root
     → size ≡ 6 + length (body_bytes start duration id strings root) → r ≡ record_bytes start duration id strings root
 record_written size start duration id strings root o p r tree n e f g h =
     let b = body_bytes start duration id strings root in

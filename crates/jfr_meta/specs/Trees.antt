@@ -96,7 +96,8 @@ node_path p q n m ps qs ts us a b c d = λ i. Node (a i) (b i) (c i) (d i)
 mutual
   pub code_inj : (t u : Tree) → code t ≡ code u → t ≡ u
   code_inj (Node p n ps ts) (Node q m qs us) e =
-      node_path p q n m ps qs ts us (ap (λ g. num (head g)) e) (ap (λ g. num (head (tail g))) e) (pairs_code.inj ps qs (ap (λ g. head (tail (tail g))) e)) (codes_inj ts us (ap (λ g. tail (tail (tail g))) e))
+      node_path p q n m ps qs ts us (ap (λ g. num (head g)) e) (ap (λ g. num (head (tail g))) e) (pairs_code.inj ps qs (ap (λ g. head (tail (tail g))) e))
+      (codes_inj ts us (ap (λ g. tail (tail (tail g))) e))
 
   pub codes_inj : (ts us : Trees) → codes ts ≡ codes us → ts ≡ us
   codes_inj Nil Nil e = refl

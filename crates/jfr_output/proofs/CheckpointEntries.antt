@@ -31,7 +31,8 @@ filter_append : (n : ℕ) (xs ys : List EntryAt) → filter (none_of n) (xs ++ y
 filter_append n [] ys = refl
 filter_append n (x ∷ xs) ys = by_test (none_of n x) (filter_append n xs ys)
   where
-    by_test : (b : Bool) → filter (none_of n) (xs ++ ys) ≡ filter (none_of n) xs ++ filter (none_of n) ys → cond b (x ∷ filter (none_of n) (xs ++ ys)) (filter (none_of n) (xs ++ ys)) ≡ cond b (x ∷ filter (none_of n) xs) (filter (none_of n) xs) ++ filter (none_of n) ys
+    by_test : (b : Bool) → filter (none_of n) (xs ++ ys) ≡ filter (none_of n) xs ++ filter (none_of n) ys
+        → cond b (x ∷ filter (none_of n) (xs ++ ys)) (filter (none_of n) (xs ++ ys)) ≡ cond b (x ∷ filter (none_of n) xs) (filter (none_of n) xs) ++ filter (none_of n) ys
     by_test true h = ap (λ z. x ∷ z) h
     by_test false h = h
 
@@ -48,7 +49,8 @@ filter_none n (x ∷ xs) a = let t : (x.checkpoint == n) ≡ false = differs x.c
 
 filter_all : (n : ℕ) (xs : List EntryAt) → AllByRecursion (λ e. e.checkpoint ≡ n) xs → filter (none_of n) xs ≡ xs
 filter_all n [] a = refl
-filter_all n (x ∷ xs) a = let q : x.checkpoint ≡ n = a.0 in let t : (x.checkpoint == n) ≡ true = grind (arith, nat_tests) in ap (λ b. cond b (x ∷ filter (none_of n) xs) (filter (none_of n) xs)) t ∙ ap (λ z. x ∷ z) (filter_all n xs a.1)
+filter_all n (x ∷ xs) a = let q : x.checkpoint ≡ n = a.0 in let t : (x.checkpoint == n) ≡ true =
+    grind (arith, nat_tests) in ap (λ b. cond b (x ∷ filter (none_of n) xs) (filter (none_of n) xs)) t ∙ ap (λ z. x ∷ z) (filter_all n xs a.1)
 
 low_differ : (n : ℕ) (xs : List EntryAt) → AllByRecursion (λ e. e.checkpoint < n) xs → AllByRecursion (λ e. e.checkpoint ≡ n → ⊥) xs
 low_differ n [] a = tt
@@ -57,7 +59,8 @@ low_differ n (x ∷ xs) a = ((λ e. let h : x.checkpoint < n = a.0 in absurd (om
 pub parted_here : (es before rest here behind : List EntryAt) (n : ℕ) → Parted es before rest here behind n → here ≡ filter (λ e. e.checkpoint == n) es
 parted_here es before rest here behind n p =
     sym (ap (filter (none_of n)) p.all ∙ (filter_append n before rest ∙ (ap (λ z. z ++ filter (none_of n) rest) (filter_none n before (low_differ n before p.low))
-    ∙ (ap (filter (none_of n)) p.some ∙ (filter_append n here behind ∙ (ap (λ z. filter (none_of n) here ++ z) (filter_none n behind p.high) ∙ (append-nil (filter (none_of n) here) ∙ filter_all n here p.this)))))))
+    ∙ (ap (filter (none_of n)) p.some ∙ (filter_append n here behind
+    ∙ (ap (λ z. filter (none_of n) here ++ z) (filter_none n behind p.high) ∙ (append-nil (filter (none_of n) here) ∙ filter_all n here p.this)))))))
 
 -- What holds at the first places holds of the first members, and so for the others.
 within_take : (P : EntryAt → Type 0) (xs : List EntryAt) (k : ℕ) → k ≤ length xs → AllWithin P xs 0 k → AllByRecursion P (take k xs)
@@ -72,7 +75,8 @@ within_drop P (x ∷ xs) zero a = (a 0 x (omega arith) (omega arith), within_dro
 within_drop P (x ∷ xs) (suc k) a = within_drop P xs k (λ i d l m. a (suc i) d (omega arith) (omega arith))
 
 -- Entries that don't fall, by their places.
-pub falling_at : (n : ℕ) (es : List EntryAt) → NotFalling n es → (i j : ℕ) (d : EntryAt) → i ≤ j → j < length es → (n ≤ (get_or es i d).checkpoint) × ((get_or es i d).checkpoint ≤ (get_or es j d).checkpoint)
+pub falling_at : (n : ℕ) (es : List EntryAt) → NotFalling n es → (i j : ℕ) (d : EntryAt) → i ≤ j → j < length es
+    → (n ≤ (get_or es i d).checkpoint) × ((get_or es i d).checkpoint ≤ (get_or es j d).checkpoint)
 falling_at n [] a i j d h l = absurd (omega arith)
 falling_at n (e ∷ es) a zero zero d h l = (a.0, omega arith)
 falling_at n (e ∷ es) a zero (suc j) d h l = let r = falling_at e.checkpoint es a.1 j j d (omega arith) (omega arith) in (a.0, r.0)
@@ -88,7 +92,8 @@ low_of : (n : ℕ) (es : List EntryAt) → AllByRecursion (λ e. ltb e.checkpoin
 low_of n [] a = tt
 low_of n (e ∷ es) a = (ltb-true e.checkpoint n a.0, low_of n es a.1)
 
-this_of : (n k : ℕ) (es : List EntryAt) → AllByRecursion (λ e. ltb e.checkpoint n ≡ false) es → AllByRecursion (λ e. leb e.checkpoint n ≡ true) (take k es) → AllByRecursion (λ e. e.checkpoint ≡ n) (take k es)
+this_of : (n k : ℕ) (es : List EntryAt) → AllByRecursion (λ e. ltb e.checkpoint n ≡ false) es → AllByRecursion (λ e. leb e.checkpoint n ≡ true) (take k es)
+    → AllByRecursion (λ e. e.checkpoint ≡ n) (take k es)
 this_of n zero es a b = tt
 this_of n (suc k) [] a b = tt
 this_of n (suc k) (e ∷ es) a b = let f = ltb-false e.checkpoint n a.0 in let g = leb-true e.checkpoint n b.0 in (omega arith, this_of n k es a.1 b.1)
@@ -111,10 +116,12 @@ entries_here es n k m h a b i c d =
       high = high_of n (drop m (drop k es)) (within_drop _ (drop k es) m d);
     })
 
-pub entries_between : (es rest here : List EntryAt) (n k m : ℕ) → rest ≡ drop k es → here ≡ take m rest → k ≤ length es → AllWithin (λ e. ltb e.checkpoint n ≡ true) es 0 k → AllWithin (λ e. ltb e.checkpoint n ≡ false) es k (length es) →
+pub entries_between : (es rest here : List EntryAt) (n k m : ℕ) → rest ≡ drop k es → here ≡ take m rest → k ≤ length es → AllWithin (λ e. ltb e.checkpoint n ≡ true) es 0 k
+    → AllWithin (λ e. ltb e.checkpoint n ≡ false) es k (length es) →
     m ≤ length rest → AllWithin (λ e. leb e.checkpoint n ≡ true) rest 0 m → AllWithin (λ e. leb e.checkpoint n ≡ false) rest m (length rest) → here ≡ filter (λ e. e.checkpoint == n) es
 entries_between es rest here n k m r t h a b i c d =
-    t ∙ (ap (take m) r ∙ entries_here es n k m h a b (subst (λ z. m ≤ length z) r i) (subst (λ z. AllWithin (λ e. leb e.checkpoint n ≡ true) z 0 m) r c) (subst (λ z. AllWithin (λ e. leb e.checkpoint n ≡ false) z m (length z)) r d))
+    t ∙ (ap (take m) r ∙ entries_here es n k m h a b (subst (λ z. m ≤ length z) r i) (subst (λ z. AllWithin (λ e. leb e.checkpoint n ≡ true) z 0 m) r c)
+    (subst (λ z. AllWithin (λ e. leb e.checkpoint n ≡ false) z m (length z)) r d))
 
 pub falling_marked : (n : ℕ) (ms : List Bool) (es : List EntryAt) → NotFalling n es → NotFalling n (marked ms es)
 falling_marked n [] es b = tt
@@ -129,7 +136,8 @@ falling_append n (x ∷ xs) ys b d =
     let q : x.checkpoint ≡ n = b.0 in
     (omega arith, subst (λ m. NotFalling m (xs ++ ys)) (sym q) (falling_append n xs ys b.1 d))
 
-constants_number : (checkpoint number class : ℕ) (xs : List Constant) (ys : List EntryAt) → AllByRecursion (λ e. e.checkpoint ≡ checkpoint) ys → AllByRecursion (λ e. e.checkpoint ≡ checkpoint) (map (entry_of checkpoint number class) xs ++ ys)
+constants_number : (checkpoint number class : ℕ) (xs : List Constant) (ys : List EntryAt) → AllByRecursion (λ e. e.checkpoint ≡ checkpoint) ys
+    → AllByRecursion (λ e. e.checkpoint ≡ checkpoint) (map (entry_of checkpoint number class) xs ++ ys)
 constants_number checkpoint number class [] ys b = b
 constants_number checkpoint number class (x ∷ xs) ys b = (refl, constants_number checkpoint number class xs ys b)
 

@@ -75,7 +75,8 @@ pub events_given : (p : Parts) (rs : List Framed) → events_from p rs ≡ filte
 events_given p [] = refl
 events_given p (r ∷ rs) = by_test (is_event_class p.classes r.type_id) (events_given p rs)
   where
-    by_test : (b : Bool) → events_from p rs ≡ filter_map (event_in p) rs → filter_map (event_of p.bytes p.classes) (cond b (r ∷ event_records p.classes rs) (event_records p.classes rs)) ≡ cons_option (cond b (event_of p.bytes p.classes r) None) (filter_map (event_in p) rs)
+    by_test : (b : Bool) → events_from p rs ≡ filter_map (event_in p) rs
+        → filter_map (event_of p.bytes p.classes) (cond b (r ∷ event_records p.classes rs) (event_records p.classes rs)) ≡ cons_option (cond b (event_of p.bytes p.classes r) None) (filter_map (event_in p) rs)
     by_test true e = ap (cons_option (event_of p.bytes p.classes r)) e
     by_test false e = e
 
@@ -113,7 +114,8 @@ event_passed f g s t es fs n r rs a e k = by_head (slice_get es n) refl
         let v = past_head event_place g t r rs (marked (drop n fs) (drop n es)) k (rises_marked event_place (r.at + 1) (drop n fs) (drop n es) b) in
         record { events = u.1; kept = v.1; here = sym (ap is_some v.0); found = v.0 }
 
-    by_flag : (x : EventAt) → slice_get es n ≡ Some x → drop n es ≡ x ∷ drop (n + 1) es → event_place x ≡ r.at → (o : Option Bool) → slice_get fs n ≡ o → Passed f g es fs r rs n (n + 1) (unwrap_or o false)
+    by_flag : (x : EventAt) → slice_get es n ≡ Some x → drop n es ≡ x ∷ drop (n + 1) es → event_place x ≡ r.at → (o : Option Bool) → slice_get fs n ≡ o
+        → Passed f g es fs r rs n (n + 1) (unwrap_or o false)
     by_flag x there d w o q =
         let u = at_head event_place f s r rs x (drop (n + 1) es) a.1 (sym d ∙ e) w in
         let b : Rises event_place (r.at + 1) (drop (n + 1) es) = subst (Rises event_place (r.at + 1)) (sym u.1) (rises_given event_place f s (r.at + 1) rs a.1) in
@@ -133,11 +135,13 @@ event_passed f g s t es fs n r rs a e k = by_head (slice_get es n) refl
             let v = past_head event_place g t r rs (marked (drop (n + 1) fs) (drop (n + 1) es)) (sym z ∙ k) (rises_marked event_place (r.at + 1) (drop (n + 1) fs) (drop (n + 1) es) b) in
             record { events = u; kept = v.1; here = sym (ap is_some v.0); found = v.0 }
 
-    by_test : (x : EventAt) → slice_get es n ≡ Some x → drop n es ≡ x ∷ drop (n + 1) es → (b : Bool) → (event_place x == r.at) ≡ b → Passed f g es fs r rs n (if b then n + 1 else n) (b && unwrap_or (slice_get fs n) false)
+    by_test : (x : EventAt) → slice_get es n ≡ Some x → drop n es ≡ x ∷ drop (n + 1) es → (b : Bool) → (event_place x == r.at) ≡ b
+        → Passed f g es fs r rs n (if b then n + 1 else n) (b && unwrap_or (slice_get fs n) false)
     by_test x there d true q = by_flag x there d (grind (arith, q)) (slice_get fs n) refl
     by_test x there d false q = none_here (subst (Rises event_place (r.at + 1)) (sym d) (elsewhere event_place f s r rs x (drop (n + 1) es) a (sym d ∙ e) q))
 
-    by_head : (o : Option EventAt) → slice_get es n ≡ o → Passed f g es fs r rs n (option_map_or (λ x. if event_place x == r.at then n + 1 else n) o n) (option_map_or (λ x. (event_place x == r.at) && unwrap_or (slice_get fs n) false) o false)
+    by_head : (o : Option EventAt) → slice_get es n ≡ o
+        → Passed f g es fs r rs n (option_map_or (λ x. if event_place x == r.at then n + 1 else n) o n) (option_map_or (λ x. (event_place x == r.at) && unwrap_or (slice_get fs n) false) o false)
     by_head None q = none_here (subst (Rises event_place (r.at + 1)) (sym (drop_none es n q)) tt)
     by_head (Some x) q = by_test x q (drop_at es n x q) (event_place x == r.at) refl
 
@@ -146,7 +150,8 @@ pub record LinkPassed (f : Framed → Option (ℕ × Link)) (ls : List Link) (r 
   pub links : enumerate_from m (drop m ls) ≡ filter_map f rs
   pub here : there ≡ f r
 
-pub link_passed : (f : Framed → Option (ℕ × Link)) → Stands link_place f → (ls : List Link) (n : ℕ) (r : Framed) (rs : List Framed) → Rising r.at (r ∷ rs) → enumerate_from n (drop n ls) ≡ filter_map f (r ∷ rs) →
+pub link_passed : (f : Framed → Option (ℕ × Link)) → Stands link_place f → (ls : List Link) (n : ℕ) (r : Framed) (rs : List Framed) → Rising r.at (r ∷ rs)
+    → enumerate_from n (drop n ls) ≡ filter_map f (r ∷ rs) →
     LinkPassed f ls r rs (link_after ls n r.at) (linked_at ls n r.at)
 link_passed f s ls n r rs a e = by_head (slice_get ls n) refl
   where
@@ -158,9 +163,11 @@ link_passed f s ls n r rs a e = by_head (slice_get ls n) refl
         let u = at_head link_place f s r rs (n, l) (enumerate_from (n + 1) (drop (n + 1) ls)) a.1 (sym (ap (enumerate_from n) d) ∙ e) (grind (arith, q)) in
         record { links = u.1; here = sym u.0 }
     by_test l d false q =
-        none_here (subst (λ z. Rises link_place (r.at + 1) (enumerate_from n z)) (sym d) (elsewhere link_place f s r rs (n, l) (enumerate_from (n + 1) (drop (n + 1) ls)) a (sym (ap (enumerate_from n) d) ∙ e) q))
+        none_here (subst (λ z. Rises link_place (r.at + 1) (enumerate_from n z)) (sym d)
+        (elsewhere link_place f s r rs (n, l) (enumerate_from (n + 1) (drop (n + 1) ls)) a (sym (ap (enumerate_from n) d) ∙ e) q))
 
-    by_head : (o : Option Link) → slice_get ls n ≡ o → LinkPassed f ls r rs (option_map_or (λ l. if l.frame.at == r.at then n + 1 else n) o n) (option_and_then (λ l. if l.frame.at == r.at then Some (n, l) else None) o)
+    by_head : (o : Option Link) → slice_get ls n ≡ o
+        → LinkPassed f ls r rs (option_map_or (λ l. if l.frame.at == r.at then n + 1 else n) o n) (option_and_then (λ l. if l.frame.at == r.at then Some (n, l) else None) o)
     by_head None q = none_here (subst (λ z. Rises link_place (r.at + 1) (enumerate_from n z)) (sym (drop_none ls n q)) tt)
     by_head (Some l) q = by_test l (drop_at ls n l q) (l.frame.at == r.at) refl
 
@@ -208,7 +215,8 @@ some_if true n = refl
 some_if false n = refl
 
 -- The event that a cursor passes, if it is kept.
-pub passed_event : (p : Parts) (flags : List Bool) (c : RecordCursor) (r s : Framed) (at number : ℕ) (event : Option ℕ) → IsAfter p flags c r at → event ≡ (if is_kept_at (events_of p) flags c.event at then Some c.event else None) → event ≡ Some number → s ≡ r
+pub passed_event : (p : Parts) (flags : List Bool) (c : RecordCursor) (r s : Framed) (at number : ℕ) (event : Option ℕ) → IsAfter p flags c r at
+    → event ≡ (if is_kept_at (events_of p) flags c.event at then Some c.event else None) → event ≡ Some number → s ≡ r
     → IsKeptEvent p flags number s
 passed_event p flags c r s at number event b e n same = subst (IsKeptEvent p flags number) (sym same) (by_test (is_kept_at (events_of p) flags c.event at) refl (sym e ∙ n) b.3)
   where
@@ -230,21 +238,24 @@ link_other p a r l e = by_test (l.1.frame.at == metadata_at p.bytes) refl
     by_test false t = refl
     by_test true t =
         let h = found_numbered (IsCheckpoint p.bytes) (all_links p) r.at l (chained_checkpoints p a) e in
-        let same : l.1.frame ≡ a.metadata_record = record_one p.bytes l.1.frame a.metadata_record h.0.0 (metadata_stands p a) (eqb-true l.1.frame.at (metadata_at p.bytes) t ∙ sym a.metadata_there.place) in
+        let same : l.1.frame ≡ a.metadata_record =
+        record_one p.bytes l.1.frame a.metadata_record h.0.0 (metadata_stands p a) (eqb-true l.1.frame.at (metadata_at p.bytes) t ∙ sym a.metadata_there.place) in
         let one : l.1.frame.type_id ≡ 1 = h.0.1 in
         let none : a.metadata_record.type_id ≡ 0 = a.metadata_there.type_is in
         let z : l.1.frame.type_id ≡ a.metadata_record.type_id = ap (λ (x : Framed). x.type_id) same in
         absurd (omega arith)
 
 -- How a record remains shows whether it is the metadata record, and which event it is.
-pub remaining_metadata : (p : Parts) → AreParts p → (r : Framed) (link : Option (ℕ × Link)) (event : Option ℕ) (metadata : Bool) (o : Option RemainingRecord) → link ≡ link_there p r → metadata ≡ (r.at == metadata_at p.bytes) → IfSome o (IsRemaining link event metadata r)
+pub remaining_metadata : (p : Parts) → AreParts p → (r : Framed) (link : Option (ℕ × Link)) (event : Option ℕ) (metadata : Bool) (o : Option RemainingRecord) → link ≡ link_there p r
+    → metadata ≡ (r.at == metadata_at p.bytes) → IfSome o (IsRemaining link event metadata r)
     → IfSome o (ShowsMetadata (metadata_at p.bytes))
 remaining_metadata p a r link event metadata None l m h = tt
 remaining_metadata p a r link event metadata (Some (remaining_records.Event number s)) l m h = ap (λ (z : Framed). z.at == metadata_at p.bytes) h.2 ∙ (sym m ∙ h.1)
 remaining_metadata p a r link event metadata (Some (remaining_records.Metadata s)) l m h = ap (λ (z : Framed). z.at == metadata_at p.bytes) h.1 ∙ (sym m ∙ h.0)
 remaining_metadata p a r link event metadata (Some (remaining_records.Chained number x)) l m h = link_other p a r (number, x) (sym l ∙ h)
 
-pub remaining_event : (p : Parts) (flags : List Bool) (c : RecordCursor) (r : Framed) (at : ℕ) (link : Option (ℕ × Link)) (event : Option ℕ) (metadata : Bool) (o : Option RemainingRecord) → IsAfter p flags c r at
+pub remaining_event : (p : Parts) (flags : List Bool) (c : RecordCursor) (r : Framed) (at : ℕ) (link : Option (ℕ × Link)) (event : Option ℕ) (metadata : Bool) (o : Option RemainingRecord)
+    → IsAfter p flags c r at
     → event ≡ (if is_kept_at (events_of p) flags c.event at then Some c.event else None) → IfSome o (IsRemaining link event metadata r) → IfSome o (ShowsEvent p flags)
 remaining_event p flags c r at link event metadata None b e h = tt
 remaining_event p flags c r at link event metadata (Some (remaining_records.Event number s)) b e h = passed_event p flags c r s at number event b e h.0 h.2
@@ -259,11 +270,15 @@ output_records_at new p flags c r e = ap (filter_map (output_record_of new p (ke
 pub output_records_none : (new : Option (List ℕ)) (p : Parts) (flags : List Bool) (c : RecordCursor) → length p.records ≤ c.frame → output_records_from new p flags c ≡ []
 output_records_none new p flags c h = ap (filter_map (output_record_of new p (kept_by p flags))) (drop_all c.frame p.records h)
 
-pub remaining_record_next : (new : Option (List ℕ)) (p : Parts) (flags : List Bool) (c d : RecordCursor) (frames : List Framed) (at : ℕ) (o : Option RemainingRecord) → frames ≡ p.records → option_map (λ r. r.at) (slice_get frames c.frame) ≡ Some at → d.frame ≡ c.frame + 1 →
-    IfSome (slice_get p.records c.frame) (λ r. option_map (output_record_for new) o ≡ output_record_of new p (kept_by p flags) r) → output_records_from new p flags c ≡ cons_option (option_map (output_record_for new) o) (output_records_from new p flags d)
+pub remaining_record_next : (new : Option (List ℕ)) (p : Parts) (flags : List Bool) (c d : RecordCursor) (frames : List Framed) (at : ℕ) (o : Option RemainingRecord) → frames ≡ p.records
+    → option_map (λ r. r.at) (slice_get frames c.frame) ≡ Some at → d.frame ≡ c.frame + 1 →
+    IfSome (slice_get p.records c.frame) (λ r. option_map (output_record_for new) o ≡ output_record_of new p (kept_by p flags) r) → output_records_from new p flags c ≡ cons_option
+    (option_map (output_record_for new) o) (output_records_from new p flags d)
 remaining_record_next new p flags c d frames at o e h f g = by_record (slice_get p.records c.frame) refl (ap (λ rs. option_map (λ r. r.at) (slice_get rs c.frame)) (sym e) ∙ h) g
   where
-    by_record : (x : Option Framed) → slice_get p.records c.frame ≡ x → option_map (λ r. r.at) x ≡ Some at → IfSome x (λ r. option_map (output_record_for new) o ≡ output_record_of new p (kept_by p flags) r) → output_records_from new p flags c ≡ cons_option (option_map (output_record_for new) o) (output_records_from new p flags d)
+    by_record : (x : Option Framed) → slice_get p.records c.frame ≡ x → option_map (λ r. r.at) x ≡ Some at
+        → IfSome x (λ r. option_map (output_record_for new) o ≡ output_record_of new p (kept_by p flags) r)
+        → output_records_from new p flags c ≡ cons_option (option_map (output_record_for new) o) (output_records_from new p flags d)
     by_record None e h g = cc
     by_record (Some r) e h g = output_records_at new p flags c r e ∙ (λ i. cons_option (sym g i) (filter_map (output_record_of new p (kept_by p flags)) (drop (sym f i) p.records)))
 
@@ -279,18 +294,21 @@ number_below p (r ∷ rs) zero at a e = let h : r.at ≡ at = cc in let l = a.0 
 number_below p (r ∷ rs) (suc n) at a e = let l = a.0 in let m = number_below (r.at + 1) rs n at a.1 e in omega (arith, l, m)
 
 -- Behind the last record nothing remains.
-pub none_remain : (new : Option (List ℕ)) (p : Parts) (flags : List Bool) (c : RecordCursor) (frames : List Framed) → frames ≡ p.records → None ≡ option_map (λ (r : Framed). r.at) (slice_get frames c.frame) → output_records_from new p flags c ≡ []
+pub none_remain : (new : Option (List ℕ)) (p : Parts) (flags : List Bool) (c : RecordCursor) (frames : List Framed) → frames ≡ p.records
+    → None ≡ option_map (λ (r : Framed). r.at) (slice_get frames c.frame) → output_records_from new p flags c ≡ []
 none_remain new p flags c frames e h = by_record (slice_get p.records c.frame) refl (h ∙ ap (λ rs. option_map (λ (r : Framed). r.at) (slice_get rs c.frame)) e)
   where
     by_record : (o : Option Framed) → slice_get p.records c.frame ≡ o → None ≡ option_map (λ (r : Framed). r.at) o → output_records_from new p flags c ≡ []
     by_record None q h = ap (filter_map (output_record_of new p (kept_by p flags))) (drop_none p.records c.frame q)
     by_record (Some r) q h = cc
 
-pub told_some : (new : Option (List ℕ)) (before rest : List OutputRecord) (o : Option RemainingRecord) → before ≡ cons_option (option_map (output_record_for new) o) rest → is_some o ≡ true → MatchOption o (before ≡ []) (λ s. before ≡ output_record_for new s ∷ rest)
+pub told_some : (new : Option (List ℕ)) (before rest : List OutputRecord) (o : Option RemainingRecord) → before ≡ cons_option (option_map (output_record_for new) o) rest → is_some o ≡ true
+    → MatchOption o (before ≡ []) (λ s. before ≡ output_record_for new s ∷ rest)
 told_some new before rest None e h = cc
 told_some new before rest (Some s) e h = e
 
-pub told_none : (new : Option (List ℕ)) (before rest : List OutputRecord) (o : Option RemainingRecord) → before ≡ cons_option (option_map (output_record_for new) o) rest → is_some o ≡ false → before ≡ rest
+pub told_none : (new : Option (List ℕ)) (before rest : List OutputRecord) (o : Option RemainingRecord) → before ≡ cons_option (option_map (output_record_for new) o) rest → is_some o ≡ false
+    → before ≡ rest
 told_none new before rest None e h = e
 told_none new before rest (Some s) e h = cc
 
@@ -307,11 +325,13 @@ rises_first p (r ∷ rs) f s = by_value (f r) refl (occur_more r (filter_map f r
     by_value (Some x) e h = (inl (sym (s r x e)), h)
 
 -- The remaining checkpoints are those that begin at one of the records.
-chained_given : (all : List Numbered) (whole : Framed → Bool) (new : Framed → Option (List ℕ)) (rs : List Framed) → chained_of (output_records_in all whole new rs) ≡ filter_map (λ r. numbered_at all r.at) rs
+chained_given : (all : List Numbered) (whole : Framed → Bool) (new : Framed → Option (List ℕ)) (rs : List Framed)
+    → chained_of (output_records_in all whole new rs) ≡ filter_map (λ r. numbered_at all r.at) rs
 chained_given all whole new [] = refl
 chained_given all whole new (r ∷ rs) = by_value (numbered_at all r.at) (whole r) (new r) (chained_given all whole new rs)
   where
-    by_value : (o : Option Numbered) (b : Bool) (w : Option (List ℕ)) → chained_of (output_records_in all whole new rs) ≡ filter_map (λ r. numbered_at all r.at) rs → chained_of (cons_option (output_record_by o b w r) (output_records_in all whole new rs)) ≡ cons_option o (filter_map (λ r. numbered_at all r.at) rs)
+    by_value : (o : Option Numbered) (b : Bool) (w : Option (List ℕ)) → chained_of (output_records_in all whole new rs) ≡ filter_map (λ r. numbered_at all r.at) rs
+        → chained_of (cons_option (output_record_by o b w r) (output_records_in all whole new rs)) ≡ cons_option o (filter_map (λ r. numbered_at all r.at) rs)
     by_value (Some l) b w e = ap (λ z. l ∷ z) e
     by_value None true None e = e
     by_value None true (Some x) e = e
@@ -328,6 +348,7 @@ cursor_first p flags a =
     record {
       parts = a;
       events = refl;
-      kept = sym (in_order event_place (kept_by p flags) p.records 0 [] (kept_by p flags) rises refl tt (rises_marked event_place 0 flags (events_of p) up) (all_marked (λ x. Occurs (event_place x) p.records) flags (events_of p) there));
+      kept = sym (in_order event_place (kept_by p flags) p.records 0 [] (kept_by p flags) rises refl tt (rises_marked event_place 0 flags (events_of p) up)
+          (all_marked (λ x. Occurs (event_place x) p.records) flags (events_of p) there));
       links = sym ((ready p a (λ r. false) (λ r. None) (λ r x i e. cc) []).order) ∙ chained_given (all_links p) (λ r. false) (λ r. None) p.records;
     }

@@ -68,7 +68,8 @@ pub record Made (k : List ℕ → Option Flaw) (m : List ℕ → List ℕ) (inpu
   pub read : file w input ≡ Some recording
   pub holds : file v output ≡ Some (joined (map m (before_refused k (cut recording 0 true).chunks)))
 
-made_by : (k : List ℕ → Option Flaw) (m : List ℕ → List ℕ) (input output : List ℕ) (w v : World) (o p q : Option (List ℕ)) (e : End) → file w input ≡ o → AllDone (plan_after (making output k m) [] o) e (snapshot w p) (snapshot v q)
+made_by : (k : List ℕ → Option Flaw) (m : List ℕ → List ℕ) (input output : List ℕ) (w v : World) (o p q : Option (List ℕ)) (e : End) → file w input ≡ o
+    → AllDone (plan_after (making output k m) [] o) e (snapshot w p) (snapshot v q)
     → Made k m input output w v
 made_by k m input output w v None p q e is d = let none : ◌≡◌ {A = Option End} None (Some e) = d.end in cc
 made_by k m input output w v (Some x) p q e is d =
@@ -83,7 +84,8 @@ made_by k m input output w v (Some x) p q e is d =
           ∙ appended m output (before_refused k (cut x 0 true).chunks) s [] refl (is_there w.files output []);
     }
 
-made : (k : List ℕ → Option Flaw) (m : List ℕ → List ℕ) (input output : List ℕ) (w v : World) (p q : Option (List ℕ)) (e : End) → AllDone (plan_in (making output k m) input w) e (snapshot w p) (snapshot v q)
+made : (k : List ℕ → Option Flaw) (m : List ℕ → List ℕ) (input output : List ℕ) (w v : World) (p q : Option (List ℕ)) (e : End)
+    → AllDone (plan_in (making output k m) input w) e (snapshot w p) (snapshot v q)
     → Made k m input output w v
 made k m input output w v p q e d = made_by k m input output w v (file w input) p q e refl d
 

@@ -28,7 +28,8 @@ pub record_there : (p : Parts) (a : AreParts p) (n : ℕ) (r : Framed) → slice
 record_there p a n r e = all_get (IsRecord p.bytes) p.records n r (recorded p a) e
 
 -- The slim record is the new one, where its strings are texts.
-pub slim_is_new : (names : Names) (p : Parts) (kept : List EventAt) (room : ℕ) (o : Option (List ℕ)) → o ≡ slim_in p.body (stays_in names p kept) room → IfSome o (λ x. AllByRecursion IsText (slim_of names p kept).strings) → o ≡ rebuilt names p kept room
+pub slim_is_new : (names : Names) (p : Parts) (kept : List EventAt) (room : ℕ) (o : Option (List ℕ)) → o ≡ slim_in p.body (stays_in names p kept) room
+    → IfSome o (λ x. AllByRecursion IsText (slim_of names p kept).strings) → o ≡ rebuilt names p kept room
 unfolding rebuilt
 slim_is_new names p kept room o e t = by_value (slim_in p.body (stays_in names p kept) room) e o refl t
   where
@@ -39,7 +40,8 @@ slim_is_new names p kept room o e t = by_value (slim_in p.body (stays_in names p
     none_either true = refl
     none_either false = refl
 
-    by_value : (w : Option (List ℕ)) → o ≡ w → (u : Option (List ℕ)) → o ≡ u → IfSome u (λ x. AllByRecursion IsText (slim_of names p kept).strings) → o ≡ (if list_all scalars (slim_of names p kept).strings then w else None)
+    by_value : (w : Option (List ℕ)) → o ≡ w → (u : Option (List ℕ)) → o ≡ u → IfSome u (λ x. AllByRecursion IsText (slim_of names p kept).strings)
+        → o ≡ (if list_all scalars (slim_of names p kept).strings then w else None)
     by_value None e u q t = e ∙ none_either (list_all scalars (slim_of names p kept).strings)
     by_value (Some y) e (Some x) q t = e ∙ ap (λ c. if c then Some y else None) (sym (all_scalars (slim_of names p kept).strings t))
     by_value (Some y) e None q t = let z : None ≡ Some y = sym q ∙ e in cc
@@ -50,12 +52,14 @@ new_is_record names p kept room None e = tt
 new_is_record names p kept room (Some x) e = record { body = slim_of names p kept; bytes = (is_anew names p kept room x (sym e)).bytes }
 
 -- The classes that stay, by what a set of ids has.
-pub stays_are : (names : Names) (p : Parts) (kept : List EventAt) (b : Body) (k : Classes) (used stay : ℕ → Bool) → b ≡ p.body → k ≡ p.classes → ((id : ℕ) → used id ≡ is_used names p kept id) → ((id : ℕ) → stay id ≡ stays_of b k used id) → stay ≡ stays_in names p kept
+pub stays_are : (names : Names) (p : Parts) (kept : List EventAt) (b : Body) (k : Classes) (used stay : ℕ → Bool) → b ≡ p.body → k ≡ p.classes → ((id : ℕ) → used id ≡ is_used names p kept id)
+    → ((id : ℕ) → stay id ≡ stays_of b k used id) → stay ≡ stays_in names p kept
 unfolding stays_in
 stays_are names p kept b k used stay e f g h = λ i id. (h id ∙ (λ j. stays_of (e j) (f j) (λ x. g x j) id)) i
 
 -- The set of these classes, if there is one.
-pub stays_ok : {E : Type 0} (names : Names) (p : Parts) (kept : List EventAt) (b : Body) (k : Classes) (used : ℕ → Bool) (r : Result Ids E) → b ≡ p.body → k ≡ p.classes → ((id : ℕ) → used id ≡ is_used names p kept id)
+pub stays_ok : {E : Type 0} (names : Names) (p : Parts) (kept : List EventAt) (b : Body) (k : Classes) (used : ℕ → Bool) (r : Result Ids E) → b ≡ p.body → k ≡ p.classes
+    → ((id : ℕ) → used id ≡ is_used names p kept id)
     → IfOk r (λ stay. (id : ℕ) → is_in stay id ≡ stays_of b k used id) → IfOk r (λ stay. (id : ℕ) → is_in stay id ≡ stays_in names p kept id)
 stays_ok names p kept b k used (Err e) f g h i = tt
 stays_ok names p kept b k used (Ok stay) f g h i = λ id. ap (λ (z : ℕ → Bool). z id) (stays_are names p kept b k used (is_in stay) f g h i)
@@ -69,7 +73,8 @@ frame_size p a r s =
 
 -- The slim record that a call gives is the new one.
 module _ {V E : Type 0} (items : V → List ℕ) (names : Names) (p : Parts) (kept : List EventAt) (room : ℕ) where
-  pub slim_found : (r : Result (Option V) E) → IfOk r (λ o. option_map items o ≡ slim_in p.body (stays_in names p kept) room) → IfOk r (λ o. IfSome o (λ v. AllByRecursion IsText (slim_of names p kept).strings)) → IfOk r (λ o. option_map items o ≡ rebuilt names p kept room)
+  pub slim_found : (r : Result (Option V) E) → IfOk r (λ o. option_map items o ≡ slim_in p.body (stays_in names p kept) room)
+      → IfOk r (λ o. IfSome o (λ v. AllByRecursion IsText (slim_of names p kept).strings)) → IfOk r (λ o. option_map items o ≡ rebuilt names p kept room)
   slim_found (Err w) e t = tt
   slim_found (Ok None) e t = slim_is_new names p kept room None e tt
   slim_found (Ok (Some v)) e t = slim_is_new names p kept room (Some (items v)) e t

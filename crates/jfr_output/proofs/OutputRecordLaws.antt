@@ -36,7 +36,8 @@ rises_given {X = X} place f s p (r ∷ rs) a = by_value (f r) refl (rises_given 
     by_value (Some x) e h = let w = s r x e in let i : p ≤ r.at = a.0 in (omega arith, subst (λ n. Rises place (n + 1) (filter_map f rs)) (sym w) h)
 
 -- The first value is at the first record.
-pub at_head : {X : Type 0} (place : X → ℕ) (f : Framed → Option X) → Stands place f → (r : Framed) (rs : List Framed) (x : X) (xs : List X) → Rising (r.at + 1) rs → x ∷ xs ≡ filter_map f (r ∷ rs) → place x ≡ r.at →
+pub at_head : {X : Type 0} (place : X → ℕ) (f : Framed → Option X) → Stands place f → (r : Framed) (rs : List Framed) (x : X) (xs : List X) → Rising (r.at + 1) rs → x ∷ xs ≡ filter_map f (r ∷ rs)
+    → place x ≡ r.at →
     (f r ≡ Some x) × (xs ≡ filter_map f rs)
 at_head {X = X} place f s r rs x xs a e h = by_value (f r) refl e (rises_given place f s (r.at + 1) rs a)
   where
@@ -62,7 +63,8 @@ past_head {X = X} place f s r rs xs e b = by_value (f r) refl e
     by_value (Some y) q e = absurd (not_first y (filter_map f rs) xs b e (s r y q))
 
 -- The first value isn't at the first record.
-pub elsewhere : {X : Type 0} (place : X → ℕ) (f : Framed → Option X) → Stands place f → (r : Framed) (rs : List Framed) (x : X) (xs : List X) → Rising r.at (r ∷ rs) → x ∷ xs ≡ filter_map f (r ∷ rs) → (place x == r.at) ≡ false →
+pub elsewhere : {X : Type 0} (place : X → ℕ) (f : Framed → Option X) → Stands place f → (r : Framed) (rs : List Framed) (x : X) (xs : List X) → Rising r.at (r ∷ rs) → x ∷ xs ≡ filter_map f (r ∷ rs)
+    → (place x == r.at) ≡ false →
     Rises place (r.at + 1) (x ∷ xs)
 elsewhere {X = X} place f s r rs x xs a e h = by_list (filter_map f (r ∷ rs)) e (rises_given place f s r.at (r ∷ rs) a)
   where

@@ -33,7 +33,8 @@ by_first e [] = refl
 by_first e (f ∷ fs) = let i = by_first f fs in ap (add_entry e) i ∙ by_test i (same_pool e f) refl
   where
     by_test : by_pool (f ∷ fs) ≡ first_group f fs ∷ by_pool (drop (leading f fs) fs) → (b : Bool) → same_pool e f ≡ b →
-        (if b then record { class = f.class; pool = f.pool; entries = e ∷ f ∷ take (leading f fs) fs } ∷ by_pool (drop (leading f fs) fs) else record { class = e.class; pool = e.pool; entries = e ∷ [] } ∷ (first_group f fs ∷ by_pool (drop (leading f fs) fs)))
+        (if b then record { class = f.class; pool = f.pool; entries = e ∷ f ∷ take (leading f fs) fs } ∷ by_pool
+        (drop (leading f fs) fs) else record { class = e.class; pool = e.pool; entries = e ∷ [] } ∷ (first_group f fs ∷ by_pool (drop (leading f fs) fs)))
         ≡ record { class = e.class; pool = e.pool; entries = e ∷ take (if b then suc (leading e fs) else 0) (f ∷ fs) } ∷ by_pool (drop (if b then suc (leading e fs) else 0) (f ∷ fs))
     by_test i true h =
         let s = same_is e f h in
@@ -88,11 +89,13 @@ flat_next f (e ∷ es) (suc i) d h =
     ap (λ n. flat_map f (take n (e ∷ es))) q ∙ (ap (λ z. f e ++ z) (flat_next f es i d (omega (arith, h))) ∙ sym (append_assoc (f e) (flat_map f (take i es)) (f (get_or es i d))))
 
 -- The first pool, and those after it.
-pub by_first_of : (rest : List EntryAt) (e : EntryAt) → slice_get rest 0 ≡ Some e → by_pool rest ≡ record { class = e.class; pool = e.pool; entries = take (leading e rest) rest } ∷ by_pool (drop (leading e rest) rest)
+pub by_first_of : (rest : List EntryAt) (e : EntryAt) → slice_get rest 0 ≡ Some e
+    → by_pool rest ≡ record { class = e.class; pool = e.pool; entries = take (leading e rest) rest } ∷ by_pool (drop (leading e rest) rest)
 by_first_of [] e g = cc
 by_first_of (x ∷ behind) e g =
     let same : x ≡ e = cc in
-    subst (λ z. by_pool (z ∷ behind) ≡ record { class = e.class; pool = e.pool; entries = take (leading e (z ∷ behind)) (z ∷ behind) } ∷ by_pool (drop (leading e (z ∷ behind)) (z ∷ behind))) (sym same) (by_leading e behind)
+    subst (λ z. by_pool (z ∷ behind) ≡ record { class = e.class; pool = e.pool; entries = take (leading e (z ∷ behind)) (z ∷ behind) } ∷ by_pool (drop (leading e (z ∷ behind)) (z ∷ behind)))
+    (sym same) (by_leading e behind)
 
 -- The length of the first pool of some entries.
 pub leading_within : (e : EntryAt) (es : List EntryAt) → leading e es ≤ length es
@@ -112,7 +115,8 @@ leading_stops e es i d h l s =
     let z : leading e (drop i es) ≡ 0 = ap (leading e) (drop_get es i d h) ∙ ap (λ b. if b then suc (leading e (drop (i + 1) es)) else 0) s in
     omega arith
 
-pub leading_goes : (e : EntryAt) (es : List EntryAt) (i : ℕ) (d : EntryAt) → i < length es → leading e es ≡ i + leading e (drop i es) → same_pool e (get_or es i d) ≡ true → leading e es ≡ (i + 1) + leading e (drop (i + 1) es)
+pub leading_goes : (e : EntryAt) (es : List EntryAt) (i : ℕ) (d : EntryAt) → i < length es → leading e es ≡ i + leading e (drop i es) → same_pool e (get_or es i d) ≡ true
+    → leading e es ≡ (i + 1) + leading e (drop (i + 1) es)
 leading_goes e es i d h l s =
     let z : leading e (drop i es) ≡ suc (leading e (drop (i + 1) es)) = ap (leading e) (drop_get es i d h) ∙ ap (λ b. if b then suc (leading e (drop (i + 1) es)) else 0) s in
     omega arith

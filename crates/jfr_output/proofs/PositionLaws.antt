@@ -14,7 +14,8 @@ pub newest_next : (newest : Option ℕ) (w : Written) (ws : List Written) → ne
 newest_next None w ws = refl
 newest_next (Some at) w ws = refl
 
-pub moved_next : (before : Option ℕ) (w : Written) (ws : List Written) (at : ℕ) → or_place before (moved (w ∷ ws) at) ≡ or_place (offset_so_far before ((record_of w.output_record).at == at) w.at) (moved ws at)
+pub moved_next : (before : Option ℕ) (w : Written) (ws : List Written) (at : ℕ)
+    → or_place before (moved (w ∷ ws) at) ≡ or_place (offset_so_far before ((record_of w.output_record).at == at) w.at) (moved ws at)
 moved_next (Some place) w ws at = refl
 moved_next None w ws at = by_test ((record_of w.output_record).at == at)
   where

@@ -28,7 +28,8 @@ or_assoc true b c = refl
 or_assoc false b c = refl
 
 -- The described ones among one class more.
-pub described_next : (names : Names) (k : Classes) (n : ℕ) (c : Class) (id : ℕ) (old now new : Bool) → slice_get k n ≡ Some c → now ≡ (old || is_described names (take n k) id) → new ≡ (now || ((c.id == id) && names c.name)) → new ≡ (old || is_described names (take (n + 1) k) id)
+pub described_next : (names : Names) (k : Classes) (n : ℕ) (c : Class) (id : ℕ) (old now new : Bool) → slice_get k n ≡ Some c → now ≡ (old || is_described names (take n k) id)
+    → new ≡ (now || ((c.id == id) && names c.name)) → new ≡ (old || is_described names (take (n + 1) k) id)
 described_next names k n c id old now new g e f =
     f ∙ (ap (λ z. z || ((c.id == id) && names c.name)) e ∙ (or_assoc old (is_described names (take n k) id) ((c.id == id) && names c.name)
     ∙ ap (λ z. old || z) (ap (λ z. is_described names (take n k) id || z) (sym (or_false ((c.id == id) && names c.name)))
@@ -60,7 +61,8 @@ abbrev pub used_before : List Bool → List EventAt → ℕ → ℕ → Bool
 used_before fs es n id = used_by (marked (take n fs) (take n es)) id
 
 module _ (fs : List Bool) (es : List EventAt) (same : length fs ≡ length es) where
-  kept_next : (n : ℕ) (f : Bool) (e : EventAt) → n < length es → slice_get fs n ≡ Some f → slice_get es n ≡ Some e → marked (take (n + 1) fs) (take (n + 1) es) ≡ marked (take n fs) (take n es) ++ marked (f ∷ []) (e ∷ [])
+  kept_next : (n : ℕ) (f : Bool) (e : EventAt) → n < length es → slice_get fs n ≡ Some f → slice_get es n ≡ Some e
+      → marked (take (n + 1) fs) (take (n + 1) es) ≡ marked (take n fs) (take n es) ++ marked (f ∷ []) (e ∷ [])
   kept_next n f e h g i =
       let a : length (take n fs) ≡ n = length-take-le n fs (omega arith) in
       let b : length (take n es) ≡ n = length-take-le n es (omega arith) in

@@ -26,7 +26,9 @@ items_of o = option_map (λ v. v.items) o
 -- A name finds the same among the entries of both.
 found : (q : List ℕ) (es : List (String Global × Vec ℕ Global)) → find (slice_cmp nat_cmp) q (map entry_of es) ≡ items_of (lookup (is_at (λ k. slice_cmp nat_cmp q (string_bytes k))) es)
 found q [] = refl
-found q (e ∷ es) = elim (is_eq (slice_cmp nat_cmp q (string_bytes e.0))) as (λ b. cond b (Some e.1.items) (find (slice_cmp nat_cmp) q (map entry_of es)) ≡ items_of (cond b (Some e.1) (lookup (is_at (λ k. slice_cmp nat_cmp q (string_bytes k))) es))) [ true ↦ refl | false ↦ found q es ]
+found q (e ∷ es) = elim (is_eq (slice_cmp nat_cmp q (string_bytes e.0))) as
+    (λ b. cond b (Some e.1.items) (find (slice_cmp nat_cmp) q (map entry_of es)) ≡ items_of (cond b (Some e.1) (lookup (is_at (λ k. slice_cmp nat_cmp q (string_bytes k))) es)))
+    [ true ↦ refl | false ↦ found q es ]
 
 -- A file of the map.
 pub get-files_of : (m : FileMap) (q : List ℕ) → fin.get (files_of m) q ≡ items_of (get_by_text m q)
@@ -42,13 +44,15 @@ chosen true v o = refl
 chosen false v o = refl
 
 -- A change at one name.
-pub insert-files_of : (m n : FileMap) (name : List ℕ) (v : Vec ℕ Global) → UpdatesBy string_cmp (λ k. slice_cmp nat_cmp name (string_bytes k)) m n (Some v) → files_of n ≡ fin.insert (files_of m) name v.items
+pub insert-files_of : (m n : FileMap) (name : List ℕ) (v : Vec ℕ Global) → UpdatesBy string_cmp (λ k. slice_cmp nat_cmp name (string_bytes k)) m n (Some v)
+    → files_of n ≡ fin.insert (files_of m) name v.items
 insert-files_of m n name v updates =
     same_map nat_list_cmp_total (slice_cmp-IsAntisymmetric nat_cmp-IsAntisymmetric) _ _ (λ q.
     get-files_of n q
     ∙ ap items_of (btree_map_updates_text name m n (Some v) updates q)
     ∙ chosen (bytes_eq name q) v (get_by_text m q)
-    ∙ sym (get-insert nat_list_cmp_total (files_of m) name v.items q ∙ ap (λ (b : Bool). cond b (Some v.items) (fin.get (files_of m) q)) (turned q name) ∙ ap (λ (o : Option (List ℕ)). cond (bytes_eq name q) (Some v.items) o) (get-files_of m q)))
+    ∙ sym (get-insert nat_list_cmp_total (files_of m) name v.items q ∙ ap (λ (b : Bool). cond b (Some v.items) (fin.get (files_of m) q)) (turned q name)
+    ∙ ap (λ (o : Option (List ℕ)). cond (bytes_eq name q) (Some v.items) o) (get-files_of m q)))
 
 -- Keys that tie.
 tied : (q name : List ℕ) → eq_by_cmp (slice_cmp nat_cmp) q name ≡ true → slice_cmp nat_cmp q name ≡ Equal
@@ -66,21 +70,25 @@ insert_same files name v is =
     get-insert nat_list_cmp_total files name v q ∙ again q name files v is (eq_by_cmp (slice_cmp nat_cmp) q name) refl)
 
 -- Bytes added to a file of the map are added to it among the files.
-pub grown_map : (m n : FileMap) (name : List ℕ) (old new : Vec ℕ Global) (bytes : List ℕ) → Some old ≡ get_by_text m name → (IsSome (get_by_text m name) → UpdatesBy string_cmp (λ k. slice_cmp nat_cmp name (string_bytes k)) m n (Some new)) → new.items ≡ old.items ++ bytes → files_of n ≡ fin.insert (files_of m) name (unwrap_or (fin.get (files_of m) name) [] ++ bytes)
+pub grown_map : (m n : FileMap) (name : List ℕ) (old new : Vec ℕ Global) (bytes : List ℕ) → Some old ≡ get_by_text m name
+    → (IsSome (get_by_text m name) → UpdatesBy string_cmp (λ k. slice_cmp nat_cmp name (string_bytes k)) m n (Some new)) → new.items ≡ old.items ++ bytes
+    → files_of n ≡ fin.insert (files_of m) name (unwrap_or (fin.get (files_of m) name) [] ++ bytes)
 grown_map m n name old new bytes is updates grows =
     let some : IsSome (get_by_text m name) = subst IsSome is refl in
     let there : fin.get (files_of m) name ≡ Some old.items = get-files_of m name ∙ ap items_of (sym is) in
     insert-files_of m n name new (updates some) ∙ ap (fin.insert (files_of m) name) (grows ∙ ap (λ (o : Option (List ℕ)). unwrap_or o [] ++ bytes) (sym there))
 
 -- A file of the map that keeps its bytes leaves the files as they are.
-pub kept_map : (m n : FileMap) (name : List ℕ) (old new : Vec ℕ Global) → Some old ≡ get_by_text m name → (IsSome (get_by_text m name) → UpdatesBy string_cmp (λ k. slice_cmp nat_cmp name (string_bytes k)) m n (Some new)) → new.items ≡ old.items → files_of n ≡ files_of m
+pub kept_map : (m n : FileMap) (name : List ℕ) (old new : Vec ℕ Global) → Some old ≡ get_by_text m name
+    → (IsSome (get_by_text m name) → UpdatesBy string_cmp (λ k. slice_cmp nat_cmp name (string_bytes k)) m n (Some new)) → new.items ≡ old.items → files_of n ≡ files_of m
 kept_map m n name old new is updates same =
     let some : IsSome (get_by_text m name) = subst IsSome is refl in
     let there : fin.get (files_of m) name ≡ Some old.items = get-files_of m name ∙ ap items_of (sym is) in
     insert-files_of m n name new (updates some) ∙ ap (fin.insert (files_of m) name) same ∙ insert_same (files_of m) name old.items there
 
 -- A file set in the map is set among the files.
-pub inserted : (m n : FileMap) (key : String Global) (v : Vec ℕ Global) (name bytes : List ℕ) → UpdatesBy string_cmp (string_cmp key) m n (Some v) → string_bytes key ≡ name → v.items ≡ bytes → files_of n ≡ fin.insert (files_of m) name bytes
+pub inserted : (m n : FileMap) (key : String Global) (v : Vec ℕ Global) (name bytes : List ℕ) → UpdatesBy string_cmp (string_cmp key) m n (Some v) → string_bytes key ≡ name → v.items ≡ bytes
+    → files_of n ≡ fin.insert (files_of m) name bytes
 inserted m n key v name bytes updates is has = insert-files_of m n (string_bytes key) v updates ∙ ap (λ (k : List ℕ). fin.insert (files_of m) k v.items) is ∙ ap (fin.insert (files_of m) name) has
 
 -- Of two files that may be chosen, one is there.
@@ -142,6 +150,10 @@ pub grown_none : (files : Files) (name : List ℕ) → IsHeld files name → fin
 grown_none files name h = set_to files name (fin.get files name) refl h.there
 
 -- What a failing append leaves, whether or not memory was there for the bytes that it keeps.
-pub append_kept : {E : Type 0} (r : Result Unit E) (w : World) (after : Files) (name bytes : List ℕ) (m keep : ℕ) → w.output ≡ Some name → m ≤ keep → IsHeld w.files name → OnOk r (after ≡ fin.insert w.files name (unwrap_or (fin.get w.files name) [] ++ take m bytes)) → OnErr r (after ≡ w.files) → (k : ℕ) × (k ≤ keep) × (Some (record w { files = after }) ≡ Some (appended (take k bytes) w))
-append_kept (Ok x) w after name bytes m keep is most held ok err = (m, most, ap (λ (f : Files). Some (record w { files = f })) (ok ∙ sym (ap (λ (o : Option (List ℕ)). grown o (take m bytes) w.files) is)))
-append_kept (Err e) w after name bytes m keep is most held ok err = (0, omega arith, ap (λ (f : Files). Some (record w { files = f })) (err ∙ sym (ap (λ (o : Option (List ℕ)). grown o [] w.files) is ∙ grown_none w.files name held)))
+pub append_kept : {E : Type 0} (r : Result Unit E) (w : World) (after : Files) (name bytes : List ℕ) (m keep : ℕ) → w.output ≡ Some name → m ≤ keep → IsHeld w.files name
+    → OnOk r (after ≡ fin.insert w.files name (unwrap_or (fin.get w.files name) [] ++ take m bytes)) → OnErr r (after ≡ w.files)
+    → (k : ℕ) × (k ≤ keep) × (Some (record w { files = after }) ≡ Some (appended (take k bytes) w))
+append_kept (Ok x) w after name bytes m keep is most held ok err =
+    (m, most, ap (λ (f : Files). Some (record w { files = f })) (ok ∙ sym (ap (λ (o : Option (List ℕ)). grown o (take m bytes) w.files) is)))
+append_kept (Err e) w after name bytes m keep is most held ok err =
+    (0, omega arith, ap (λ (f : Files). Some (record w { files = f })) (err ∙ sym (ap (λ (o : Option (List ℕ)). grown o [] w.files) is ∙ grown_none w.files name held)))

@@ -66,7 +66,8 @@ no_rest : (folder name : List ℕ) → ((rest : List ℕ) → name ≢ folder ++
 no_rest folder name other =
     let n : ℕ = length folder + 1 in
     not_begun _ (is_plain (drop n name)) (drop n name) (λ same.
-    other (drop n name) (sym (take-append-drop n name) ∙ ap (λ (l : List ℕ). l ++ drop n name) ((bytes_eq-Decides (take n name) (in_folder folder [])).0 same) ∙ append_assoc folder (47 ∷ []) (drop n name)))
+    other (drop n name) (sym (take-append-drop n name) ∙ ap (λ (l : List ℕ). l ++ drop n name) ((bytes_eq-Decides (take n name) (in_folder folder [])).0 same)
+    ∙ append_assoc folder (47 ∷ []) (drop n name)))
 
 -- A name without a slash.
 pub is_plain_without : (rest : List ℕ) → ((k : ℕ) → k < length rest → get_or rest k 0 ≢ 47) → is_plain rest ≡ true
@@ -88,7 +89,8 @@ pub rest_by : (folder name after rest : List ℕ) (plain : Bool) → name ≡ fo
 rest_by folder name after rest plain is slash test = ap (rest_in folder) (is ∙ ap (λ (l : List ℕ). folder ++ l) slash) ∙ rest_at folder rest ∙ ap (λ (b : Bool). if b then Some rest else None) test
 
 -- What is below all entries by the order of texts is below all their names.
-below : (k : String Global) (es : List (String Global × Vec ℕ Global)) → AllByRecursion (λ y. string_cmp k y ≡ Less) (map (λ e. e.0) es) → T (below_all (slice_cmp nat_cmp) (string_bytes k) (map entry_of es))
+below : (k : String Global) (es : List (String Global × Vec ℕ Global)) → AllByRecursion (λ y. string_cmp k y ≡ Less) (map (λ e. e.0) es)
+    → T (below_all (slice_cmp nat_cmp) (string_bytes k) (map entry_of es))
 below k [] h = tt
 below k (e ∷ es) h = both_T _ _ (subst (λ o. T (is_lt o)) (sym h.0) tt) (below k es h.1)
 
@@ -102,7 +104,8 @@ sorted (e ∷ es) h = both_T _ _ (below e.0 es h.0) (sorted es h.1)
 same_entries : (m : FileMap) → tree.IsOrdered string_cmp m → fin.entries (files_of m) ≡ map entry_of m.entries
 same_entries m ordered =
     let s = sorted m.entries ordered in
-    ap fin.entries (same_map nat_list_cmp_total (slice_cmp-IsAntisymmetric nat_cmp-IsAntisymmetric) (files_of m) (fin.from_sorted (map entry_of m.entries)) (λ q. get-from_entries nat_list_cmp_total (map entry_of m.entries) q ∙ sym (get-from_sorted (slice_cmp nat_cmp) (map entry_of m.entries) q s)))
+    ap fin.entries (same_map nat_list_cmp_total (slice_cmp-IsAntisymmetric nat_cmp-IsAntisymmetric) (files_of m) (fin.from_sorted (map entry_of m.entries))
+    (λ q. get-from_entries nat_list_cmp_total (map entry_of m.entries) q ∙ sym (get-from_sorted (slice_cmp nat_cmp) (map entry_of m.entries) q s)))
     ∙ entries-from_sorted (slice_cmp nat_cmp) (map entry_of m.entries) s
 
 -- The names of the files that the map holds, in order.
@@ -122,11 +125,15 @@ rest_is_text folder name after rest utf8 is slash =
 abbrev pub names_of : List (Bor (String Global)) → List (List ℕ)
 names_of done = map (λ k. string_bytes k.now) done
 
-seen : (folder : List ℕ) (done : List (Bor (String Global))) (k : Bor (String Global)) → filter_map (rest_in folder) (names_of (done ++ k ∷ [])) ≡ filter_map (rest_in folder) (names_of done) ++ cons_option (rest_in folder (string_bytes k.now)) []
-seen folder done k = ap (filter_map (rest_in folder)) (map-append (λ (k : Bor (String Global)). string_bytes k.now) done (k ∷ [])) ∙ filter_map-append (rest_in folder) (names_of done) (string_bytes k.now ∷ [])
+seen : (folder : List ℕ) (done : List (Bor (String Global))) (k : Bor (String Global))
+    → filter_map (rest_in folder) (names_of (done ++ k ∷ [])) ≡ filter_map (rest_in folder) (names_of done) ++ cons_option (rest_in folder (string_bytes k.now)) []
+seen folder done k = ap (filter_map (rest_in folder)) (map-append (λ (k : Bor (String Global)). string_bytes k.now) done (k ∷ []))
+    ∙ filter_map-append (rest_in folder) (names_of done) (string_bytes k.now ∷ [])
 
 -- It is in the folder, or it isn't.
-pub one_more : (folder : List ℕ) (names : List (List ℕ)) (done : List (Bor (String Global))) (k : Bor (String Global)) (rest : List ℕ) → map encode_utf8_all names ≡ filter_map (rest_in folder) (names_of done) → Some rest ≡ rest_in folder (string_bytes k.now) → IsUtf8 rest → map encode_utf8_all (names ++ chars rest ∷ []) ≡ filter_map (rest_in folder) (names_of (done ++ k ∷ []))
+pub one_more : (folder : List ℕ) (names : List (List ℕ)) (done : List (Bor (String Global))) (k : Bor (String Global)) (rest : List ℕ)
+    → map encode_utf8_all names ≡ filter_map (rest_in folder) (names_of done) → Some rest ≡ rest_in folder (string_bytes k.now) → IsUtf8 rest
+    → map encode_utf8_all (names ++ chars rest ∷ []) ≡ filter_map (rest_in folder) (names_of (done ++ k ∷ []))
 one_more folder names done k rest so_far at utf8 =
     map-append encode_utf8_all names (chars rest ∷ [])
     ∙ ap (λ (l : List (List ℕ)). l ++ encode_utf8_all (chars rest) ∷ []) so_far
@@ -134,12 +141,14 @@ one_more folder names done k rest so_far at utf8 =
     ∙ ap (λ (o : Option (List ℕ)). filter_map (rest_in folder) (names_of done) ++ cons_option o []) at
     ∙ sym (seen folder done k)
 
-pub passed_over : (folder : List ℕ) (names : List (List ℕ)) (done : List (Bor (String Global))) (k : Bor (String Global)) → map encode_utf8_all names ≡ filter_map (rest_in folder) (names_of done) → None ≡ rest_in folder (string_bytes k.now) → map encode_utf8_all names ≡ filter_map (rest_in folder) (names_of (done ++ k ∷ []))
+pub passed_over : (folder : List ℕ) (names : List (List ℕ)) (done : List (Bor (String Global))) (k : Bor (String Global)) → map encode_utf8_all names ≡ filter_map (rest_in folder) (names_of done)
+    → None ≡ rest_in folder (string_bytes k.now) → map encode_utf8_all names ≡ filter_map (rest_in folder) (names_of (done ++ k ∷ []))
 passed_over folder names done k so_far at =
     so_far ∙ sym (append-nil _)
     ∙ ap (λ (o : Option (List ℕ)). filter_map (rest_in folder) (names_of done) ++ cons_option o []) at
     ∙ sym (seen folder done k)
 
 -- All of them are seen.
-pub all_seen : (folder : List ℕ) (m : FileMap) (done : List (Bor (String Global))) → tree.IsOrdered string_cmp m → map deref done ≡ tree.keys m → filter_map (rest_in folder) (names_of done) ≡ names_in folder (files_of m)
+pub all_seen : (folder : List ℕ) (m : FileMap) (done : List (Bor (String Global))) → tree.IsOrdered string_cmp m → map deref done ≡ tree.keys m
+    → filter_map (rest_in folder) (names_of done) ≡ names_in folder (files_of m)
 all_seen folder m done ordered all = ap (filter_map (rest_in folder)) (sym (map-map string_bytes deref done) ∙ ap (map string_bytes) all ∙ sym (keys-files_of m ordered))

@@ -27,16 +27,19 @@ module _ (p : Parts) (parts : AreParts p) (e : Event) (q : slice_get (events_of 
       let none : None ≡ find_class p.classes e.frame.type_id = n ∙ ap (λ (z : Classes). find_class z e.frame.type_id) h in
       let x : IsSome {T = Class} None = subst (λ z. IsSome z) (sym none) (event_known p parts (event_at e) listed) in cc
 
-  pub said : (g : Given) (verdicts : List ClassVerdict) (place : ℕ) (other : ClassVerdict) → AllZip (IsVerdict g) p.classes verdicts → slice_get p.classes place ≡ find_class p.classes e.frame.type_id → IsRightFor g p (event_at e) (slice_index_or verdicts place other)
+  pub said : (g : Given) (verdicts : List ClassVerdict) (place : ℕ) (other : ClassVerdict) → AllZip (IsVerdict g) p.classes verdicts → slice_get p.classes place ≡ find_class p.classes e.frame.type_id
+      → IsRightFor g p (event_at e) (slice_index_or verdicts place other)
   said g verdicts place other all there = by_class (find_class p.classes e.frame.type_id) refl (zip_at (IsVerdict g) p.classes verdicts place other (find_class p.classes e.frame.type_id) all there)
     where
-      by_class : (o : Option Class) → find_class p.classes e.frame.type_id ≡ o → IfSome o (λ c. IsVerdict g c (slice_index_or verdicts place other)) → IsRightFor g p (event_at e) (slice_index_or verdicts place other)
+      by_class : (o : Option Class) → find_class p.classes e.frame.type_id ≡ o → IfSome o (λ c. IsVerdict g c (slice_index_or verdicts place other))
+          → IsRightFor g p (event_at e) (slice_index_or verdicts place other)
       by_class None n v = absurd (placed p.classes refl (sym n))
       by_class (Some c) n v = v.each p (event_at e) (record { parts = parts; listed = in_contains (events_of p) (event_at e) listed; class = n })
 
 -- Where every class is kept, so is every event.
 module _ (g : Given) (p : Parts) (parts : AreParts p) where
-  class_kept : (k : Classes) (verdicts : List ClassVerdict) (test : Class → Bool) (c : Class) → AllZip (IsVerdict g) k verdicts → list_all is_kept verdicts ≡ true → find test k ≡ Some c → IsVerdict g c Kept
+  class_kept : (k : Classes) (verdicts : List ClassVerdict) (test : Class → Bool) (c : Class) → AllZip (IsVerdict g) k verdicts → list_all is_kept verdicts ≡ true → find test k ≡ Some c
+      → IsVerdict g c Kept
   class_kept [] verdicts test c z a e = cc
   class_kept (d ∷ k) [] test c z a e = absurd z
   class_kept (d ∷ k) (v ∷ verdicts) test c z a e = by_test (test d) refl e (class_kept k verdicts test c z.1 (and_parts (is_kept v) (list_all is_kept verdicts) a).1)

@@ -80,8 +80,13 @@ known k id e = by_class (find_class k id) refl (and_parts (nat_lt 1 id) (option_
     }
 
 -- One of a row of values.
-one_of_row : (k : Classes) (c : List ℕ) (at end number : ℕ) (fs : List Field) (f : Field) (vs : Values) (o : Option NodeAt) → AreValues k c at end (map (λ f. f.shape) fs) vs → slice_get fs number ≡ Some f → o ≡ slice_get (laid at (list_of vs)) number → (n : NodeAt) × (o ≡ Some n)
-one_of_row k c at end number fs f vs o r g e = (node_at f.shape (start_of at vs number) (start_of at vs (number + 1)), e ∙ (row_at k c at end (map (λ f. f.shape) fs) vs number f.shape r (slice_get-map (λ (f : Field). f.shape) fs number ∙ ap (option_map (λ (f : Field). f.shape)) g)).is)
+one_of_row : (k : Classes) (c : List ℕ) (at end number : ℕ) (fs : List Field) (f : Field) (vs : Values) (o : Option NodeAt) → AreValues k c at end (map (λ f. f.shape) fs) vs
+    → slice_get fs number ≡ Some f → o ≡ slice_get (laid at (list_of vs)) number → (n : NodeAt) × (o ≡ Some n)
+one_of_row k c at end number fs f vs o r g e = (
+  node_at f.shape (start_of at vs number) (start_of at vs (number + 1)),
+  e
+      ∙ (row_at k c at end (map (λ f. f.shape) fs) vs number f.shape r (slice_get-map (λ (f : Field). f.shape) fs number ∙ ap (option_map (λ (f : Field). f.shape)) g)).is,
+)
 
 module _ (p : Parts) (parts : AreParts p) (e : EventAt) (listed : In (events_of p) e) where
   pub event_known : IsSome (find_class p.classes e.record_of.type_id)
@@ -91,7 +96,8 @@ module _ (p : Parts) (parts : AreParts p) (e : EventAt) (listed : In (events_of 
   event_shape = (event_is p parts e listed).shape
 
   -- Where the class has a field, so has the event.
-  pub event_field : (c : Class) (name : List ℕ) (number : ℕ) → find_class p.classes e.record_of.type_id ≡ Some c → field_number c.fields name ≡ Some number → (n : NodeAt) × (child p.classes p.bytes e.node (steps.Field number) ≡ Some n)
+  pub event_field : (c : Class) (name : List ℕ) (number : ℕ) → find_class p.classes e.record_of.type_id ≡ Some c → field_number c.fields name ≡ Some number
+      → (n : NodeAt) × (child p.classes p.bytes e.node (steps.Field number) ≡ Some n)
   event_field c name number q f =
       let i = event_is p parts e listed in
       let k = known p.classes e.record_of.type_id (event_class p e listed) in

@@ -11,7 +11,8 @@ module _ (test : NodeAt → Bool) (p : Parts) where
   followed k n m t e = ap (λ z. if z then option_map_or (follow_while k test p) (follow p n) n else n) t ∙ ap (λ z. option_map_or (follow_while k test p) z n) e
 
   -- Following once more.
-  pub follows_on : (most count : ℕ) (start n m : NodeAt) → count < most → follow_while most test p start ≡ follow_while (most - count) test p n → test n ≡ true → Some m ≡ follow p n → follow_while most test p start ≡ follow_while (most - (count + 1)) test p m
+  pub follows_on : (most count : ℕ) (start n m : NodeAt) → count < most → follow_while most test p start ≡ follow_while (most - count) test p n → test n ≡ true → Some m ≡ follow p n
+      → follow_while most test p start ≡ follow_while (most - (count + 1)) test p m
   follows_on most count start n m l h t e =
       let q : most - count ≡ suc (most - (count + 1)) = omega arith in
       h ∙ (ap (λ z. follow_while z test p n) q ∙ followed (most - (count + 1)) n m t (sym e))

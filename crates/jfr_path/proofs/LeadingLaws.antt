@@ -34,7 +34,8 @@ use Rattle.jfr_path.proofs.TimeLaws.{signed_is, spelled}
 
 -- The fields of an event have the layouts of its class.
 module _ (p : Parts) (parts : AreParts p) (e : Event) (q : slice_get (events_of p) e.number ≡ Some (event_at e)) where
-  pub event_layouts : (k : Classes) (place : ℕ) (ss : List FieldLayout) → k ≡ p.classes → slice_get p.classes place ≡ find_class p.classes e.frame.type_id → IfSome (slice_get k place) (λ c. AreFieldLayouts k c.fields ss) → HasLayouts p (node_of e.node) ss
+  pub event_layouts : (k : Classes) (place : ℕ) (ss : List FieldLayout) → k ≡ p.classes → slice_get p.classes place ≡ find_class p.classes e.frame.type_id
+      → IfSome (slice_get k place) (λ c. AreFieldLayouts k c.fields ss) → HasLayouts p (node_of e.node) ss
   event_layouts k place ss h there l =
       let listed : In (events_of p) (event_at e) = get_in (events_of p) e.number (event_at e) q in
       let i = event_is p parts (event_at e) listed in
@@ -70,7 +71,8 @@ inline_marks false true e = cc
 inline_marks false false e = (refl, refl)
 
 -- The number of an inline `long`.
-long_of_is : (p : Parts) (m : NodeAt) (d : Class) → m.shape.array ≡ false → m.shape.constant ≡ false → find_class p.classes m.shape.class ≡ Some d → kind_of d.name ≡ kinds.Long → long_of p m ≡ Some (signed (worth_within 8 (node_bytes p.bytes m)))
+long_of_is : (p : Parts) (m : NodeAt) (d : Class) → m.shape.array ≡ false → m.shape.constant ≡ false → find_class p.classes m.shape.class ≡ Some d → kind_of d.name ≡ kinds.Long
+    → long_of p m ≡ Some (signed (worth_within 8 (node_bytes p.bytes m)))
 long_of_is p m d array constant found long =
     let by_long : Kind → Option ℤ = λ kind. long_by kind (node_bytes p.bytes m) in
     ap (λ t. if t then None else if m.shape.constant then None else option_and_then (λ (c : Class). by_long (kind_of c.name)) (find_class p.classes m.shape.class)) array

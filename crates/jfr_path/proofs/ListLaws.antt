@@ -18,7 +18,8 @@ pub map_next : {X Y : Type 0} (f : X → Y) (xs : List X) (i : ℕ) (x : X) → 
 map_next f xs i x g = ap (map f) (take_next xs i x g) ∙ map-append f (take i xs) (x ∷ [])
 
 -- A list that is made of one for each member of another.
-pub zip_next : {X Y : Type 0} (R : X → Y → Type 0) (xs : List X) (ys : List Y) (i : ℕ) (x : X) (y : Y) → slice_get xs i ≡ Some x → AllZip R (take i xs) ys → R x y → AllZip R (take (i + 1) xs) (ys ++ y ∷ [])
+pub zip_next : {X Y : Type 0} (R : X → Y → Type 0) (xs : List X) (ys : List Y) (i : ℕ) (x : X) (y : Y) → slice_get xs i ≡ Some x → AllZip R (take i xs) ys → R x y
+    → AllZip R (take (i + 1) xs) (ys ++ y ∷ [])
 zip_next R xs ys i x y g a r = subst (λ z. AllZip R z (ys ++ y ∷ [])) (sym (take_next xs i x g)) (zip_push R (take i xs) ys x y a r)
 
 -- The one for a member.

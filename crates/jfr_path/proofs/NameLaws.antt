@@ -17,19 +17,23 @@ then_then f g (Some x) = refl
 
 module _ (p : Parts) where
   -- The text, from the field of the first name on.
-  pub named_next : (name : List ℕ) (names : List (List ℕ)) (n : NodeAt) → named_text p n (name ∷ names) ≡ option_and_then (λ m. named_text p m names) (named_field p name (follow_while 16 is_reference p n))
+  pub named_next : (name : List ℕ) (names : List (List ℕ)) (n : NodeAt)
+      → named_text p n (name ∷ names) ≡ option_and_then (λ m. named_text p m names) (named_field p name (follow_while 16 is_reference p n))
   unfolding named_text
   named_next name names n = then_then (text_of p) (λ m. named_node p m names) (named_field p name (follow_while 16 is_reference p n))
 
-  name_there : (names : List (List ℕ)) (i : ℕ) (name : List ℕ) (n m : NodeAt) → Some name ≡ slice_get names i → m ≡ follow_while 16 is_reference p n → named_node p n (drop i names) ≡ option_and_then (λ z. named_node p z (drop (i + 1) names)) (named_field p name m)
+  name_there : (names : List (List ℕ)) (i : ℕ) (name : List ℕ) (n m : NodeAt) → Some name ≡ slice_get names i → m ≡ follow_while 16 is_reference p n
+      → named_node p n (drop i names) ≡ option_and_then (λ z. named_node p z (drop (i + 1) names)) (named_field p name m)
   name_there names i name n m e h = ap (named_node p n) (drop_at names i name e) ∙ ap (λ z. option_and_then (λ z. named_node p z (drop (i + 1) names)) (named_field p name z)) (sym h)
 
   -- The field of the next name.
-  pub named_on : (whole : Option NodeAt) (names : List (List ℕ)) (i : ℕ) (name : List ℕ) (n m to : NodeAt) → whole ≡ named_node p n (drop i names) → Some name ≡ slice_get names i → m ≡ follow_while 16 is_reference p n → Some to ≡ named_field p name m
+  pub named_on : (whole : Option NodeAt) (names : List (List ℕ)) (i : ℕ) (name : List ℕ) (n m to : NodeAt) → whole ≡ named_node p n (drop i names) → Some name ≡ slice_get names i
+      → m ≡ follow_while 16 is_reference p n → Some to ≡ named_field p name m
       → whole ≡ named_node p to (drop (i + 1) names)
   named_on whole names i name n m to w e h f = w ∙ (name_there names i name n m e h ∙ ap (option_and_then (λ z. named_node p z (drop (i + 1) names))) (sym f))
 
-  pub named_off : (whole : Option NodeAt) (names : List (List ℕ)) (i : ℕ) (name : List ℕ) (n m : NodeAt) → whole ≡ named_node p n (drop i names) → Some name ≡ slice_get names i → m ≡ follow_while 16 is_reference p n → None ≡ named_field p name m → None ≡ whole
+  pub named_off : (whole : Option NodeAt) (names : List (List ℕ)) (i : ℕ) (name : List ℕ) (n m : NodeAt) → whole ≡ named_node p n (drop i names) → Some name ≡ slice_get names i
+      → m ≡ follow_while 16 is_reference p n → None ≡ named_field p name m → None ≡ whole
   named_off whole names i name n m w e h f = sym (w ∙ (name_there names i name n m e h ∙ ap (option_and_then (λ z. named_node p z (drop (i + 1) names))) (sym f)))
 
   pub named_there : (names : List (List ℕ)) (n m : NodeAt) → Some m ≡ named_node p n names → text_of p m ≡ named_text p n names

@@ -32,7 +32,8 @@ module _ (o : Options) where
   match_kept matches i found a e = subst (λ z. IfSome z (λ found. found ≡ matches_of o i)) (sym e) (a i)
 
   -- What is found of both options.
-  pub of_both : (i : ℕ) (text : List ℕ) (first second : Bool) → text ≡ text_at o.strings i → first ≡ some_matches o.filter o.include text → second ≡ some_matches o.filter o.exclude text → (first, second) ≡ matches_of o i
+  pub of_both : (i : ℕ) (text : List ℕ) (first second : Bool) → text ≡ text_at o.strings i → first ≡ some_matches o.filter o.include text → second ≡ some_matches o.filter o.exclude text
+      → (first, second) ≡ matches_of o i
   of_both i text first second e f g =
       ap (λ b. (b, second)) (f ∙ ap (some_matches o.filter o.include) e) ∙ ap (λ b. (some_matches o.filter o.include (text_at o.strings i), b)) (g ∙ ap (some_matches o.filter o.exclude) e)
 
@@ -61,7 +62,8 @@ module _ (o : Options) where
 
   pub by_indices : (indices : List ℕ) → allows_texts o.filter o.include o.exclude (map (text_at o.strings) indices) ≡ allowed_by indices
   by_indices indices =
-      ap (λ b. (not (is_some (given_at o.include o.filter)) || b) && not (list_any (some_matches o.filter o.exclude) (map (text_at o.strings) indices))) (any_map (some_matches o.filter o.include) (text_at o.strings) indices)
+      ap (λ b. (not (is_some (given_at o.include o.filter)) || b) && not (list_any (some_matches o.filter o.exclude) (map (text_at o.strings) indices)))
+      (any_map (some_matches o.filter o.include) (text_at o.strings) indices)
       ∙ ap (λ b. (not (is_some (given_at o.include o.filter)) || list_any is_included indices) && not b) (any_map (some_matches o.filter o.exclude) (text_at o.strings) indices)
 
   -- The indices so far: whether one is included, and none is excluded.
@@ -86,21 +88,24 @@ module _ (o : Options) where
   and_true false = refl
 
   -- One more index, which is not excluded.
-  pub asked_next : (indices : List ℕ) (i x : ℕ) (included : Bool) → IsAsked indices i included → slice_get indices i ≡ Some x → is_excluded x ≡ false → IsAsked indices (i + 1) (included || is_included x)
+  pub asked_next : (indices : List ℕ) (i x : ℕ) (included : Bool) → IsAsked indices i included → slice_get indices i ≡ Some x → is_excluded x ≡ false
+      → IsAsked indices (i + 1) (included || is_included x)
   asked_next indices i x included k e f = record {
     included = or_assoc included (is_included x) (list_any is_included (drop (i + 1) indices)) ∙ (sym (ap (λ z. included || list_any is_included z) (drop_at_get indices i x e)) ∙ k.included);
     excluded = any_next is_excluded indices i x e f ∙ k.excluded;
   }
 
   -- One that is excluded.
-  pub asked_excluded : (indices : List ℕ) (i x : ℕ) (included : Bool) → IsAsked indices i included → slice_get indices i ≡ Some x → is_excluded x ≡ true → allows_texts o.filter o.include o.exclude (map (text_at o.strings) indices) ≡ false
+  pub asked_excluded : (indices : List ℕ) (i x : ℕ) (included : Bool) → IsAsked indices i included → slice_get indices i ≡ Some x → is_excluded x ≡ true
+      → allows_texts o.filter o.include o.exclude (map (text_at o.strings) indices) ≡ false
   asked_excluded indices i x included k e t =
       let there : list_any is_excluded indices ≡ true = sym k.excluded ∙ any_found is_excluded indices i x e t in
       let allowed = not (is_some (given_at o.include o.filter)) || list_any is_included indices in
       by_indices indices ∙ (ap (λ b. allowed && not b) there ∙ and_false allowed)
 
   -- All of them.
-  pub asked_all : (indices : List ℕ) (i : ℕ) (included : Bool) → IsAsked indices i included → length indices ≤ i → included ≡ allows_texts o.filter o.include o.exclude (map (text_at o.strings) indices)
+  pub asked_all : (indices : List ℕ) (i : ℕ) (included : Bool) → IsAsked indices i included → length indices ≤ i
+      → included ≡ allows_texts o.filter o.include o.exclude (map (text_at o.strings) indices)
   asked_all indices i included k l =
       let none : list_any is_excluded indices ≡ false = sym k.excluded ∙ any_end is_excluded indices i l in
       let allowed = not (is_some (given_at o.include o.filter)) || list_any is_included indices in
@@ -109,7 +114,8 @@ module _ (o : Options) where
 
 module _ (g : Given) (texts : List (List ℕ)) where
   -- A class by its name and by its categories.
-  pub class_by_names : (names : ClassNames) → is_named_allowed g texts names ≡ (allows_texts g IncludeEvents ExcludeEvents (text_at texts names.name ∷ []) && allows_texts g IncludeCategories ExcludeCategories (map (text_at texts) names.categories.items))
+  pub class_by_names : (names : ClassNames)
+      → is_named_allowed g texts names ≡ (allows_texts g IncludeEvents ExcludeEvents (text_at texts names.name ∷ []) && allows_texts g IncludeCategories ExcludeCategories (map (text_at texts) names.categories.items))
   class_by_names names = class_by_texts g (text_at texts names.name) (map (text_at texts) names.categories.items)
 
   -- The classes, by the strings that name them.

@@ -55,14 +55,20 @@ module _ (p : Parts) where
 
 module _ (g : Given) (p : Parts) where
   -- A verdict that was kept.
-  pub text_kept : (verdicts : BTreeMap (ℕ × ℕ) (Option Bool)) (n : NodeAt) (s : Content) (said : Option Bool) → AreTextVerdicts g p verdicts → string_of p n ≡ Some s → Some said ≡ tree.get pair_cmp verdicts (n.at, n.end) → said ≡ allows_if_named g (strings.text_of s)
+  pub text_kept : (verdicts : BTreeMap (ℕ × ℕ) (Option Bool)) (n : NodeAt) (s : Content) (said : Option Bool) → AreTextVerdicts g p verdicts → string_of p n ≡ Some s
+      → Some said ≡ tree.get pair_cmp verdicts (n.at, n.end) → said ≡ allows_if_named g (strings.text_of s)
   text_kept verdicts n s said a h e = subst (λ z. IfSome z (λ said. said ≡ allows_if_named g (strings.text_of s))) (sym e) (a.each n s h)
 
   -- A verdict more.
-  pub texts_next : (old new : BTreeMap (ℕ × ℕ) (Option Bool)) (n : NodeAt) (s : Content) (said : Option Bool) → AreTextVerdicts g p old → string_of p n ≡ Some s → said ≡ allows_if_named g (strings.text_of s) → tree.Updates pair_cmp old new (n.at, n.end) (Some said) → AreTextVerdicts g p new
-  texts_next old new n s said a h e up = record { each = λ m t f. subst (λ z. IfSome z (λ said. said ≡ allows_if_named g (strings.text_of t))) (sym (up.0 (m.at, m.end))) (by_place m t f (is_at (pair_cmp (n.at, n.end)) (m.at, m.end)) refl) }
+  pub texts_next : (old new : BTreeMap (ℕ × ℕ) (Option Bool)) (n : NodeAt) (s : Content) (said : Option Bool) → AreTextVerdicts g p old → string_of p n ≡ Some s
+      → said ≡ allows_if_named g (strings.text_of s) → tree.Updates pair_cmp old new (n.at, n.end) (Some said) → AreTextVerdicts g p new
+  texts_next old new n s said a h e up = record {
+    each = λ m t f. subst (λ z. IfSome z (λ said. said ≡ allows_if_named g (strings.text_of t))) (sym (up.0 (m.at, m.end)))
+        (by_place m t f (is_at (pair_cmp (n.at, n.end)) (m.at, m.end)) refl);
+  }
     where
-      by_place : (m : NodeAt) (t : Content) → string_of p m ≡ Some t → (b : Bool) → is_at (pair_cmp (n.at, n.end)) (m.at, m.end) ≡ b → IfSome (cond b (Some said) (tree.get pair_cmp old (m.at, m.end))) (λ said. said ≡ allows_if_named g (strings.text_of t))
+      by_place : (m : NodeAt) (t : Content) → string_of p m ≡ Some t → (b : Bool) → is_at (pair_cmp (n.at, n.end)) (m.at, m.end) ≡ b
+          → IfSome (cond b (Some said) (tree.get pair_cmp old (m.at, m.end))) (λ said. said ≡ allows_if_named g (strings.text_of t))
       by_place m t f true q =
           let same = exact_pairs nat_cmp nat_cmp exact_unsigned exact_unsigned (n.at, n.end) (m.at, m.end) ((Equal-is (pair_cmp (n.at, n.end) (m.at, m.end))).0 q) in
           e ∙ ap (λ z. allows_if_named g (strings.text_of z)) (one_string p n m s t h f (ap (λ (z : ℕ × ℕ). z.0) same) (ap (λ (z : ℕ × ℕ). z.1) same))

@@ -62,19 +62,24 @@ module _ (p : Parts) (parts : AreParts p) (t : ℕ × ℕ) where
     same_allowed g = ap (allows_thread g) (λ i. or_else (same_text (codes "javaName") [] i) (same_text (codes "osName") [] i))
 
 -- What a reference that the code hands around refers to.
-pub referred_to : (p : Parts) (n : Node) (o : Option (ℕ × ℕ)) → IsValue p.classes n → n.bytes.now ≡ p.bytes → is_reference (node_of n) ≡ true → o ≡ target p.classes p.bytes (node_of n) → IfSome o (λ t. IsReferenceTo p t (node_of n))
+pub referred_to : (p : Parts) (n : Node) (o : Option (ℕ × ℕ)) → IsValue p.classes n → n.bytes.now ≡ p.bytes → is_reference (node_of n) ≡ true → o ≡ target p.classes p.bytes (node_of n)
+    → IfSome o (λ t. IsReferenceTo p t (node_of n))
 referred_to p n None v b r e = tt
 referred_to p n (Some t) v b r e = let w = value_place p n b v in record { value = w.0; node = w.1; reference = r; target = sym e }
 
 -- A verdict that was kept.
-pub verdict_kept : (g : Given) (p : Parts) (verdicts : BTreeMap (ℕ × ℕ) Bool) (t : ℕ × ℕ) (n : NodeAt) (allowed : Bool) → AreVerdicts g p verdicts → IsReferenceTo p t n → Some allowed ≡ tree.get pair_cmp verdicts t → allowed ≡ allows_thread_at g p n
+pub verdict_kept : (g : Given) (p : Parts) (verdicts : BTreeMap (ℕ × ℕ) Bool) (t : ℕ × ℕ) (n : NodeAt) (allowed : Bool) → AreVerdicts g p verdicts → IsReferenceTo p t n
+    → Some allowed ≡ tree.get pair_cmp verdicts t → allowed ≡ allows_thread_at g p n
 verdict_kept g p verdicts t n allowed a r e = subst (λ z. IfSome z (λ allowed. allowed ≡ allows_thread_at g p n)) (sym e) (a.each t n r)
 
 -- A verdict more.
-pub verdicts_next : (g : Given) (p : Parts) (old new : BTreeMap (ℕ × ℕ) Bool) (t : ℕ × ℕ) (n : NodeAt) (allowed : Bool) → AreParts p → AreVerdicts g p old → IsReferenceTo p t n → allowed ≡ allows_thread_at g p n → tree.Updates pair_cmp old new t (Some allowed) → AreVerdicts g p new
-verdicts_next g p old new t n allowed parts a r e up = record { each = λ u m s. subst (λ z. IfSome z (λ allowed. allowed ≡ allows_thread_at g p m)) (sym (up.0 u)) (by_key u m s (is_at (pair_cmp t) u) refl) }
+pub verdicts_next : (g : Given) (p : Parts) (old new : BTreeMap (ℕ × ℕ) Bool) (t : ℕ × ℕ) (n : NodeAt) (allowed : Bool) → AreParts p → AreVerdicts g p old → IsReferenceTo p t n
+    → allowed ≡ allows_thread_at g p n → tree.Updates pair_cmp old new t (Some allowed) → AreVerdicts g p new
+verdicts_next g p old new t n allowed parts a r e up =
+    record { each = λ u m s. subst (λ z. IfSome z (λ allowed. allowed ≡ allows_thread_at g p m)) (sym (up.0 u)) (by_key u m s (is_at (pair_cmp t) u) refl) }
   where
-    by_key : (u : ℕ × ℕ) (m : NodeAt) → IsReferenceTo p u m → (b : Bool) → is_at (pair_cmp t) u ≡ b → IfSome (cond b (Some allowed) (tree.get pair_cmp old u)) (λ allowed. allowed ≡ allows_thread_at g p m)
+    by_key : (u : ℕ × ℕ) (m : NodeAt) → IsReferenceTo p u m → (b : Bool) → is_at (pair_cmp t) u ≡ b
+        → IfSome (cond b (Some allowed) (tree.get pair_cmp old u)) (λ allowed. allowed ≡ allows_thread_at g p m)
     by_key u m s true q =
         let same : t ≡ u = exact_pairs nat_cmp nat_cmp exact_unsigned exact_unsigned t u ((Equal-is (pair_cmp t u)).0 q) in
         e ∙ same_allowed p parts t n m r (subst (λ z. IsReferenceTo p z m) (sym same) s) g

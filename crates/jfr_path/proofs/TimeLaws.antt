@@ -34,7 +34,8 @@ signed_is n h = let e : n % 2 ^ 64 ≡ n = omega arith in ap (cast_signed w64) (
 pub no_times : (c : Class) (o : Option ℕ) → o ≡ None → o ≡ field_number c.fields (codes "startTime") → None ≡ times_of c
 no_times c o n e = ap (option_map (λ start. record { start = start; duration = field_number c.fields (codes "duration") })) (sym n ∙ e)
 
-pub these_times : (c : Class) (o : Option ℕ) (start : ℕ) (duration : Option ℕ) → o ≡ Some start → o ≡ field_number c.fields (codes "startTime") → duration ≡ field_number c.fields (codes "duration") → Some (record { start = start; duration = duration }) ≡ times_of c
+pub these_times : (c : Class) (o : Option ℕ) (start : ℕ) (duration : Option ℕ) → o ≡ Some start → o ≡ field_number c.fields (codes "startTime") → duration ≡ field_number c.fields (codes "duration")
+    → Some (record { start = start; duration = duration }) ≡ times_of c
 these_times c o start duration s e d =
     ap (λ z. Some (record { start = start; duration = z })) d ∙ ap (option_map (λ start. record { start = start; duration = field_number c.fields (codes "duration") })) (sym s ∙ e)
 
@@ -53,7 +54,8 @@ module _ (p : Parts) (n : Node) (value : IsValue p.classes n) (bytes : n.bytes.n
   found : (d : Class) × (find_class p.classes n.shape.class ≡ Some d) × (kind_of d.name ≡ kinds.Long)
   found = by_class (find_class p.classes n.shape.class) refl (long ∙ ap (λ (z : Classes). option_map (λ (c : Class). kind_of c.name) (find_class z n.shape.class)) same)
     where
-      by_class : (o : Option Class) → find_class p.classes n.shape.class ≡ o → Some kinds.Long ≡ option_map (λ c. kind_of c.name) o → (d : Class) × (find_class p.classes n.shape.class ≡ Some d) × (kind_of d.name ≡ kinds.Long)
+      by_class : (o : Option Class) → find_class p.classes n.shape.class ≡ o → Some kinds.Long ≡ option_map (λ c. kind_of c.name) o
+          → (d : Class) × (find_class p.classes n.shape.class ≡ Some d) × (kind_of d.name ≡ kinds.Long)
       by_class None q e = cc
       by_class (Some d) q e = (d, q, (let x : Some kinds.Long ≡ Some (kind_of d.name) = e in cc))
 
@@ -92,7 +94,8 @@ module _ (p : Parts) (c : Class) (e : EventAt) (o : IsOfClass p c e) where
     abbrev lasting : ℤ
     lasting = option_map_or or_zero (option_and_then (number_at p e.node) duration_field) (pos 0)
 
-    by_start : (s : Option ℕ) → option_map_or (λ t. is_in g (clock_of p.bytes) t lasting) (option_and_then (number_at p e.node) s) false ≡ option_map_or (is_timely g p e.node) (option_map (λ start. record { start = start; duration = duration_field }) s) false
+    by_start : (s : Option ℕ)
+        → option_map_or (λ t. is_in g (clock_of p.bytes) t lasting) (option_and_then (number_at p e.node) s) false ≡ option_map_or (is_timely g p e.node) (option_map (λ start. record { start = start; duration = duration_field }) s) false
     by_start None = refl
     by_start (Some start) = refl
 

@@ -139,7 +139,8 @@ module _ (g : Given) (c : Class) where
   pub dropped_by_thread : AllowsThreads g c None → IsVerdict g c Dropped
   dropped_by_thread t = record { each = λ p e o. refused_thread p c e o g (t.each p e o) }
 
-  pub asked : (times : Option Times) (thread : Option ℕ) → allows_class g c.name c.categories ≡ true → AllowsTimes g c (Some times) → AllowsThreads g c (Some thread) → IsVerdict g c (Asked times thread)
+  pub asked : (times : Option Times) (thread : Option ℕ) → allows_class g c.name c.categories ≡ true → AllowsTimes g c (Some times) → AllowsThreads g c (Some thread)
+      → IsVerdict g c (Asked times thread)
   asked times thread a t h = record {
     each = λ p e o.
         asked_both p c e o g a

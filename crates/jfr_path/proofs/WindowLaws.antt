@@ -55,7 +55,8 @@ module _ (start first duration t b d : ℤ) (p : start ≡ t) (q : first ≡ b) 
 
 -- An event that ends before the window, and one that doesn't.
 module _ (w : Window) (b t d : ℤ) (from to : Option ℤ) (is : w ≡ Between b from to) where
-  ends_too : {until : ℤ} (ends : Bool) → ends ≡ option_map_or (λ a. int_le a until) from true → until ≡ ((t +ℤ d) -ℤ b) *ℤ pos 1000000000 → ends ≡ option_map_or (λ a. int_le a (((t +ℤ d) -ℤ b) *ℤ pos 1000000000)) from true
+  ends_too : {until : ℤ} (ends : Bool) → ends ≡ option_map_or (λ a. int_le a until) from true → until ≡ ((t +ℤ d) -ℤ b) *ℤ pos 1000000000
+      → ends ≡ option_map_or (λ a. int_le a (((t +ℤ d) -ℤ b) *ℤ pos 1000000000)) from true
   ends_too ends e u = e ∙ ap (λ z. option_map_or (λ a. int_le a z) from true) u
 
   pub ends_before : {until : ℤ} (ends : Bool) → ends ≡ option_map_or (λ a. int_le a until) from true → ends ≡ false → until ≡ ((t +ℤ d) -ℤ b) *ℤ pos 1000000000 → false ≡ has w t d
@@ -80,7 +81,8 @@ module _ (k : Clock) where
   starts_same x (Some m) = refl
 
 -- The billionths until a moment, by the numbers in the header.
-pub until_same : (p : Parts) (moment given : Option ℤ) (nanos rate : ℤ) (until : Option ℤ) → until ≡ option_map (λ m. (m -ℤ nanos) *ℤ rate) moment → moment ≡ given → nanos ≡ (clock_of p.bytes).nanos → rate ≡ (clock_of p.bytes).rate → until ≡ option_map (billionths (clock_of p.bytes)) given
+pub until_same : (p : Parts) (moment given : Option ℤ) (nanos rate : ℤ) (until : Option ℤ) → until ≡ option_map (λ m. (m -ℤ nanos) *ℤ rate) moment → moment ≡ given → nanos ≡ (clock_of p.bytes).nanos
+    → rate ≡ (clock_of p.bytes).rate → until ≡ option_map (billionths (clock_of p.bytes)) given
 until_same p moment given nanos rate until u m n r =
     u ∙ (ap (option_map (λ m. (m -ℤ nanos) *ℤ rate)) m
     ∙ (ap (λ z. option_map (λ m. (m -ℤ z) *ℤ rate) given) n ∙ ap (λ z. option_map (λ m. (m -ℤ (clock_of p.bytes).nanos) *ℤ z) given) r))
@@ -100,7 +102,8 @@ module _ (g : Given) (p : Parts) where
       is_positive : (z : ℤ) → le_z z (pos 0) ≡ false → int_lt (pos 0) z ≡ true
       is_positive z l = grind (arith, ints)
 
-  pub between : (start : ℤ) (from to : Option ℤ) → int_lt (pos 0) clock.rate ≡ true → start ≡ clock.ticks → from ≡ option_map (billionths clock) g.from → to ≡ option_map (billionths clock) g.to → IsWindowOf g p (Between start from to)
+  pub between : (start : ℤ) (from to : Option ℤ) → int_lt (pos 0) clock.rate ≡ true → start ≡ clock.ticks → from ≡ option_map (billionths clock) g.from → to ≡ option_map (billionths clock) g.to
+      → IsWindowOf g p (Between start from to)
   unfolding is_in
   between start from to r s f t = record {
     has_same = λ x d.

@@ -111,7 +111,8 @@ if_all (Some w) F f = f w
 
 -- The plan's end, or out of memory.
 complete_clause : (k : Task) (ended : CommandEnd) (a b : Outside) → IsAfterTask k ended a b → Tallied k.target ended a b → IsComplete k ended a b
-complete_clause k (Ends e) a b t c = λ p q. before_of a.place.contents b.place.contents (λ w v. AllDone (k.plan w) e (snapshot w a.sink.written) (snapshot v b.sink.written)) (λ w. IsPlanned (Ends e) (k.plan w).end) t (λ w v h. ByPlan e refl h.end)
+complete_clause k (Ends e) a b t c = λ p q. before_of a.place.contents b.place.contents (λ w v. AllDone (k.plan w) e (snapshot w a.sink.written) (snapshot v b.sink.written))
+    (λ w. IsPlanned (Ends e) (k.plan w).end) t (λ w v h. ByPlan e refl h.end)
 complete_clause k NotRead a b t c = λ p q. absurd (p c.0.1)
 complete_clause k NotWritten a b t c = λ p q. absurd (q (written_rose k.target a b c))
 complete_clause k RanOut a b t c = λ p q. if_all a.place.contents (λ w. IsPlanned RanOut (k.plan w).end) (λ w. ForMemory refl)
@@ -155,7 +156,9 @@ ran k e a b never t c =
 -- A steady place that has the file gives no read fault.
 never_halts : (r : Rule) (input : List ℕ) → NeverHalts (over r input)
 never_halts r input a b c h =
-    let none = told_at a.place.contents c.world (λ w. file w input ≡ None) c.contents (before_of a.place.contents b.place.contents (λ w v. HaltedIn a.place.steady r [] (file w input) v.input (snapshot w a.sink.written) (snapshot v b.sink.written)) (λ w. file w input ≡ None) h (λ w v z. z.1 c.steady)) in
+    let none = told_at a.place.contents c.world (λ w. file w input ≡ None) c.contents
+    (before_of a.place.contents b.place.contents (λ w v. HaltedIn a.place.steady r [] (file w input) v.input (snapshot w a.sink.written) (snapshot v b.sink.written)) (λ w. file w input ≡ None) h
+    (λ w v z. z.1 c.steady)) in
     some_none (file c.world input) none c.there
 
 -- A rule over one input.
@@ -184,30 +187,38 @@ none_breaks (a ∷ all) (b ∷ before) rest e s c p k =
 opened_some : (s : Snapshot) (n : List ℕ) → s.output ≡ Some n → s.output ≡ None → ⊥
 opened_some s n e f = cc
 
-walks_on : (k : Option Flaw) (m n : List ℕ) (number : ℕ) (s : Snapshot) (later : Walk) → s.output ≡ Some n → ((t : Snapshot) → t.output ≡ Some n → Cans (effects later.steps) t) → Cans (effects (walk_on (asks_made k number m) number later).steps) s
+walks_on : (k : Option Flaw) (m n : List ℕ) (number : ℕ) (s : Snapshot) (later : Walk) → s.output ≡ Some n → ((t : Snapshot) → t.output ≡ Some n → Cans (effects later.steps) t)
+    → Cans (effects (walk_on (asks_made k number m) number later).steps) s
 walks_on (Some f) m n number s later o h = tt
 walks_on None m n number s later o h = (opened_some s n o, h (apply (Append m) s) o)
 
-cans_walk : (k : List ℕ → Option Flaw) (m : List ℕ → List ℕ) (output n : List ℕ) (before cs : List (List ℕ)) (flaw : Option Flaw) (s : Snapshot) → s.output ≡ Some n → Cans (effects (walk (making output k m) before cs flaw).steps) s
+cans_walk : (k : List ℕ → Option Flaw) (m : List ℕ → List ℕ) (output n : List ℕ) (before cs : List (List ℕ)) (flaw : Option Flaw) (s : Snapshot) → s.output ≡ Some n
+    → Cans (effects (walk (making output k m) before cs flaw).steps) s
 cans_walk k m output n before [] None s o = (opened_some s n o, tt)
 cans_walk k m output n before [] (Some f) s o = tt
-cans_walk k m output n before (c ∷ cs) flaw s o = walks_on (k c) (m c) n (length before + 1) s (walk (making output k m) (before ++ c ∷ []) cs flaw) o (λ t p. cans_walk k m output n (before ++ c ∷ []) cs flaw t p)
+cans_walk k m output n before (c ∷ cs) flaw s o =
+    walks_on (k c) (m c) n (length before + 1) s (walk (making output k m) (before ++ c ∷ []) cs flaw) o (λ t p. cans_walk k m output n (before ++ c ∷ []) cs flaw t p)
 
-cans_plan : (k : List ℕ → Option Flaw) (m : List ℕ → List ℕ) (output : List ℕ) (x : Option (List ℕ)) (s : Snapshot) → (Cannot (Create output) s → ⊥) → Cans (effects (plan_after (making output k m) [] x).steps) s
+cans_plan : (k : List ℕ → Option Flaw) (m : List ℕ → List ℕ) (output : List ℕ) (x : Option (List ℕ)) (s : Snapshot) → (Cannot (Create output) s → ⊥)
+    → Cans (effects (plan_after (making output k m) [] x).steps) s
 cans_plan k m output None s h = tt
 cans_plan k m output (Some x) s h = (h, cans_walk k m output output [] (cut_after [] x).chunks (cut_after [] x).flaw (apply (Create output) s) refl)
 
-no_write_fault : (k : List ℕ → Option Flaw) (m : List ℕ → List ℕ) (input output : List ℕ) (e : Ending) (a b : Outside) → CanCreate output a.place → After (making output k m) [] input (command_end e) a b → e ≡ WriteFault → ⊥
+no_write_fault : (k : List ℕ → Option Flaw) (m : List ℕ → List ℕ) (input output : List ℕ) (e : Ending) (a b : Outside) → CanCreate output a.place
+    → After (making output k m) [] input (command_end e) a b → e ≡ WriteFault → ⊥
 no_write_fault k m input output e a b c t is =
     let r = making output k m in
     let h : After r [] input NotWritten a b = subst (λ (y : Ending). After r [] input (command_end y) a b) is t in
     told_at a.place.contents c.world (λ w. (file w output ≡ None) → (w.output ≡ None) → ⊥) c.contents
-    (before_of a.place.contents b.place.contents (λ w v. Breaks a.place.steady (effects (plan_in r input w).steps) (snapshot w a.sink.written) (snapshot v b.sink.written)) (λ w. (file w output ≡ None) → (w.output ≡ None) → ⊥) h
-    (λ w v z new none. none_breaks (effects (plan_in r input w).steps) z.first z.rest z.failed (snapshot w a.sink.written) (cans_plan k m output (file w input) (snapshot w a.sink.written) (λ y. some_none w.output none (y new))) z.parts (z.cause c.steady)))
+    (before_of a.place.contents b.place.contents (λ w v. Breaks a.place.steady (effects (plan_in r input w).steps) (snapshot w a.sink.written) (snapshot v b.sink.written))
+    (λ w. (file w output ≡ None) → (w.output ≡ None) → ⊥) h
+    (λ w v z new none. none_breaks (effects (plan_in r input w).steps) z.first z.rest z.failed (snapshot w a.sink.written)
+    (cans_plan k m output (file w input) (snapshot w a.sink.written) (λ y. some_none w.output none (y new))) z.parts (z.cause c.steady)))
     c.new c.closed
 
 -- A steady place without an open output gives no write fault for a new name.
-pub can_create : (k : List ℕ → Option Flaw) (m : List ℕ → List ℕ) (input output : List ℕ) (e : Ending) (a b : Outside) → After (making output k m) [] input (command_end e) a b → Tallied File (command_end e) a b → CanCreate output a.place → (e ≢ WriteFault) × (b.place.write_faults ≡ a.place.write_faults)
+pub can_create : (k : List ℕ → Option Flaw) (m : List ℕ → List ℕ) (input output : List ℕ) (e : Ending) (a b : Outside) → After (making output k m) [] input (command_end e) a b
+    → Tallied File (command_end e) a b → CanCreate output a.place → (e ≢ WriteFault) × (b.place.write_faults ≡ a.place.write_faults)
 can_create k m input output e a b t c can =
     let no = no_write_fault k m input output e a b can t in
     (no, writes_clause File e a b c no)

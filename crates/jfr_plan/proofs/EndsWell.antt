@@ -38,7 +38,8 @@ some_end : (a b : End) → ◌≡◌ {A = Option End} (Some a) (Some b) → a �
 some_end a b e = cc
 
 -- A plan over a file ends well exactly if the file is cut without a flaw and all its chunks go on.
-pub plan_ends_well : (r : Rule) (earlier : List (List ℕ)) (x : List ℕ) → NeverStopsWell r → ((plan_after r earlier (Some x)).end ≡ Some Fine) ↔ ((cut_after earlier x).flaw ≡ None) × AllGo r earlier (cut_after earlier x).chunks
+pub plan_ends_well : (r : Rule) (earlier : List (List ℕ)) (x : List ℕ) → NeverStopsWell r
+    → ((plan_after r earlier (Some x)).end ≡ Some Fine) ↔ ((cut_after earlier x).flaw ≡ None) × AllGo r earlier (cut_after earlier x).chunks
 plan_ends_well r earlier x n =
     let cuts = cut_after earlier x in (
       λ h. well_goes r earlier cuts.chunks cuts.flaw n (some_end (walk r earlier cuts.chunks cuts.flaw).end Fine h),
@@ -64,7 +65,8 @@ ends_well r Good x n h =
     )
 
 -- The work that makes an output chunk of each chunk ends well exactly if none is refused.
-pub making_ends_well : (output : List ℕ) (refusal : List ℕ → Option Flaw) (becomes : List ℕ → List ℕ) (x : List ℕ) → ((plan_after (making output refusal becomes) [] (Some x)).end ≡ Some Fine) ↔ AllAccepted refusal x
+pub making_ends_well : (output : List ℕ) (refusal : List ℕ → Option Flaw) (becomes : List ℕ → List ℕ) (x : List ℕ)
+    → ((plan_after (making output refusal becomes) [] (Some x)).end ≡ Some Fine) ↔ AllAccepted refusal x
 making_ends_well output refusal becomes x =
     ends_well (making output refusal becomes) (λ c. refusal c ≡ None) x (λ before c. never (refusal c) (length before + 1) (becomes c)) (λ before c. goes (refusal c) (length before + 1) (becomes c))
   where

@@ -90,9 +90,11 @@ leaves_none a b o x y h = λ sink.
     (λ w v k. (k.0, record { first = a; rest = b; parts = refl; holds = k.1.1 }))
 
 -- One part went on, and then the next was done.
-pub leaves_then : (a b : List Effect) (o : Unit {0}) (r : Result (Unit {0}) Ending) (x y z : State) → PlaceCounts (Ok o) x y → IsPlaceAfter a (Ok o) x y → IsPlaceAfter b r y z → IsPlaceAfter (a ++ b) r x z
+pub leaves_then : (a b : List Effect) (o : Unit {0}) (r : Result (Unit {0}) Ending) (x y z : State) → PlaceCounts (Ok o) x y → IsPlaceAfter a (Ok o) x y → IsPlaceAfter b r y z
+    → IsPlaceAfter (a ++ b) r x z
 leaves_then a b o r x y z c h k = λ sink.
-    chain_known x.contents y.contents z.contents (PartWorld x.steady (Goes a) (Ok o) sink.written sink.written) (PartWorld x.steady (Goes b) r sink.written sink.written) (PartWorld x.steady (Goes (a ++ b)) r sink.written sink.written) (h sink)
+    chain_known x.contents y.contents z.contents (PartWorld x.steady (Goes a) (Ok o) sink.written sink.written) (PartWorld x.steady (Goes b) r sink.written sink.written)
+    (PartWorld x.steady (Goes (a ++ b)) r sink.written sink.written) (h sink)
     (subst (λ (st : Bool). IfKnown y.contents z.contents (PartWorld st (Goes b) r sink.written sink.written)) (c sink).3 (k sink))
     (λ w v u p q. (q.0 ∙ p.0, stands_after x.steady a b r (snapshot w sink.written) (snapshot v sink.written) (snapshot u sink.written) p.1.1 q.1))
 

@@ -35,7 +35,8 @@ none_whole_by n m (Chunk c) next h k = grind (arith, common_steps)
 
 -- Fewer bytes than the reach hold no chunk whole.
 pub none_whole : (n : ℕ) (x : List ℕ) (s : ℕ) (f : Bool) → n < reach x → whole_in n (cut x s f).chunks ≡ 0
-none_whole n x s f k = ap (λ (y : Cuts). whole_in n y.chunks) (cut_open x s f) ∙ none_whole_by n (reach x) (front x s f) (λ c. cut_within (length x) (drop (length c) x) (s + length c) false) (reaches x s f) k
+none_whole n x s f k = ap (λ (y : Cuts). whole_in n y.chunks) (cut_open x s f) ∙ none_whole_by n (reach x) (front x s f) (λ c. cut_within (length x) (drop (length c) x) (s + length c) false)
+    (reaches x s f) k
 
 -- If a header is flawed, this number of bytes ends before the 68 bytes of that header.
 abbrev pub BelowHeader : ℕ → Cuts → Type 0
@@ -54,7 +55,8 @@ below_header_by n m (Chunk c) next h k =
 
 -- Fewer bytes than the reach.
 below_header : (n : ℕ) (x : List ℕ) (s : ℕ) (f : Bool) → n < reach x → BelowHeader n (cut x s f)
-below_header n x s f k = subst (BelowHeader n) (sym (cut_open x s f)) (below_header_by n (reach x) (front x s f) (λ c. cut_within (length x) (drop (length c) x) (s + length c) false) (reaches x s f) k)
+below_header n x s f k = subst (BelowHeader n) (sym (cut_open x s f))
+    (below_header_by n (reach x) (front x s f) (λ c. cut_within (length x) (drop (length c) x) (s + length c) false) (reaches x s f) k)
 
 whole_one : (n m : ℕ) (a : ℕ) → m ≤ n → (if nat_le m n then a + 1 else 0) ≡ a + 1
 whole_one n m a h = grind (arith, common_steps)
@@ -113,7 +115,8 @@ end_none r n p (Some f) = refl
 
 on_none : (a : Asked) (n k : ℕ) (later : Walk) → n < k → keep_met (Some n) later.steps ≡ [] → keep_met (Some n) (walk_on a k later).steps ≡ []
 on_none (Stops e) n k later h e' = refl
-on_none (Goes es) n k later h e' = keep_append (Some n) (needing (Chunks k) es) later.steps ∙ ap (λ (l : List Step). l ++ keep_met (Some n) later.steps) (keep_none (Some n) (Chunks k) es (unmet k n h)) ∙ e'
+on_none (Goes es) n k later h e' = keep_append (Some n) (needing (Chunks k) es) later.steps
+    ∙ ap (λ (l : List Step). l ++ keep_met (Some n) later.steps) (keep_none (Some n) (Chunks k) es (unmet k n h)) ∙ e'
 
 -- The needs of the steps from chunk n on aren't met by n chunks.
 pub kept_none : (r : Rule) (n : ℕ) (p q : List (List ℕ)) (flaw : Option Flaw) → n ≤ length p → keep_met (Some n) (walk r p q flaw).steps ≡ []
@@ -122,7 +125,8 @@ kept_none r n p (c ∷ q) flaw h =
     let l : length (p ++ c ∷ []) ≡ length p + 1 = length-append p (c ∷ []) in
     on_none (r.asks p c) n (length p + 1) (walk r (p ++ c ∷ []) q flaw) (omega (arith, h)) (kept_none r n (p ++ c ∷ []) q flaw (omega (arith, l, h)))
 
-pub kept_past : (r : Rule) (n : ℕ) (p q later : List (List ℕ)) (flaw : Option Flaw) → AllGo r p q → n ≡ length p + length q → effects (keep_met (Some n) (walk r p (q ++ later) flaw).steps) ≡ gone r p q
+pub kept_past : (r : Rule) (n : ℕ) (p q later : List (List ℕ)) (flaw : Option Flaw) → AllGo r p q → n ≡ length p + length q
+    → effects (keep_met (Some n) (walk r p (q ++ later) flaw).steps) ≡ gone r p q
 kept_past r n p [] later flaw g h = ap effects (kept_none r n p later flaw (omega (arith, h)))
 kept_past r n p (c ∷ q) later flaw g h =
     let inner = walk r (p ++ c ∷ []) (q ++ later) flaw in
@@ -145,7 +149,8 @@ take_first p q = grind (arith, common_steps)
 drop_front : (x y : List ℕ) → drop (length x) (x ++ y) ≡ y
 drop_front x y = grind (arith, common_steps)
 
-below_after : (n : ℕ) (p : List ℕ) (cs : List ℕ) (o : Option Flaw) → IfSome o (λ f. is_header f.reason ≡ true → n < length cs + 68) → IfSome o (λ f. is_header f.reason ≡ true → length p + n < length (p ++ cs) + 68)
+below_after : (n : ℕ) (p : List ℕ) (cs : List ℕ) (o : Option Flaw) → IfSome o (λ f. is_header f.reason ≡ true → n < length cs + 68)
+    → IfSome o (λ f. is_header f.reason ≡ true → length p + n < length (p ++ cs) + 68)
 below_after n p cs None h = tt
 below_after n p cs (Some f) h = λ y. let k : n < length cs + 68 = h y in let l : length (p ++ cs) ≡ length p + length cs = length-append p cs in omega (arith, l, k)
 
@@ -162,7 +167,8 @@ pub record Stuck (r : Rule) (earlier : List (List ℕ)) (x left : List ℕ) (bef
   pub less : length bytes < reach rest
 
 -- The bytes taken hold these chunks whole and no more.
-stuck_count : (r : Rule) (earlier : List (List ℕ)) (x left : List ℕ) (before : List (List ℕ)) (bytes : List ℕ) → Stuck r earlier x left before bytes → held_count earlier x (joined before ++ bytes) ≡ length before
+stuck_count : (r : Rule) (earlier : List (List ℕ)) (x left : List ℕ) (before : List (List ℕ)) (bytes : List ℕ) → Stuck r earlier x left before bytes
+    → held_count earlier x (joined before ++ bytes) ≡ length before
 stuck_count r earlier x left before bytes h =
     let later = (cut h.rest h.start h.first).chunks in
     let n : length (joined before ++ bytes) ≡ length (joined before) + length bytes = length-append (joined before) bytes in
@@ -180,7 +186,8 @@ stuck_chunks r earlier x left before bytes h =
     ∙ ap (take (length before)) h.chunks ∙ take_first before (cut h.rest h.start h.first).chunks
 
 -- The effects whose needs are met by the chunks at which the command doesn't end are those for these chunks.
-kept_is : (r : Rule) (earlier : List (List ℕ)) (x : List ℕ) (before later : List (List ℕ)) → (cut_after earlier x).chunks ≡ before ++ later → AllGo r earlier before → effects (keep_met (Some (length earlier + length before)) (plan_after r earlier (Some x)).steps) ≡ r.opens ++ gone r earlier before
+kept_is : (r : Rule) (earlier : List (List ℕ)) (x : List ℕ) (before later : List (List ℕ)) → (cut_after earlier x).chunks ≡ before ++ later → AllGo r earlier before
+    → effects (keep_met (Some (length earlier + length before)) (plan_after r earlier (Some x)).steps) ≡ r.opens ++ gone r earlier before
 kept_is r earlier x before later cs go =
     let n = length earlier + length before in
     let w = walk r earlier (before ++ later) (cut_after earlier x).flaw in
@@ -191,7 +198,8 @@ kept_is r earlier x before later cs go =
     ∙ ap (λ (l : List Effect). r.opens ++ l) (kept_past r n earlier before later (cut_after earlier x).flaw go refl)
 
 -- Exactly the effects whose need is met are done.
-pub needs_met : (r : Rule) (earlier : List (List ℕ)) (x left : List ℕ) (before : List (List ℕ)) (bytes : List ℕ) (s t : Snapshot) → Stuck r earlier x left before bytes → t ≡ done (r.opens ++ gone r earlier before) s → NeedsMet r earlier x left s t
+pub needs_met : (r : Rule) (earlier : List (List ℕ)) (x left : List ℕ) (before : List (List ℕ)) (bytes : List ℕ) (s t : Snapshot) → Stuck r earlier x left before bytes
+    → t ≡ done (r.opens ++ gone r earlier before) s → NeedsMet r earlier x left s t
 needs_met r earlier x left before bytes s t h d =
     let taken = joined before ++ bytes in
     let n : length taken ≡ length (joined before) + length bytes = length-append (joined before) bytes in
@@ -205,7 +213,8 @@ needs_met r earlier x left before bytes s t h d =
     record {
       taken = taken;
       parts = h.parts ∙ ap (λ (l : List ℕ). joined before ++ l) h.taken ∙ sym (append_assoc (joined before) bytes left);
-      holds = d ∙ ap (λ (l : List Effect). done l s) (sym (kept_is r earlier x before later h.chunks h.go)) ∙ ap (λ (k : ℕ). done (effects (keep_met (Some (length earlier + k)) (plan_after r earlier (Some x)).steps)) s) (sym (stuck_count r earlier x left before bytes h));
+      holds = d ∙ ap (λ (l : List Effect). done l s) (sym (kept_is r earlier x before later h.chunks h.go))
+          ∙ ap (λ (k : ℕ). done (effects (keep_met (Some (length earlier + k)) (plan_after r earlier (Some x)).steps)) s) (sym (stuck_count r earlier x left before bytes h));
       go = subst (AllGo r earlier) (sym is) h.go;
       short = subst (λ (cs : List (List ℕ)). length taken < length (joined cs) + reach (drop (length (joined cs)) x)) (sym is) short;
       header =

@@ -34,7 +34,10 @@ past r p (c ∷ q) later flaw g =
     let shift : (p ++ c ∷ []) ++ q ≡ p ++ c ∷ q = append_assoc p (c ∷ []) q in
     let es = asked (r.asks p c) in
     record {
-      steps = ap (λ (x : Walk). effects x.steps) open_it ∙ effects_append (needing (Chunks (length p + 1)) es) inner.steps ∙ ap (λ (l : List Effect). l ++ effects inner.steps) (effects_needing (Chunks (length p + 1)) es) ∙ ap (λ (l : List Effect). es ++ l) (h.steps ∙ ap (λ (l : List (List ℕ)). gone r (p ++ c ∷ []) q ++ effects (walk r l later flaw).steps) shift) ∙ sym (append_assoc es (gone r (p ++ c ∷ []) q) (effects (walk r (p ++ c ∷ q) later flaw).steps));
+      steps = ap (λ (x : Walk). effects x.steps) open_it ∙ effects_append (needing (Chunks (length p + 1)) es) inner.steps
+          ∙ ap (λ (l : List Effect). l ++ effects inner.steps) (effects_needing (Chunks (length p + 1)) es)
+          ∙ ap (λ (l : List Effect). es ++ l) (h.steps ∙ ap (λ (l : List (List ℕ)). gone r (p ++ c ∷ []) q ++ effects (walk r l later flaw).steps) shift)
+          ∙ sym (append_assoc es (gone r (p ++ c ∷ []) q) (effects (walk r (p ++ c ∷ q) later flaw).steps));
       end = ap (λ (x : Walk). x.end) open_it ∙ h.end ∙ ap (λ (l : List (List ℕ)). (walk r l later flaw).end) shift;
     }
 
@@ -53,12 +56,14 @@ pub record FromHere (r : Rule) (earlier : List (List ℕ)) (o : Option (List ℕ
   pub steps : effects (plan_after r earlier o).steps ≡ (r.opens ++ gone r earlier before) ++ effects v.steps
   pub end : (plan_after r earlier o).end ≡ Some v.end
 
-pub from_here : (r : Rule) (earlier : List (List ℕ)) (x : List ℕ) (before later : List (List ℕ)) (flaw : Option Flaw) → (cut_after earlier x).chunks ≡ before ++ later → (cut_after earlier x).flaw ≡ flaw → AllGo r earlier before → FromHere r earlier (Some x) before (walk r (earlier ++ before) later flaw)
+pub from_here : (r : Rule) (earlier : List (List ℕ)) (x : List ℕ) (before later : List (List ℕ)) (flaw : Option Flaw) → (cut_after earlier x).chunks ≡ before ++ later
+    → (cut_after earlier x).flaw ≡ flaw → AllGo r earlier before → FromHere r earlier (Some x) before (walk r (earlier ++ before) later flaw)
 from_here r earlier x before later flaw cs f g =
     let h = past r earlier before later flaw g in
     let all = walk r earlier (cut_after earlier x).chunks (cut_after earlier x).flaw in
     let e : all ≡ walk r earlier (before ++ later) flaw = ap (λ (l : List (List ℕ)). walk r earlier l (cut_after earlier x).flaw) cs ∙ ap (walk r earlier (before ++ later)) f in
     record {
-      steps = effects_append (needing Opened r.opens) all.steps ∙ ap (λ (l : List Effect). l ++ effects all.steps) (effects_needing Opened r.opens) ∙ ap (λ (y : Walk). r.opens ++ effects y.steps) e ∙ ap (λ (l : List Effect). r.opens ++ l) h.steps ∙ sym (append_assoc r.opens (gone r earlier before) (effects (walk r (earlier ++ before) later flaw).steps));
+      steps = effects_append (needing Opened r.opens) all.steps ∙ ap (λ (l : List Effect). l ++ effects all.steps) (effects_needing Opened r.opens) ∙ ap (λ (y : Walk). r.opens ++ effects y.steps) e
+          ∙ ap (λ (l : List Effect). r.opens ++ l) h.steps ∙ sym (append_assoc r.opens (gone r earlier before) (effects (walk r (earlier ++ before) later flaw).steps));
       end = ap (λ (y : Walk). Some y.end) e ∙ ap (λ (y : End). Some y) h.end;
     }

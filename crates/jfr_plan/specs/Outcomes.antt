@@ -103,7 +103,8 @@ Rises before now = (before ≤ now) × Rose before now
 -- The relations between old and new counts of read faults, of write faults of the place, and of faults of the
 -- sink. The place is steady or not as before.
 abbrev pub Counted : (ℕ → ℕ → Type 0) → (ℕ → ℕ → Type 0) → (ℕ → ℕ → Type 0) → Outside → Outside → Type 0
-Counted Reads Writes Texts a b = Reads a.place.read_faults b.place.read_faults × Writes a.place.write_faults b.place.write_faults × Texts a.sink.faults b.sink.faults × (b.place.steady ≡ a.place.steady)
+Counted Reads Writes Texts a b = Reads a.place.read_faults b.place.read_faults × Writes a.place.write_faults b.place.write_faults × Texts a.sink.faults
+    b.sink.faults × (b.place.steady ≡ a.place.steady)
 
 -- A command with this target may have this end: only one that writes parts can write too many, and only one
 -- that masks can find a chunk too long.

@@ -68,7 +68,8 @@ pub any_found : (rs : List Framed) (at : ℕ) → IsTrue (starts_at rs at 1) →
 any_found [] at h = cc
 any_found (r ∷ rs) at h = by_test ((r.at == at) && (r.type_id == 1)) h (any_found rs at)
   where
-    by_test : (b : Bool) → IsTrue (b || starts_at rs at 1) → (IsTrue (starts_at rs at 1) → (s : Framed) × (record_there rs at 1 ≡ Some s)) → (s : Framed) × ((if b then Some r else record_there rs at 1) ≡ Some s)
+    by_test : (b : Bool) → IsTrue (b || starts_at rs at 1) → (IsTrue (starts_at rs at 1) → (s : Framed) × (record_there rs at 1 ≡ Some s))
+        → (s : Framed) × ((if b then Some r else record_there rs at 1) ≡ Some s)
     by_test true h f = (r, refl)
     by_test false h f = f h
 
@@ -108,7 +109,8 @@ count_more : (rs : List Framed) (p q : ℕ) → p ≤ q → count_before rs p �
 count_more [] p q h = omega arith
 count_more (r ∷ rs) p q h = by_tests (nat_lt r.at p) refl (nat_lt r.at q) refl (count_more rs p q h)
   where
-    by_tests : (a : Bool) → nat_lt r.at p ≡ a → (b : Bool) → nat_lt r.at q ≡ b → count_before rs p ≤ count_before rs q → (if a then suc (count_before rs p) else count_before rs p) ≤ (if b then suc (count_before rs q) else count_before rs q)
+    by_tests : (a : Bool) → nat_lt r.at p ≡ a → (b : Bool) → nat_lt r.at q ≡ b → count_before rs p ≤ count_before rs q
+        → (if a then suc (count_before rs p) else count_before rs p) ≤ (if b then suc (count_before rs q) else count_before rs q)
     by_tests true e true f i = omega arith
     by_tests true e false f i = absurd (grind (arith, e, f))
     by_tests false e true f i = omega arith
@@ -124,7 +126,8 @@ count_less (x ∷ rs) q r (inl e) h =
     rw (t, u) (omega arith)
 count_less (x ∷ rs) q r (inr a) h = by_tests (nat_lt x.at r.at) refl (nat_lt x.at q) refl (count_less rs q r a h)
   where
-    by_tests : (a : Bool) → nat_lt x.at r.at ≡ a → (b : Bool) → nat_lt x.at q ≡ b → count_before rs r.at < count_before rs q → (if a then suc (count_before rs r.at) else count_before rs r.at) < (if b then suc (count_before rs q) else count_before rs q)
+    by_tests : (a : Bool) → nat_lt x.at r.at ≡ a → (b : Bool) → nat_lt x.at q ≡ b → count_before rs r.at < count_before rs q
+        → (if a then suc (count_before rs r.at) else count_before rs r.at) < (if b then suc (count_before rs q) else count_before rs q)
     by_tests true e true f i = omega arith
     by_tests true e false f i = absurd (grind (arith, e, f))
     by_tests false e true f i = omega arith

@@ -59,7 +59,8 @@ more_turns zero m c rs r h i = absurd (omega arith)
 more_turns (suc n) zero c rs r h i = absurd (omega arith)
 more_turns (suc n) (suc m) c rs r h i = by_head (run head_format c (record_end r) r.body) (λ s j. more_turns n m c rs s (omega arith) (omega arith))
   where
-    by_head : (a : Answer Delta) → ((s : Framed) → count_before rs s.at < count_before rs r.at → chain_within n c rs s ≡ chain_within m c rs s) → links_by rs r a (chain_within n c rs) ≡ links_by rs r a (chain_within m c rs)
+    by_head : (a : Answer Delta) → ((s : Framed) → count_before rs s.at < count_before rs r.at → chain_within n c rs s ≡ chain_within m c rs s)
+        → links_by rs r a (chain_within n c rs) ≡ links_by rs r a (chain_within m c rs)
     by_head (Err f) next = refl
     by_head (Ok g) next =
         ap (before_links (link_of r g.value))
@@ -85,13 +86,19 @@ module _ (c : List ℕ) (rs : List Framed) (records : (r : Framed) → Among rs 
   Tells at (Err f) = (ls : List Link) × ChainFlaw c rs at ls f.offset f.reason
 
   is_link : (r : Framed) (g : Got Delta) → CheckpointAt rs r.at r → Reads head_format c (record_end r) r.body g.value g.place → IsLink c rs (link_of r g.value)
-  is_link r g a h = record { framed = contains_of rs r a.among; checkpoint = a.type_is; head = subst (λ (z : ℕ). Reads head_format c (record_end r) r.body g.value z) (head_end c (record_end r) r.body g.value g.place h) h }
+  is_link r g a h = record {
+    framed = contains_of rs r a.among;
+    checkpoint = a.type_is;
+    head = subst (λ (z : ℕ). Reads head_format c (record_end r) r.body g.value z)
+        (head_end c (record_end r) r.body g.value g.place h) h;
+  }
 
   one_link : (l : Link) (at : ℕ) → IsLink c rs l → l.frame.at ≡ at → l.delta ≡ pos 0 → IsChain c rs at (l ∷ [])
   one_link l at i e d = (i, e, d)
 
   -- A link followed by what is known of the older checkpoint.
-  tells_step : (l : Link) (at : ℕ) (r : Framed) → IsLink c rs l → l.frame.at ≡ at → StepsTo at l.delta r.at → IsTrue (starts_at rs r.at 1) → (a : Result (List Link) Flaw) → Tells r.at a → Tells at (before_links l a)
+  tells_step : (l : Link) (at : ℕ) (r : Framed) → IsLink c rs l → l.frame.at ≡ at → StepsTo at l.delta r.at → IsTrue (starts_at rs r.at 1) → (a : Result (List Link) Flaw) → Tells r.at a
+      → Tells at (before_links l a)
   tells_step l at r i e s t (Err f) h = (l ∷ h.0, (i, e, r.at, s, t, h.1))
   tells_step l at r i e s t (Ok []) h = absurd h
   tells_step l at r i e s t (Ok (m ∷ [])) h =
@@ -119,7 +126,8 @@ module _ (c : List ℕ) (rs : List Framed) (records : (r : Framed) → Among rs 
   not_zero : (n : ℕ) → pos (suc n) ≡ pos 0 → ⊥
   not_zero n e = cc
 
-  tells_behind : (r : Framed) (d : Delta) (delta : ℤ) (o : Option Framed) (next : Framed → Result (List Link) Flaw) → IsLink c rs (link_of r d) → CheckpointAt rs r.at r → Reads head_format c (record_end r) r.body d d.end
+  tells_behind : (r : Framed) (d : Delta) (delta : ℤ) (o : Option Framed) (next : Framed → Result (List Link) Flaw) → IsLink c rs (link_of r d) → CheckpointAt rs r.at r
+      → Reads head_format c (record_end r) r.body d d.end
       → d.value ≡ delta → earlier_checkpoint rs (earlier_place r.at (pos r.at +ℤ d.value)) ≡ o → ((s : Framed) → o ≡ Some s → Tells s.at (next s)) → Behind r d delta o next
   tells_behind r d delta o next i a h v e k = by_cases delta o v e k
     where
@@ -134,7 +142,8 @@ module _ (c : List ℕ) (rs : List Framed) (records : (r : Framed) → Among rs 
           by_there : (s : Framed) → CheckpointAt rs s.at s → IsTrue (starts_at rs s.at 1)
           by_there s t = let g = some_found (λ (z : Framed). (z.at == s.at) && (z.type_id == 1)) rs s t.among (passes s.at s refl t.type_is) in found_any rs s.at g.0 g.1
 
-      by_cases : (delta : ℤ) (o : Option Framed) → d.value ≡ delta → earlier_checkpoint rs (earlier_place r.at (pos r.at +ℤ d.value)) ≡ o → ((s : Framed) → o ≡ Some s → Tells s.at (next s)) → Behind r d delta o next
+      by_cases : (delta : ℤ) (o : Option Framed) → d.value ≡ delta → earlier_checkpoint rs (earlier_place r.at (pos r.at +ℤ d.value)) ≡ o → ((s : Framed) → o ≡ Some s → Tells s.at (next s))
+          → Behind r d delta o next
       by_cases (pos zero) o v e k = (i, refl, v)
       by_cases (pos (suc n)) None v e k = fault (λ z. not_zero n (sym v ∙ z)) e
       by_cases (pos (suc n)) (Some s) v e k = goes s (λ z. not_zero n (sym v ∙ z)) e (k s refl)
@@ -147,7 +156,8 @@ module _ (c : List ℕ) (rs : List Framed) (records : (r : Framed) → Among rs 
       let b = body_in r a.among in
       by_head (run head_format c (record_end r) r.body) (run_reads_or_fails head_format c (record_end r) r.body b.0 b.1) (λ s t j. within_tells n s t (omega arith))
     where
-      by_head : (g : Answer Delta) → ReadsOrFails head_format c (record_end r) r.body g → ((s : Framed) → CheckpointAt rs s.at s → count_before rs s.at < count_before rs r.at → Tells s.at (chain_within n c rs s)) → Tells r.at (links_by rs r g (chain_within n c rs))
+      by_head : (g : Answer Delta) → ReadsOrFails head_format c (record_end r) r.body g
+          → ((s : Framed) → CheckpointAt rs s.at s → count_before rs s.at < count_before rs r.at → Tells s.at (chain_within n c rs s)) → Tells r.at (links_by rs r g (chain_within n c rs))
       by_head (Err f) h next = ([], (r, contains_of rs r a.among, refl, inl h))
       by_head (Ok g) h next =
           tells_behind r g.value g.value.value (earlier_checkpoint rs (earlier_place r.at (pos r.at +ℤ g.value.value))) (chain_within n c rs)

@@ -99,7 +99,8 @@ linked_place r (Err f) l e = cc
 linked_place r (Ok g) l e = let q : link_of r g.value ≡ l = cc in sym (ap (λ (z : Link). z.frame) q)
 
 module _ (c : List ℕ) (rs : List Framed) (last : ℕ) (links : List Link) (r : Framed) (h : Reading c rs last links (Some r)) where
-  pub reading_more : (l : Link) (o : Option Framed) (new : List Link) → Ok l ≡ linked r (run head_format c (record_end r) r.body) → Ok o ≡ older_of rs l → new ≡ links ++ l ∷ [] → Reading c rs last new o
+  pub reading_more : (l : Link) (o : Option Framed) (new : List Link) → Ok l ≡ linked r (run head_format c (record_end r) r.body) → Ok o ≡ older_of rs l → new ≡ links ++ l ∷ []
+      → Reading c rs last new o
   reading_more l o new e f g =
       let t : chain_of c rs r ≡ before_links l (rest c rs o) = chain_after c rs r h.listed.among ∙ ap (after_link c rs) (sym e) ∙ ap (λ a. before_links l (then_rest c rs a)) (sym f) in
       record {
@@ -130,7 +131,8 @@ module _ (c : List ℕ) (rs : List Framed) (last : ℕ) (cover : AreRecords c rs
             subst (λ o. IfSome o (λ r. chain_of c rs r ≡ a)) (sym f) g,
           )
 
-  pub told_chain : (ls read : List Link) → rest c rs (checkpoint_at rs last) ≡ Ok ls → read ≡ reverse ls → IsChain c rs last (reverse read) × IfSome (checkpoint_at rs last) (λ r. chain_of c rs r ≡ Ok (reverse read))
+  pub told_chain : (ls read : List Link) → rest c rs (checkpoint_at rs last) ≡ Ok ls → read ≡ reverse ls
+      → IsChain c rs last (reverse read) × IfSome (checkpoint_at rs last) (λ r. chain_of c rs r ≡ Ok (reverse read))
   told_chain ls read e q =
       let s : ls ≡ reverse read = sym (reverse-reverse ls) ∙ ap reverse (sym q) in
       told (Ok (reverse read)) (e ∙ ap (λ z. Ok z) s)
@@ -143,7 +145,8 @@ abbrev pub room : Option Framed → ℕ
 room None = 0
 room (Some r) = suc r.at
 
-pub falls : (c : List ℕ) (rs : List Framed) (r : Framed) (l : Link) (o before : Option Framed) → Ok l ≡ linked r (run head_format c (record_end r) r.body) → Ok o ≡ older_of rs l → before ≡ Some r → room o < room before
+pub falls : (c : List ℕ) (rs : List Framed) (r : Framed) (l : Link) (o before : Option Framed) → Ok l ≡ linked r (run head_format c (record_end r) r.body) → Ok o ≡ older_of rs l → before ≡ Some r
+    → room o < room before
 falls c rs r l o before e f g = subst (λ b. room o < room b) (sym g) (by_next o f)
   where
     by_next : (o : Option Framed) → Ok o ≡ older_of rs l → room o < suc r.at

@@ -71,13 +71,16 @@ module _ (c : List ℕ) (k : Classes) where
   entries_told n [] s = refl
   entries_told n (l ∷ ls) s =
       let i = s l (inl refl) in
-      by_body (run (checkpoint_format k) c (record_end l.frame) l.frame.body) (run_reads_or_fails (checkpoint_format k) c (record_end l.frame) l.frame.body i.covers i.within) (entries_told (n + 1) ls (λ m a. s m (inr a)))
+      by_body (run (checkpoint_format k) c (record_end l.frame) l.frame.body) (run_reads_or_fails (checkpoint_format k) c (record_end l.frame) l.frame.body i.covers i.within)
+      (entries_told (n + 1) ls (λ m a. s m (inr a)))
     where
-      by_body : (a : Answer (List PoolAt)) → ReadsOrFails (checkpoint_format k) c (record_end l.frame) l.frame.body a → Told (n + 1) ls (entries_of c k (n + 1) ls) → Told n (l ∷ ls) (entries_by n a (entries_of c k (n + 1) ls))
+      by_body : (a : Answer (List PoolAt)) → ReadsOrFails (checkpoint_format k) c (record_end l.frame) l.frame.body a → Told (n + 1) ls (entries_of c k (n + 1) ls)
+          → Told n (l ∷ ls) (entries_by n a (entries_of c k (n + 1) ls))
       by_body (Err f) h t = inl h
       by_body (Ok g) h t =
           let i = s l (inl refl) in
-          told_before n l ls g.value (subst (λ (z : ℕ). Reads (checkpoint_format k) c (record_end l.frame) l.frame.body g.value z) (body_end c k (record_end l.frame) l.frame.body g.value g.place i.covers h) h) (entries_of c k (n + 1) ls) t
+          told_before n l ls g.value (subst (λ (z : ℕ). Reads (checkpoint_format k) c (record_end l.frame) l.frame.body g.value z)
+          (body_end c k (record_end l.frame) l.frame.body g.value g.place i.covers h) h) (entries_of c k (n + 1) ls) t
 
   body_read : (l : Link) → IsRecord c l.frame → (pools : List PoolAt) → Reads (checkpoint_format k) c (record_end l.frame) l.frame.body pools (record_end l.frame)
       → run (checkpoint_format k) c (record_end l.frame) l.frame.body ≡ Ok (record { value = pools; place = record_end l.frame })
@@ -119,7 +122,8 @@ before_before : (es fs : List EntryAt) (a : Result (List EntryAt) Flaw) → befo
 before_before es fs (Ok gs) = ap (λ z. Ok z) (sym (append_assoc es fs gs))
 before_before es fs (Err f) = refl
 
-listed_ok : (n : ℕ) (a : Answer (List PoolAt)) (later : Result (List EntryAt) Flaw) (es : List EntryAt) (to : ℕ) → listed (entries_from n 0) a ≡ Ok (es, to) → entries_by n a later ≡ before_entries es later
+listed_ok : (n : ℕ) (a : Answer (List PoolAt)) (later : Result (List EntryAt) Flaw) (es : List EntryAt) (to : ℕ) → listed (entries_from n 0) a ≡ Ok (es, to)
+    → entries_by n a later ≡ before_entries es later
 listed_ok n (Ok g) later es to e =
     let q : (entries_from n 0 g.value, g.place) ≡ (es, to) = cc in
     ap (λ z. before_entries z later) (ap (λ (z : List EntryAt × ℕ). z.0) q)

@@ -59,7 +59,9 @@ module _ (old new : Index) (e : EntryAt) (number place : ℕ) (within : place < 
   seat_open zero at h = cc
   seat_open (suc n) at h = by_test (is_open (held (slot_at old.slots.items at)) (e.class, e.key)) refl h (seat_open n (at + 1))
     where
-      by_test : (b : Bool) → is_open (held (slot_at old.slots.items at)) (e.class, e.key) ≡ b → (if b then Some at else open_slot_from n (at + 1) old.slots.items (e.class, e.key)) ≡ Some place → (open_slot_from n (at + 1) old.slots.items (e.class, e.key) ≡ Some place → is_open (held (slot_at old.slots.items place)) (e.class, e.key) ≡ true) → is_open (held (slot_at old.slots.items place)) (e.class, e.key) ≡ true
+      by_test : (b : Bool) → is_open (held (slot_at old.slots.items at)) (e.class, e.key) ≡ b → (if b then Some at else open_slot_from n (at + 1) old.slots.items (e.class, e.key)) ≡ Some place
+          → (open_slot_from n (at + 1) old.slots.items (e.class, e.key) ≡ Some place → is_open (held (slot_at old.slots.items place)) (e.class, e.key) ≡ true)
+          → is_open (held (slot_at old.slots.items place)) (e.class, e.key) ≡ true
       by_test true f h k = let q : at ≡ place = cc in ap (λ i. is_open (held (slot_at old.slots.items i)) (e.class, e.key)) (sym q) ∙ f
       by_test false f h k = k h
 
@@ -68,11 +70,14 @@ module _ (old new : Index) (e : EntryAt) (number place : ℕ) (within : place < 
   seat_stays zero at h = cc
   seat_stays (suc n) at h = by_place (cases_eq at place) (seat_stays n (at + 1))
     where
-      by_test : (b : Bool) → at ≢ place → (if b then Some at else open_slot_from n (at + 1) old.slots.items (e.class, e.key)) ≡ Some place → (open_slot_from n (at + 1) old.slots.items (e.class, e.key) ≡ Some place → open_slot_from n (at + 1) new.slots.items (e.class, e.key) ≡ Some place) → (if b then Some at else open_slot_from n (at + 1) new.slots.items (e.class, e.key)) ≡ Some place
+      by_test : (b : Bool) → at ≢ place → (if b then Some at else open_slot_from n (at + 1) old.slots.items (e.class, e.key)) ≡ Some place
+          → (open_slot_from n (at + 1) old.slots.items (e.class, e.key) ≡ Some place → open_slot_from n (at + 1) new.slots.items (e.class, e.key) ≡ Some place)
+          → (if b then Some at else open_slot_from n (at + 1) new.slots.items (e.class, e.key)) ≡ Some place
       by_test true q h k = h
       by_test false q h k = k h
 
-      by_place : ((at ≡ place) ⊎ (at ≢ place)) → (open_slot_from n (at + 1) old.slots.items (e.class, e.key) ≡ Some place → open_slot_from n (at + 1) new.slots.items (e.class, e.key) ≡ Some place) → open_slot_from (suc n) at new.slots.items (e.class, e.key) ≡ Some place
+      by_place : ((at ≡ place) ⊎ (at ≢ place)) → (open_slot_from n (at + 1) old.slots.items (e.class, e.key) ≡ Some place → open_slot_from n (at + 1) new.slots.items (e.class, e.key) ≡ Some place)
+          → open_slot_from (suc n) at new.slots.items (e.class, e.key) ≡ Some place
       by_place (inl q) k = rw (ap (λ i. held (slot_at new.slots.items i)) q ∙ here, target_same e.class e.key (e.class, e.key) refl) (ap (λ i. Some i) q)
       by_place (inr q) k = rw (elsewhere at q) (by_test (is_open (held (slot_at old.slots.items at)) (e.class, e.key)) q h k)
 
@@ -84,11 +89,14 @@ module _ (old new : Index) (e : EntryAt) (number place : ℕ) (within : place < 
   number_stays t m apart was_open zero at h = ap (λ z. get target_cmp z t) others ∙ h
   number_stays t m apart was_open (suc n) at h = by_place (cases_eq at place) (number_stays t m apart was_open n (at + 1))
     where
-      by_test : (b : Bool) → at ≢ place → number_at old t (if b then Some at else open_slot_from n (at + 1) old.slots.items t) ≡ Some m → Stays t m n (at + 1) → number_at new t (if b then Some at else open_slot_from n (at + 1) new.slots.items t) ≡ Some m
+      by_test : (b : Bool) → at ≢ place → number_at old t (if b then Some at else open_slot_from n (at + 1) old.slots.items t) ≡ Some m → Stays t m n (at + 1)
+          → number_at new t (if b then Some at else open_slot_from n (at + 1) new.slots.items t) ≡ Some m
       by_test true q h k = ap (option_map (λ (p : Placed). p.number)) (elsewhere at q) ∙ h
       by_test false q h k = k h
 
-      by_slot : (slot : Option Placed) → held (slot_at old.slots.items at) ≡ slot → is_open slot (e.class, e.key) ≡ true → number_at old t (if is_open slot t then Some at else open_slot_from n (at + 1) old.slots.items t) ≡ Some m → Stays t m n (at + 1) → number_at new t (open_slot_from n (at + 1) new.slots.items t) ≡ Some m
+      by_slot : (slot : Option Placed) → held (slot_at old.slots.items at) ≡ slot → is_open slot (e.class, e.key) ≡ true
+          → number_at old t (if is_open slot t then Some at else open_slot_from n (at + 1) old.slots.items t) ≡ Some m → Stays t m n (at + 1)
+          → number_at new t (open_slot_from n (at + 1) new.slots.items t) ≡ Some m
       by_slot None f o h k = let g = ap (option_map (λ (p : Placed). p.number)) f in cc
       by_slot (Some p) f o h k =
           let same : (p.class, p.key) ≡ (e.class, e.key) = same_target p.class p.key (e.class, e.key) o in
@@ -97,7 +105,8 @@ module _ (old new : Index) (e : EntryAt) (number place : ℕ) (within : place < 
 
       by_place : ((at ≡ place) ⊎ (at ≢ place)) → Stays t m n (at + 1) → number_at new t (open_slot_from (suc n) at new.slots.items t) ≡ Some m
       by_place (inl q) k =
-          rw (ap (λ i. held (slot_at new.slots.items i)) q ∙ here, apart) (by_slot (held (slot_at old.slots.items at)) refl (ap (λ i. is_open (held (slot_at old.slots.items i)) (e.class, e.key)) q ∙ was_open) h k)
+          rw (ap (λ i. held (slot_at new.slots.items i)) q ∙ here, apart)
+          (by_slot (held (slot_at old.slots.items at)) refl (ap (λ i. is_open (held (slot_at old.slots.items i)) (e.class, e.key)) q ∙ was_open) h k)
       by_place (inr q) k = rw (elsewhere at q) (by_test (is_open (held (slot_at old.slots.items at)) t) q h k)
 
   homes_stay : (t : ℕ × ℕ) → home new.slots.items t ≡ home old.slots.items t
@@ -107,7 +116,8 @@ module _ (old new : Index) (e : EntryAt) (number place : ℕ) (within : place < 
   unfolding open_slot
   some_stays t m apart was_open = by_class (nat_lt t.0 (2 ^ 32))
     where
-      by_class : (b : Bool) → number_at old t (if b then open_slot_from REACH (home old.slots.items t) old.slots.items t else None) ≡ Some m → number_at new t (if b then open_slot_from REACH (home new.slots.items t) new.slots.items t else None) ≡ Some m
+      by_class : (b : Bool) → number_at old t (if b then open_slot_from REACH (home old.slots.items t) old.slots.items t else None) ≡ Some m
+          → number_at new t (if b then open_slot_from REACH (home new.slots.items t) new.slots.items t else None) ≡ Some m
       by_class true h = rw (homes_stay t) (number_stays t m apart was_open REACH (home old.slots.items t) h)
       by_class false h = ap (λ z. get target_cmp z t) others ∙ h
 
@@ -159,9 +169,11 @@ module _ (old new : Index) (e : EntryAt) (number place : ℕ) (within : place < 
         by_place i p q (inr r) = some_push es e (p.class, p.key) (inr (h.in_slots i p (sym (elsewhere i r) ∙ q)))
 
 -- If no slot is open, the entry is put among the others.
-pub passed : (by_class : List Table) (old new : Index) (e : EntryAt) (number : ℕ) (es : List EntryAt) → open_slot old.slots.items (e.class, e.key) ≡ None → new.slots.items ≡ old.slots.items → Updates target_cmp old.others new.others (e.class, e.key) (Some number) → Indexes by_class old es → length es ≡ number → Indexes by_class new (es ++ e ∷ [])
+pub passed : (by_class : List Table) (old new : Index) (e : EntryAt) (number : ℕ) (es : List EntryAt) → open_slot old.slots.items (e.class, e.key) ≡ None → new.slots.items ≡ old.slots.items
+    → Updates target_cmp old.others new.others (e.class, e.key) (Some number) → Indexes by_class old es → length es ≡ number → Indexes by_class new (es ++ e ∷ [])
 passed by_class old new e number es none slots u h n = record {
-  leads = λ t out. passed_number t (open_slot old.slots.items t) refl ∙ ap (cond (hits e t) (Some number)) (h.leads t out) ∙ ap (λ m. cond (hits e t) (Some m) (number_in_force es t)) (sym n) ∙ sym (force_push es e t);
+  leads = λ t out. passed_number t (open_slot old.slots.items t) refl ∙ ap (cond (hits e t) (Some number)) (h.leads t out) ∙ ap (λ m. cond (hits e t) (Some m) (number_in_force es t)) (sym n)
+      ∙ sym (force_push es e t);
   in_slots = λ i p q. some_push es e (p.class, p.key) (inr (h.in_slots i p (ap (λ z. held (slot_at z i)) (sym slots) ∙ q)));
   in_others = λ t q. by_test t (hits e t) refl (subst (λ o. IsSome o) (updated t) q);
 }
@@ -185,7 +197,8 @@ passed by_class old new e number es none slots u h n = record {
     by_test t false f s = some_push es e t (inr (h.in_others t s))
 
 -- An entry that has a place in the direct tables is left out.
-pub left_out : (by_class : List Table) (index : Index) (e : EntryAt) (es : List EntryAt) → is_some (ordinal_at by_class (e.class, e.key)) ≡ true → Indexes by_class index es → Indexes by_class index (es ++ e ∷ [])
+pub left_out : (by_class : List Table) (index : Index) (e : EntryAt) (es : List EntryAt) → is_some (ordinal_at by_class (e.class, e.key)) ≡ true → Indexes by_class index es
+    → Indexes by_class index (es ++ e ∷ [])
 left_out by_class index e es place h = record {
   leads = λ t out. h.leads t out ∙ ap (λ b. cond b (Some (length es)) (number_in_force es t)) (sym (apart t out (hits e t) refl)) ∙ sym (force_push es e t);
   in_slots = λ i p q. some_push es e (p.class, p.key) (inr (h.in_slots i p q));

@@ -46,7 +46,8 @@ module _ {A : Type 0} (one : A → List EntryAt) (all rest : List A → List Ent
       by_first (Ok g) = ap (listed all) (run-bind (times n f) (λ bs. Done (g.value ∷ bs)) x end g.place) ∙ listed_rest g.value (run (times n f) x end g.place)
       by_first (Err e) = refl
 
-  pub left_step : (n i : ℕ) (f : Format A) (x : List ℕ) (end at : ℕ) → i < n → listed all (run (times (n - i) f) x end at) ≡ chained (listed one (run f x end at)) (λ p. listed rest (run (times (n - (i + 1)) f) x end p))
+  pub left_step : (n i : ℕ) (f : Format A) (x : List ℕ) (end at : ℕ) → i < n
+      → listed all (run (times (n - i) f) x end at) ≡ chained (listed one (run f x end at)) (λ p. listed rest (run (times (n - (i + 1)) f) x end p))
   left_step n i f x end at h = let e : n - i ≡ suc (n - (i + 1)) = omega arith in rw e (times_step (n - (i + 1)) f x end at)
 
 pub none_left : {A : Type 0} (all : List A → List EntryAt) (n i : ℕ) (f : Format A) (x : List ℕ) (end at : ℕ) → all [] ≡ [] → n ≤ i → listed all (run (times (n - i) f) x end at) ≡ Ok ([], at)
@@ -105,10 +106,13 @@ module _ (pool : PoolId) (k : Classes) (x : List ℕ) (end at count : ℕ) where
   pub entries_start : (old : List EntryAt) → Adding (entries_at count at) old old (entries_at (count - 0) at)
   entries_start old = adding_none (entries_at count at) (entries_at (count - 0) at) old old refl (none_yet (map (entry_in pool)) count (constant_format k pool.class) x end at)
 
-  pub entries_more : (i p : ℕ) (old new more : List EntryAt) (e : EntryAt) → i < count → Adding (entries_at count at) old new (entries_at (count - i) p) → entry_there p ≡ single (Ok e) → more ≡ new ++ e ∷ [] → Adding (entries_at count at) old more (entries_at (count - (i + 1)) e.end)
-  entries_more i p old new more e h a s q = adding_more (entries_at count at) (entries_at (count - i) p) (entry_there p) (λ q. entries_at (count - (i + 1)) q) old new a (entry_step i p h) (e ∷ []) more e.end s q
+  pub entries_more : (i p : ℕ) (old new more : List EntryAt) (e : EntryAt) → i < count → Adding (entries_at count at) old new (entries_at (count - i) p) → entry_there p ≡ single (Ok e)
+      → more ≡ new ++ e ∷ [] → Adding (entries_at count at) old more (entries_at (count - (i + 1)) e.end)
+  entries_more i p old new more e h a s q =
+      adding_more (entries_at count at) (entries_at (count - i) p) (entry_there p) (λ q. entries_at (count - (i + 1)) q) old new a (entry_step i p h) (e ∷ []) more e.end s q
 
-  pub entries_stop : (i p : ℕ) (old new : List EntryAt) (f : Flaw) → i < count → Adding (entries_at count at) old new (entries_at (count - i) p) → entry_there p ≡ single (Err f) → entries_at count at ≡ Err f
+  pub entries_stop : (i p : ℕ) (old new : List EntryAt) (f : Flaw) → i < count → Adding (entries_at count at) old new (entries_at (count - i) p) → entry_there p ≡ single (Err f)
+      → entries_at count at ≡ Err f
   entries_stop i p old new f h a s = adding_stops (entries_at count at) (entries_at (count - i) p) (entry_there p) (λ q. entries_at (count - (i + 1)) q) old new a (entry_step i p h) f s
 
   pub entries_done : (i p : ℕ) (old new : List EntryAt) → count ≤ i → Adding (entries_at count at) old new (entries_at (count - i) p) → Adds (entries_at count at) old new (Ok p)
@@ -128,10 +132,13 @@ module _ (checkpoint : ℕ) (k : Classes) (x : List ℕ) (end at count : ℕ) wh
   pub pools_start : (old : List EntryAt) → Adding (pools_at 0 count at) old old (pools_at 0 (count - 0) at)
   pools_start old = adding_none (pools_at 0 count at) (pools_at 0 (count - 0) at) old old refl (none_yet (entries_from checkpoint 0) count (pool_format k) x end at)
 
-  pub pools_more : (i p q : ℕ) (old new more : List EntryAt) → i < count → Adding (pools_at 0 count at) old new (pools_at i (count - i) p) → Adds (pool_there i p) new more (Ok q) → Adding (pools_at 0 count at) old more (pools_at (i + 1) (count - (i + 1)) q)
-  pools_more i p q old new more h a s = adding_more (pools_at 0 count at) (pools_at i (count - i) p) (pool_there i p) (λ q. pools_at (i + 1) (count - (i + 1)) q) old new a (pool_step i p h) s.0 more q s.1 s.2
+  pub pools_more : (i p q : ℕ) (old new more : List EntryAt) → i < count → Adding (pools_at 0 count at) old new (pools_at i (count - i) p) → Adds (pool_there i p) new more (Ok q)
+      → Adding (pools_at 0 count at) old more (pools_at (i + 1) (count - (i + 1)) q)
+  pools_more i p q old new more h a s = adding_more (pools_at 0 count at) (pools_at i (count - i) p) (pool_there i p) (λ q. pools_at (i + 1) (count - (i + 1)) q) old new a
+      (pool_step i p h) s.0 more q s.1 s.2
 
-  pub pools_stop : (i p : ℕ) (old new : List EntryAt) (fault : ReadFault) → i < count → Adding (pools_at 0 count at) old new (pools_at i (count - i) p) → TellsFlaw (pool_there i p) fault → TellsFlaw (pools_at 0 count at) fault
+  pub pools_stop : (i p : ℕ) (old new : List EntryAt) (fault : ReadFault) → i < count → Adding (pools_at 0 count at) old new (pools_at i (count - i) p) → TellsFlaw (pool_there i p) fault
+      → TellsFlaw (pools_at 0 count at) fault
   pools_stop i p old new fault h a s = adding_fault (pools_at 0 count at) (pools_at i (count - i) p) (pool_there i p) (λ q. pools_at (i + 1) (count - (i + 1)) q) old new a (pool_step i p h) fault s
 
   pub pools_done : (i p : ℕ) (old new : List EntryAt) → count ≤ i → Adding (pools_at 0 count at) old new (pools_at i (count - i) p) → Adds (pools_at 0 count at) old new (Ok p)
@@ -145,16 +152,21 @@ valued pool at v (Err f) = Err f
 module _ (pool : PoolId) (k : Classes) (x : List ℕ) (end at : ℕ) where
   pub entry_short : int_at x at end ≡ None → listed (only_entry pool) (run (constant_format k pool.class) x end at) ≡ Err (record { offset = at; reason = Short })
   unfolding run
-  entry_short e = ap (λ o. listed (only_entry pool) (after_int x at unchecked (λ v s p. run (value_format k (inline pool.class) >>= λ value. Here λ to. Done (record { key = v; key_at = at; value_at = p; end = to; value = value })) x end p) o)) e
+  entry_short e = ap (λ o. listed (only_entry pool)
+      (after_int x at unchecked (λ v s p. run (value_format k (inline pool.class) >>= λ value. Here λ to. Done (record { key = v; key_at = at; value_at = p; end = to; value = value })) x end p) o)) e
 
-  pub entry_valued : (v : Var) → int_at x at end ≡ Some v → listed (only_entry pool) (run (constant_format k pool.class) x end at) ≡ valued pool at v (end_or_flaw (run (value_format k (inline pool.class)) x end v.end))
+  pub entry_valued : (v : Var) → int_at x at end ≡ Some v
+      → listed (only_entry pool) (run (constant_format k pool.class) x end at) ≡ valued pool at v (end_or_flaw (run (value_format k (inline pool.class)) x end v.end))
   unfolding run
   entry_valued v e =
-      ap (λ o. listed (only_entry pool) (after_int x at unchecked (λ v s p. run (value_format k (inline pool.class) >>= λ value. Here λ to. Done (record { key = v; key_at = at; value_at = p; end = to; value = value })) x end p) o)) e
-      ∙ ap (listed (only_entry pool)) (run-bind (value_format k (inline pool.class)) (λ value. Here λ to. Done (record { key = v.value; key_at = at; value_at = v.end; end = to; value = value })) x end v.end)
+      ap (λ o. listed (only_entry pool) (after_int x at unchecked
+      (λ v s p. run (value_format k (inline pool.class) >>= λ value. Here λ to. Done (record { key = v; key_at = at; value_at = p; end = to; value = value })) x end p) o)) e
+      ∙ ap (listed (only_entry pool)) (run-bind (value_format k (inline pool.class)) (λ value. Here λ to. Done (record { key = v.value; key_at = at; value_at = v.end; end = to; value = value })) x end
+      v.end)
       ∙ by_value (run (value_format k (inline pool.class)) x end v.end)
     where
-      by_value : (r : Answer Value) → listed (only_entry pool) (on r (λ value p. run (Here λ to. Done (record { key = v.value; key_at = at; value_at = v.end; end = to; value = value })) x end p)) ≡ valued pool at v (end_or_flaw r)
+      by_value : (r : Answer Value)
+          → listed (only_entry pool) (on r (λ value p. run (Here λ to. Done (record { key = v.value; key_at = at; value_at = v.end; end = to; value = value })) x end p)) ≡ valued pool at v (end_or_flaw r)
       by_value (Ok g) = refl
       by_value (Err f) = refl
 
@@ -182,7 +194,8 @@ module _ (checkpoint number : ℕ) (k : Classes) (x : List ℕ) (end at : ℕ) w
       ap (λ o. pooled (after_int x at (pool_check k) (λ v s p. run (after_class v) x end p) o)) e
       ∙ ap (λ b. pooled (checked at (if b then None else Some PoolType) (run (after_class v.value) x end v.end))) u
 
-  pub count_short : (v : Var) → int_at x at end ≡ Some v → is_some (find_class k v.value) ≡ true → int_at x v.end end ≡ None → pooled (run (pool_format k) x end at) ≡ Err (record { offset = v.end; reason = Short })
+  pub count_short : (v : Var) → int_at x at end ≡ Some v → is_some (find_class k v.value) ≡ true → int_at x v.end end ≡ None
+      → pooled (run (pool_format k) x end at) ≡ Err (record { offset = v.end; reason = Short })
   unfolding run
   count_short v e u q =
       class_known v e u
@@ -197,7 +210,8 @@ module _ (checkpoint number : ℕ) (k : Classes) (x : List ℕ) (end at : ℕ) w
       ∙ ap pooled (run-bind (times n.value (constant_format k v.value)) (λ constants. Done (record { class = v.value; constants = constants })) x end n.end)
       ∙ by_constants (run (times n.value (constant_format k v.value)) x end n.end)
     where
-      by_constants : (r : Answer (List Constant)) → pooled (on r (λ constants p. run (Done (record { class = v.value; constants = constants })) x end p)) ≡ listed (map (entry_of checkpoint number v.value)) r
+      by_constants : (r : Answer (List Constant))
+          → pooled (on r (λ constants p. run (Done (record { class = v.value; constants = constants })) x end p)) ≡ listed (map (entry_of checkpoint number v.value)) r
       by_constants (Ok g) = refl
       by_constants (Err f) = refl
 
@@ -252,7 +266,8 @@ module _ (number : ℕ) (k : Classes) (x : List ℕ) (end at : ℕ) where
     body_fault (Flawed f) e = body_counted n counted ∙ ap ended e
     body_fault Memory e = tt
 
-    pub body_trails : (to : ℕ) → Adds (bodied (run (times n.value (pool_format k)) x end n.end)) old new (Ok to) → to < end → bodied (run (checkpoint_format k) x end at) ≡ Err (record { offset = to; reason = Trailing })
+    pub body_trails : (to : ℕ) → Adds (bodied (run (times n.value (pool_format k)) x end n.end)) old new (Ok to) → to < end
+        → bodied (run (checkpoint_format k) x end at) ≡ Err (record { offset = to; reason = Trailing })
     body_trails to h i = let t : nat_lt to end ≡ true = grind arith in body_counted n counted ∙ ap ended h.1 ∙ rw t refl
 
     pub body_ends : (to : ℕ) → Adds (bodied (run (times n.value (pool_format k)) x end n.end)) old new (Ok to) → end ≤ to → Adds (bodied (run (checkpoint_format k) x end at)) old new (Ok to)

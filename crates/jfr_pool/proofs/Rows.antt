@@ -26,7 +26,8 @@ class id name fields = record { id = id; name = name; super_name = None; fields 
 abbrev classes : Classes
 classes =
     class 6 (codes "java.lang.String") []
-    ∷ class 7 (codes "t.Node") (record { name = codes "next"; shape = record { class = 7; constant = true; array = false } } ∷ record { name = codes "text"; shape = record { class = 6; constant = false; array = false } } ∷ [])
+    ∷ class 7 (codes "t.Node") (record { name = codes "next"; shape = record { class = 7; constant = true; array = false } }
+    ∷ record { name = codes "text"; shape = record { class = 6; constant = false; array = false } } ∷ [])
     ∷ []
 
 -- A checkpoint with one entry, and an event.

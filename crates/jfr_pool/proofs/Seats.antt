@@ -50,11 +50,13 @@ held_numbered class key number =
     rw q (ap (λ n. Some (record { class = class; key = key; number = n })) r)
 
 -- A slot that isn't open is passed over.
-pub seat_on : (slots : List Slot) (t : ℕ × ℕ) (end place : ℕ) → place < end → is_open (held (slot_at slots place)) t ≡ false → open_slot_from (end - place) place slots t ≡ open_slot_from (end - (place + 1)) (place + 1) slots t
+pub seat_on : (slots : List Slot) (t : ℕ × ℕ) (end place : ℕ) → place < end → is_open (held (slot_at slots place)) t ≡ false
+    → open_slot_from (end - place) place slots t ≡ open_slot_from (end - (place + 1)) (place + 1) slots t
 seat_on slots t end place i h = let q : end - place ≡ suc (end - (place + 1)) = omega arith in rw q (rw h refl)
 
 -- If their home is taken, the open_slot of a class and key is after it.
-pub seat_past : (slots : List Slot) (t : ℕ × ℕ) (place : ℕ) → t.0 < 2 ^ 32 → place ≡ home slots t → is_open (held (slot_at slots place)) t ≡ false → open_slot_from (place + REACH - (place + 1)) (place + 1) slots t ≡ open_slot slots t
+pub seat_past : (slots : List Slot) (t : ℕ × ℕ) (place : ℕ) → t.0 < 2 ^ 32 → place ≡ home slots t → is_open (held (slot_at slots place)) t ≡ false
+    → open_slot_from (place + REACH - (place + 1)) (place + 1) slots t ≡ open_slot slots t
 seat_past slots t place i e h = sym (seat_on slots t (place + REACH) place (omega arith) h) ∙ seat_start slots t place i e
 
 -- A slot that has a class and key is open to them.
@@ -66,13 +68,15 @@ of_open slot t h = by_ordinal (slot.ordinal == 0)
     by_ordinal false = h
 
 -- The number of a class and key that are in their home.
-pub number_home : (index : Index) (t : ℕ × ℕ) (place : ℕ) (slot : Slot) → t.0 < 2 ^ 32 → place ≡ home index.slots.items t → slot ≡ slot_at index.slots.items place → is_of slot t ≡ true → number_of index t ≡ number_in slot
+pub number_home : (index : Index) (t : ℕ × ℕ) (place : ℕ) (slot : Slot) → t.0 < 2 ^ 32 → place ≡ home index.slots.items t → slot ≡ slot_at index.slots.items place → is_of slot t ≡ true
+    → number_of index t ≡ number_in slot
 number_home index t place slot fits e s h =
     let open_home = ap (λ z. is_open (held z) t) (sym s) ∙ of_open slot t h in
     ap (number_at index t) (seat_home index.slots.items t place fits e open_home) ∙ ap number_in (sym s)
 
 -- Those whose home is empty have no number.
-pub number_none : (index : Index) (t : ℕ × ℕ) (place : ℕ) (slot : Slot) → t.0 < 2 ^ 32 → place ≡ home index.slots.items t → slot ≡ slot_at index.slots.items place → slot.ordinal ≡ 0 → number_of index t ≡ None
+pub number_none : (index : Index) (t : ℕ × ℕ) (place : ℕ) (slot : Slot) → t.0 < 2 ^ 32 → place ≡ home index.slots.items t → slot ≡ slot_at index.slots.items place → slot.ordinal ≡ 0
+    → number_of index t ≡ None
 number_none index t place slot fits e s q =
     let b : (slot.ordinal == 0) ≡ true = grind (arith, q) in
     let none : held slot ≡ None = rw b refl in
@@ -80,11 +84,13 @@ number_none index t place slot fits e s q =
     ap (number_at index t) (seat_home index.slots.items t place fits e open_home) ∙ ap number_in (sym s) ∙ ap (option_map (λ (p : Placed). p.number)) none
 
 -- A class and key that aren't in the index have no number.
-number_nowhere : (index : Index) (t : ℕ × ℕ) → get target_cmp index.others t ≡ None → ((i : ℕ) (p : Placed) → held (slot_at index.slots.items i) ≡ Some p → (p.class, p.key) ≢ t) → (n place : ℕ) → number_at index t (open_slot_from n place index.slots.items t) ≡ None
+number_nowhere : (index : Index) (t : ℕ × ℕ) → get target_cmp index.others t ≡ None → ((i : ℕ) (p : Placed) → held (slot_at index.slots.items i) ≡ Some p → (p.class, p.key) ≢ t) → (n place : ℕ)
+    → number_at index t (open_slot_from n place index.slots.items t) ≡ None
 number_nowhere index t o s zero place = o
 number_nowhere index t o s (suc n) place = by_slot (held (slot_at index.slots.items place)) refl (number_nowhere index t o s n (place + 1))
   where
-    by_slot : (slot : Option Placed) → held (slot_at index.slots.items place) ≡ slot → number_at index t (open_slot_from n (place + 1) index.slots.items t) ≡ None → number_at index t (if is_open slot t then Some place else open_slot_from n (place + 1) index.slots.items t) ≡ None
+    by_slot : (slot : Option Placed) → held (slot_at index.slots.items place) ≡ slot → number_at index t (open_slot_from n (place + 1) index.slots.items t) ≡ None
+        → number_at index t (if is_open slot t then Some place else open_slot_from n (place + 1) index.slots.items t) ≡ None
     by_slot None e h = ap (option_map (λ (p : Placed). p.number)) e
     by_slot (Some p) e h = by_test (is_open (Some p) t) refl
       where
@@ -92,7 +98,8 @@ number_nowhere index t o s (suc n) place = by_slot (held (slot_at index.slots.it
         by_test true f = absurd (s place p e (same_target p.class p.key t f))
         by_test false f = h
 
-pub none_of : (index : Index) (t : ℕ × ℕ) → get target_cmp index.others t ≡ None → ((i : ℕ) (p : Placed) → held (slot_at index.slots.items i) ≡ Some p → (p.class, p.key) ≢ t) → number_of index t ≡ None
+pub none_of : (index : Index) (t : ℕ × ℕ) → get target_cmp index.others t ≡ None → ((i : ℕ) (p : Placed) → held (slot_at index.slots.items i) ≡ Some p → (p.class, p.key) ≢ t)
+    → number_of index t ≡ None
 unfolding open_slot
 none_of index t o s = by_class (nat_lt t.0 (2 ^ 32))
   where

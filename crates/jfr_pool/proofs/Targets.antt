@@ -61,7 +61,8 @@ last_push n [] e t = by_test (hits e t) (let q : n + 0 ≡ n = omega arith in ap
     by_test false q = refl
 last_push n (x ∷ es) e t = ap (or_later n (hits x t)) (last_push (n + 1) es e t) ∙ by_test (hits e t) (let q : n + 1 + length es ≡ n + suc (length es) = omega arith in ap (λ m. Some m) q)
   where
-    by_test : (b : Bool) → Some (n + 1 + length es) ≡ Some (n + suc (length es)) → or_later n (hits x t) (cond b (Some (n + 1 + length es)) (last_from (n + 1) es t)) ≡ cond b (Some (n + suc (length es))) (or_later n (hits x t) (last_from (n + 1) es t))
+    by_test : (b : Bool) → Some (n + 1 + length es) ≡ Some (n + suc (length es))
+        → or_later n (hits x t) (cond b (Some (n + 1 + length es)) (last_from (n + 1) es t)) ≡ cond b (Some (n + suc (length es))) (or_later n (hits x t) (last_from (n + 1) es t))
     by_test true q = q
     by_test false q = refl
 

@@ -34,7 +34,8 @@ events_size : (c : List ℕ) (k : Classes) (rs : List Framed) → total (λ e. e
 events_size c k [] = omega arith
 events_size c k (r ∷ rs) = by_answer (run (value_format k (inline r.type_id)) c (record_end r) r.body) (events_size c k rs)
   where
-    by_answer : (a : Answer Value) → total (λ e. e.record_of.size) (filter_map (event_of c k) rs) ≤ total record_size rs → total (λ e. e.record_of.size) (cons_option (event_by r a) (filter_map (event_of c k) rs)) ≤ r.size + total record_size rs
+    by_answer : (a : Answer Value) → total (λ e. e.record_of.size) (filter_map (event_of c k) rs) ≤ total record_size rs
+        → total (λ e. e.record_of.size) (cons_option (event_by r a) (filter_map (event_of c k) rs)) ≤ r.size + total record_size rs
     by_answer (Ok g) i = omega arith
     by_answer (Err f) i = omega arith
 
@@ -56,7 +57,8 @@ module _ (p : Parts) (parts : AreParts p) where
   events_within : total (λ e. node_leaves p e.node) (events_of p) ≤ total record_size (event_records p.classes p.records)
   unfolding events_of
   events_within =
-      let a : total (λ e. node_leaves p e.node) (events_of p) ≤ total (λ e. e.record_of.size) (events_of p) = total_most (λ e. node_leaves p e.node) (λ e. e.record_of.size) (events_of p) event_within in
+      let a : total (λ e. node_leaves p e.node) (events_of p) ≤ total (λ e. e.record_of.size) (events_of p) =
+      total_most (λ e. node_leaves p e.node) (λ e. e.record_of.size) (events_of p) event_within in
       let b : total (λ e. e.record_of.size) (events_of p) ≤ total record_size (event_records p.classes p.records) = events_size p.bytes p.classes (event_records p.classes p.records) in
       omega arith
 

@@ -38,16 +38,20 @@ module _ (p : Parts) where
     abbrev pub Going : ℕ → List Bool → List ℕ → ℕ → ℕ → Type 0
     Going steps f o at s = Walking (length p.entries) (next_entries p) (roots p (kept_by p keep)) (entry_leaves p) (steps + event_leaves p (kept_by p keep)) f o at s
 
-    pub going_starts : (steps : ℕ) (f g : List Bool) (o q : List ℕ) (s : ℕ) → f ≡ replicate (length p.entries) false → o ≡ [] → g ≡ marked_at f (roots p (kept_by p keep)) → q ≡ ordered_all f o (roots p (kept_by p keep))
+    pub going_starts : (steps : ℕ) (f g : List Bool) (o q : List ℕ) (s : ℕ) → f ≡ replicate (length p.entries) false → o ≡ [] → g ≡ marked_at f (roots p (kept_by p keep))
+        → q ≡ ordered_all f o (roots p (kept_by p keep))
         → s ≤ steps + event_leaves p (kept_by p keep) → Going steps g q 0 s
     going_starts steps f g o q s a b x y few =
         started (length p.entries) (next_entries p) (roots p (kept_by p keep)) (entry_leaves p) (roots_below (kept_by p keep)) next_below (steps + event_leaves p (kept_by p keep)) s g q
-        (x ∙ ap (λ v. marked_at v (roots p (kept_by p keep))) a) (y ∙ (ap (λ v. ordered_all v o (roots p (kept_by p keep))) a ∙ ap (λ v. ordered_all (replicate (length p.entries) false) v (roots p (kept_by p keep))) b)) few
+        (x ∙ ap (λ v. marked_at v (roots p (kept_by p keep))) a)
+        (y ∙ (ap (λ v. ordered_all v o (roots p (kept_by p keep))) a ∙ ap (λ v. ordered_all (replicate (length p.entries) false) v (roots p (kept_by p keep))) b)) few
 
-    pub going_on : (steps : ℕ) (f g : List Bool) (o q : List ℕ) (at s t j : ℕ) → at < length o → Going steps f o at s → j ≡ slice_index o at → g ≡ marked_at f (next_entries p j) → q ≡ ordered_all f o (next_entries p j) → t ≡ s + entry_leaves p j
+    pub going_on : (steps : ℕ) (f g : List Bool) (o q : List ℕ) (at s t j : ℕ) → at < length o → Going steps f o at s → j ≡ slice_index o at → g ≡ marked_at f (next_entries p j)
+        → q ≡ ordered_all f o (next_entries p j) → t ≡ s + entry_leaves p j
         → Going steps g q (at + 1) t
     going_on steps f g o q at s t j h w e x y z =
-        went_on (length p.entries) (next_entries p) (roots p (kept_by p keep)) (entry_leaves p) (roots_below (kept_by p keep)) next_below (steps + event_leaves p (kept_by p keep)) f g o q at s t j h w e x y z
+        went_on (length p.entries) (next_entries p) (roots p (kept_by p keep)) (entry_leaves p) (roots_below (kept_by p keep)) next_below
+        (steps + event_leaves p (kept_by p keep)) f g o q at s t j h w e x y z
 
     pub going_ends : (steps : ℕ) (f : List Bool) (o : List ℕ) (at s : ℕ) → length o ≤ at → Going steps f o at s → f ≡ reached_marks p (kept_by p keep)
     unfolding reached_marks

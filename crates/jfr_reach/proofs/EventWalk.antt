@@ -33,7 +33,8 @@ below_all : (n : ℕ) (xs : List ℕ) → AllBelow n xs → AllByRecursion (λ x
 below_all n [] h = tt
 below_all n (x ∷ xs) h = (h x (inl refl), below_all n xs (λ i k. h i (inr k)))
 
-pub event_entries : (p : Parts) → AreParts p → (i : ℕ) (numbers : List ℕ) → Some numbers ≡ option_map (λ (e : EventAt). node_entries p.entries p.classes p.bytes e.node) (slice_get (events_of p) i) → EventEntries p i numbers
+pub event_entries : (p : Parts) → AreParts p → (i : ℕ) (numbers : List ℕ) → Some numbers ≡ option_map (λ (e : EventAt). node_entries p.entries p.classes p.bytes e.node) (slice_get (events_of p) i)
+    → EventEntries p i numbers
 event_entries p parts i numbers h = by_event (slice_get (events_of p) i) refl h
   where
     by_event : (o : Option EventAt) → slice_get (events_of p) i ≡ o → Some numbers ≡ option_map (λ (e : EventAt). node_entries p.entries p.classes p.bytes e.node) o → EventEntries p i numbers
@@ -111,7 +112,8 @@ module _ (p : Parts) (keep flags : List Bool) (order : List ℕ) (steps : ℕ) w
       subst (λ m. EventsLeft p keep flags order steps g q m t) n (record {
         size = ap length x ∙ (all_size f (roots p here) ∙ w.size);
         flags_left = ap (λ v. marked_at v (roots p later)) x ∙ (sym (ap (marked_at f) u ∙ all_append f (roots p here) (roots p later)) ∙ w.flags_left);
-        order_left = ap (λ v. ordered_all g v (roots p later)) y ∙ (ap (λ v. ordered_all v (ordered_all f o (roots p here)) (roots p later)) x ∙ (sym (ap (ordered_all f o) u ∙ ordered_append f o (roots p here) (roots p later)) ∙ w.order_left));
+        order_left = ap (λ v. ordered_all g v (roots p later)) y
+            ∙ (ap (λ v. ordered_all v (ordered_all f o (roots p here)) (roots p later)) x ∙ (sym (ap (ordered_all f o) u ∙ ordered_append f o (roots p here) (roots p later)) ∙ w.order_left));
         cost = omega arith;
       })
 
@@ -138,7 +140,8 @@ pub record AllEntries (p : Parts) (keep : List Bool) (numbers : List ℕ) : Type
   pub below : AllByRecursion (λ n. n < length p.entries) numbers
   pub few : length numbers ≤ event_leaves p (kept_by p keep)
 
-pub all_entries : (p : Parts) → AreParts p → (keep : List Bool) (numbers : List ℕ) → list_all (λ k. k) keep ≡ true → length keep ≡ length (events_of p) → numbers ≡ roots p (events_of p) → AllEntries p keep numbers
+pub all_entries : (p : Parts) → AreParts p → (keep : List Bool) (numbers : List ℕ) → list_all (λ k. k) keep ≡ true → length keep ≡ length (events_of p) → numbers ≡ roots p (events_of p)
+    → AllEntries p keep numbers
 all_entries p parts keep numbers a l e =
     let k : kept_by p keep ≡ events_of p = all_marked keep (events_of p) a l in
     let f = all_few p parts (events_of p) (λ e i. i) in

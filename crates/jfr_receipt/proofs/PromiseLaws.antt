@@ -64,13 +64,15 @@ module _ (g : Given) (described : Option (List (List ℕ))) where
                 ∙ sym (ap (λ r. flat_map (receipt_for (describes filter) g) (read_on n r ps).parts) e)));
           }
 
-  pub are_scrubs : (x : List ℕ) → AllAccepted refusal_of x → length (recording_receipts filter x) < 2 ^ 40 → AreScrubs g (record { input = Some x; output = Some (recording_scrubbed filter x); receipt = Some (recording_receipts filter x) })
+  pub are_scrubs : (x : List ℕ) → AllAccepted refusal_of x → length (recording_receipts filter x) < 2 ^ 40
+      → AreScrubs g (record { input = Some x; output = Some (recording_scrubbed filter x); receipt = Some (recording_receipts filter x) })
   unfolding recording_of
   are_scrubs x a short =
       let cs : List (List ℕ) = (cut x 0 true).chunks in
       let o : AreOf 1 cs = are_of 1 cs a.each in
       let e : recording_of x ≡ recording_from 1 cs None = ap (recording_from 1 cs) a.flawless in
-      let receipts : recording_receipts filter x ≡ flat_map (receipt_for (describes filter) g) (recording_of x).parts = o.receipts ∙ ap (λ (z : Recording). flat_map (receipt_for (describes filter) g) z.parts) (sym e) in
+      let receipts : recording_receipts filter x ≡ flat_map (receipt_for (describes filter) g) (recording_of x).parts =
+      o.receipts ∙ ap (λ (z : Recording). flat_map (receipt_for (describes filter) g) z.parts) (sym e) in
       record {
         names = describes filter;
         input = x;

@@ -25,7 +25,8 @@ pub scrub_read : (p : Parts) (g : Given) (k : IsKept (describes g) p (kept_of g 
 scrub_read p g k = ((is_computed (scrub_of (describes g) p (kept_of g p)) k.whole.long).parts k.parts).0 (k.bytes, k.valid)
 
 -- The receipt of what a chunk becomes.
-pub receipt_is : (g : Given) (c r : List ℕ) (p : Parts) → Whole c → read_parts c ≡ Ok p → ((names : Names) (k : IsKept names p (kept_of g p)) → r ≡ receipt_of k.parts) → (refusal_of c ≡ None) × (r ≡ scrub_receipt g c)
+pub receipt_is : (g : Given) (c r : List ℕ) (p : Parts) → Whole c → read_parts c ≡ Ok p → ((names : Names) (k : IsKept names p (kept_of g p)) → r ≡ receipt_of k.parts)
+    → (refusal_of c ≡ None) × (r ≡ scrub_receipt g c)
 unfolding refusal_of scrubbed scrub_receipt
 receipt_is g c r p w e h =
     let u = ((is_computed c w.long).parts p).1 e in

@@ -117,7 +117,8 @@ module _ (p : Parts) (a : AreParts p) (flags : List Bool) where
     firsts_are = firsts_same (same_new new) (λ e f. together p (pair_of e) (pair_of f)) (remain p kept) together_by
 
   -- So it is for marked entries.
-  pub firsts_marked : (k : NumberedPairs) → ((t : ℕ × ℕ) → number_of k t ≡ new_key_of p kept t) → (marks : List Bool) → marks ≡ reached_marks p kept → firsts_by (number_or_zero k) (marked marks p.entries) ≡ firsts p kept
+  pub firsts_marked : (k : NumberedPairs) → ((t : ℕ × ℕ) → number_of k t ≡ new_key_of p kept t) → (marks : List Bool) → marks ≡ reached_marks p kept
+      → firsts_by (number_or_zero k) (marked marks p.entries) ≡ firsts p kept
   unfolding remain
   firsts_marked k h marks m = ap (λ z. firsts_by (number_or_zero k) (marked z p.entries)) m ∙ firsts_are (number_or_zero k) (number_used k h)
 
@@ -134,7 +135,8 @@ module _ (p : Parts) (a : AreParts p) (flags : List Bool) where
     pub entry_same : (e : EntryAt) → In (remain p kept) e → entry_bytes new p e ≡ entry_bytes (new_key p kept) p e
     entry_same e i =
         ap (λ n. spell n ++ rekeyed_bytes new p.classes p.bytes (entry_node e)) (same (pair_of e) (remains_used p (has_nodes p a) kept (kept_nodes p a kept (chosen_events p flags)) e i).used)
-        ∙ ap (λ z. spell (new_key p kept (pair_of e)) ++ z) (bytes_same new (new_key p kept) p.classes p.bytes (entry_node e) (λ t j. listed t (entry_used p (has_nodes p a) kept (kept_nodes p a kept (chosen_events p flags)) e t i j)))
+        ∙ ap (λ z. spell (new_key p kept (pair_of e)) ++ z)
+        (bytes_same new (new_key p kept) p.classes p.bytes (entry_node e) (λ t j. listed t (entry_used p (has_nodes p a) kept (kept_nodes p a kept (chosen_events p flags)) e t i j)))
 
     abbrev SameEntry : EntryAt → Type 0
     SameEntry e = entry_bytes new p e ≡ entry_bytes (new_key p kept) p e
@@ -159,8 +161,11 @@ module _ (p : Parts) (a : AreParts p) (flags : List Bool) where
     record_same (Rebuilt r x) at older = refl
     record_same (Chained i l) at older =
         let these : List EntryAt = filter (λ e. e.checkpoint == i) (firsts p kept) in
-        let all : AllByRecursion SameEntry (flat_map (λ g. g.entries) (by_pool these)) = subst (AllByRecursion SameEntry) (sym (groups_hold these)) (filter_all SameEntry (λ e. e.checkpoint == i) (firsts p kept) first_same) in
-        ap (λ z. sized (l.frame.type_at - l.frame.at) (slice_range p.bytes l.frame.type_at l.frame.body ++ (slice_range p.bytes l.frame.body l.delta_at ++ (spell (distance at older) ++ (slice_range p.bytes l.delta_end (l.delta_end + 1) ++ (spell (length (by_pool these)) ++ z))))))
+        let all : AllByRecursion SameEntry (flat_map (λ g. g.entries) (by_pool these)) =
+        subst (AllByRecursion SameEntry) (sym (groups_hold these)) (filter_all SameEntry (λ e. e.checkpoint == i) (firsts p kept) first_same) in
+        ap (λ z. sized (l.frame.type_at - l.frame.at)
+        (slice_range p.bytes l.frame.type_at l.frame.body
+        ++ (slice_range p.bytes l.frame.body l.delta_at ++ (spell (distance at older) ++ (slice_range p.bytes l.delta_end (l.delta_end + 1) ++ (spell (length (by_pool these)) ++ z))))))
         (groups_same (by_pool these) (all_in_groups SameEntry (by_pool these) all))
 
     -- So the output with these keys is the output with the new ones.

@@ -17,7 +17,8 @@ chunks_same : (g : Given) (c d : List ℕ) → Whole c → Whole d → ChunksAgr
 unfolding renumbered
 chunks_same g c d w v s =
     ap (renumbered_by g) (parts_read g c d w s)
-    ∙ (same_renumber (new_metadata (describes g) s.parts (kept_of g s.parts)) (new_metadata (describes g) s.others (kept_of g s.others)) s.parts s.others (kept_of g s.parts) (kept_of g s.others) s.valid s.others_valid
+    ∙ (same_renumber (new_metadata (describes g) s.parts (kept_of g s.parts)) (new_metadata (describes g) s.others (kept_of g s.others)) s.parts s.others (kept_of g s.parts)
+    (kept_of g s.others) s.valid s.others_valid
     (chosen_events s.parts (chosen g s.parts)) (chosen_events s.others (chosen g s.others)) s.same
     ∙ sym (ap (renumbered_by g) (others_read g c d v s)))
 

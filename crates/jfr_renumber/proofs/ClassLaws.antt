@@ -138,7 +138,11 @@ module _ (together : ℕ × ℕ → ℕ × ℕ → Bool) (us : List (ℕ × ℕ)
     rising = rising_by (λ (z : UsedKey). (f.class, z.key)) seg steps;
     used = λ k c. subst (λ z. Contains us (z, k.key)) (seg_class k c) (are.used k (seg_member k c));
     all = λ key c. found key (are.all (f.class, key) c);
-    alike = λ k l c d. ((λ e. ((are.alike k l (seg_member k c) (seg_member l d)).0 (back k l c d e)).1), λ h. on k l c d ((are.alike k l (seg_member k c) (seg_member l d)).1 (seg_class k c ∙ sym (seg_class l d), h)));
+    alike = λ k l c d. (
+      (λ e. ((are.alike k l (seg_member k c) (seg_member l d)).0 (back k l c d e)).1),
+      λ h. on k l c d
+          ((are.alike k l (seg_member k c) (seg_member l d)).1 (seg_class k c ∙ sym (seg_class l d), h)),
+    );
   }
     where
       steps : (i j : ℕ) (k l : UsedKey) → i < j → slice_get seg i ≡ Some k → slice_get seg j ≡ Some l → Earlier (f.class, k.key) (f.class, l.key)

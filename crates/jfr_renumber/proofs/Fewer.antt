@@ -129,7 +129,11 @@ module _ (p : Parts) (sound : Sound p.classes) (new : ℕ × ℕ → ℕ) (most 
   front_short number class (f ∷ fs) [] gs hs n b s = absurd (omega (arith, n))
   front_short number class (f ∷ fs) (e ∷ es) gs hs n b s =
       let m = number_short (length (f ∷ fs)) (length (e ∷ es)) n in
-      record { count = omega (arith, s.count); bytes = omega (arith, s.bytes, m, b, front_length (entry_bytes new p) number class f fs gs, front_length (old.entry_bytes p.bytes) number class e es hs) }
+      record {
+        count = omega (arith, s.count);
+        bytes = omega
+            (arith, s.bytes, m, b, front_length (entry_bytes new p) number class f fs gs, front_length (old.entry_bytes p.bytes) number class e es hs);
+      }
 
   none_short : Shorter [] []
   none_short = record { count = omega arith; bytes = omega arith }
@@ -137,7 +141,8 @@ module _ (p : Parts) (sound : Sound p.classes) (new : ℕ × ℕ → ℕ) (most 
   -- The groups of a pool's entries, before those of later pools.
   split_groups : (checkpoint number : ℕ) (q : PoolAt) (ps : List PoolAt) (marks : List Bool)
       → by_pool (marked marks (map (entry_of checkpoint number q.class) q.constants ++ entries_from checkpoint (number + 1) ps))
-      ≡ in_front number q.class (marked marks (map (entry_of checkpoint number q.class) q.constants)) (by_pool (marked (drop (length (map (entry_of checkpoint number q.class) q.constants)) marks) (entries_from checkpoint (number + 1) ps)))
+      ≡ in_front number q.class (marked marks (map (entry_of checkpoint number q.class) q.constants))
+      (by_pool (marked (drop (length (map (entry_of checkpoint number q.class) q.constants)) marks) (entries_from checkpoint (number + 1) ps)))
   split_groups checkpoint number q ps marks =
       let these : List EntryAt = map (entry_of checkpoint number q.class) q.constants in
       let rest : List EntryAt = entries_from checkpoint (number + 1) ps in
@@ -189,7 +194,8 @@ module _ (p : Parts) (sound : Sound p.classes) (new : ℕ × ℕ → ℕ) (most 
       (subst (λ z. Shorter (by_pool (of_one i z)) (by_pool (of_one i (marked ms [])))) (sym (marked_none fs)) (subst (λ z. Shorter [] (by_pool (of_one i z))) (sym (marked_none ms)) none_short))
   numbers_short number (l ∷ ls) es fs ms u a i s =
       subst (λ z. Shorter (by_pool (of_one i (marked fs z))) (by_pool (of_one i (marked ms z)))) (sym a.3)
-      (by_test (numbers_short (number + 1) ls a.2 (drop (length (entries_from number 0 a.0)) fs) (drop (length (entries_from number 0 a.0)) ms) (under_drop (length (entries_from number 0 a.0)) fs ms u) a.4 i) (number == i) refl (subst (λ z. AllByRecursion (IsEntryIn p.bytes p.classes) (of_one i (marked fs z))) a.3 s))
+      (by_test (numbers_short (number + 1) ls a.2 (drop (length (entries_from number 0 a.0)) fs) (drop (length (entries_from number 0 a.0)) ms)
+      (under_drop (length (entries_from number 0 a.0)) fs ms u) a.4 i) (number == i) refl (subst (λ z. AllByRecursion (IsEntryIn p.bytes p.classes) (of_one i (marked fs z))) a.3 s))
     where
       n : ℕ
       n = length (entries_from number 0 a.0)
@@ -197,7 +203,8 @@ module _ (p : Parts) (sound : Sound p.classes) (new : ℕ × ℕ → ℕ) (most 
       Later : Type 0
       Later = AllByRecursion (IsEntryIn p.bytes p.classes) (of_one i (marked (drop n fs) a.2)) → Shorter (by_pool (of_one i (marked (drop n fs) a.2))) (by_pool (of_one i (marked (drop n ms) a.2)))
 
-      by_test : Later → (t : Bool) → (number == i) ≡ t → AllByRecursion (IsEntryIn p.bytes p.classes) (of_one i (marked fs (entries_from number 0 a.0 ++ a.2))) → Shorter (by_pool (of_one i (marked fs (entries_from number 0 a.0 ++ a.2)))) (by_pool (of_one i (marked ms (entries_from number 0 a.0 ++ a.2))))
+      by_test : Later → (t : Bool) → (number == i) ≡ t → AllByRecursion (IsEntryIn p.bytes p.classes) (of_one i (marked fs (entries_from number 0 a.0 ++ a.2)))
+          → Shorter (by_pool (of_one i (marked fs (entries_from number 0 a.0 ++ a.2)))) (by_pool (of_one i (marked ms (entries_from number 0 a.0 ++ a.2))))
       by_test r true e st =
           let q : number ≡ i = exact_unsigned_eq number i e in
           let mine : Of i (entries_from number 0 a.0) = subst (λ z. Of z (entries_from number 0 a.0)) q (of_number number 0 a.0) in
@@ -243,5 +250,6 @@ module _ (p : Parts) (sound : Sound p.classes) (new : ℕ × ℕ → ℕ) (most 
       let gy : List ℕ = flat_map (old.group_bytes c) hs in
       let d = delta_short at other older elder e h in
       let m = number_short (length gs) (length hs) s.count in
-      let tails : length (checkpoint_tail new p l (distance at older) gs) ≤ length (old.checkpoint_tail c l (distance other elder) hs) = omega (arith, s.bytes, tail_length a b dx k nx gx, tail_length a b dy k ny gy) in
+      let tails : length (checkpoint_tail new p l (distance at older) gs) ≤ length (old.checkpoint_tail c l (distance other elder) hs) =
+      omega (arith, s.bytes, tail_length a b dx k nx gx, tail_length a b dy k ny gy) in
       omega (arith, tails, sized_length n (checkpoint_tail new p l (distance at older) gs), sized_length n (old.checkpoint_tail c l (distance other elder) hs))

@@ -23,11 +23,13 @@ not_falling ps t r i j d h w = by_order (split i j h)
 
     by_order : (i < j) ⊎ (i ≡ j) → ordering_index (pair_cmp (slice_index_or ps i d) t) ≤ ordering_index (pair_cmp (slice_index_or ps j d) t)
     by_order (inl a) =
-        grows t (slice_index_or ps i d) (slice_index_or ps j d) (rising_at ps i j (slice_index_or ps i d) (slice_index_or ps j d) r a (slice_get-get_or ps i d (omega (arith, a, w))) (slice_get-get_or ps j d w))
+        grows t (slice_index_or ps i d) (slice_index_or ps j d)
+        (rising_at ps i j (slice_index_or ps i d) (slice_index_or ps j d) r a (slice_get-get_or ps i d (omega (arith, a, w))) (slice_get-get_or ps j d w))
     by_order (inr e) = subst (λ k. ordering_index (pair_cmp (slice_index_or ps i d) t) ≤ ordering_index (pair_cmp (slice_index_or ps k d) t)) e (omega arith)
 
 -- The pair is at the index that was found.
-pub found_by : (ps : List (ℕ × ℕ)) (t : ℕ × ℕ) (r : Result ℕ ℕ) (o : Option ℕ) → IsSearchInRange r (length ps) → IsBinarySearchResult (λ u. pair_cmp u t) ps r → o ≡ result_ok r → IfSome o (λ i. slice_get ps i ≡ Some t)
+pub found_by : (ps : List (ℕ × ℕ)) (t : ℕ × ℕ) (r : Result ℕ ℕ) (o : Option ℕ) → IsSearchInRange r (length ps) → IsBinarySearchResult (λ u. pair_cmp u t) ps r → o ≡ result_ok r
+    → IfSome o (λ i. slice_get ps i ≡ Some t)
 found_by ps t (Ok i) o w h e = subst (λ z. IfSome z (λ i. slice_get ps i ≡ Some t)) (sym e) (slice_get-get_or ps i t w ∙ ap (λ z. Some z) (as_early (slice_index_or ps i t) t (h t)))
 found_by ps t (Err i) o w h e = subst (λ z. IfSome z (λ i. slice_get ps i ≡ Some t)) (sym e) tt
 

@@ -64,7 +64,8 @@ outputs_whole g c w n =
 
 -- An answer that the plan ends with.
 pub headline : (g : Given) (input output : List ℕ) (e : Ending) (a b : State) → (e ≡ ending.Done → Ended (over (renumbering g output) input) Fine (without_sink a) (without_sink b))
-    → ((r : Refusal) → e ≡ ending.Refused r → Ended (over (renumbering g output) input) (Refused r) (without_sink a) (without_sink b)) → IsByPlan e → IfKnown a.contents b.contents (Renumbers g input output)
+    → ((r : Refusal) → e ≡ ending.Refused r → Ended (over (renumbering g output) input) (Refused r) (without_sink a) (without_sink b)) → IsByPlan e
+    → IfKnown a.contents b.contents (Renumbers g input output)
 headline g input output = made_by_plan refusal_of (renumbered g) input output (Renumbers g input output)
     (has_output refusal_of (renumbered g) (IsRenumberedOutput g) (is_output g) (written_chunks refusal_of (renumbered g) (outputs_whole g)) input output)
 

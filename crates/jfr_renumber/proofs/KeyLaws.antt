@@ -110,11 +110,23 @@ module _ (together : ℕ × ℕ → ℕ × ℕ → Bool) (same : Together togeth
 
       by_order : (l : Least us t) → together u t ≡ true → (u.1 ≤ smallest together us t) ⊎ (smallest together us t ≤ u.1) → Least (u ∷ us) t
       by_order l q (inl h) = record { pair = u; from = inr (inl refl); together_with = q; key = ap (λ b. if b then min u.1 (smallest together us t) else smallest together us t) q ∙ omega arith }
-      by_order l q (inr h) = record { pair = l.pair; from = later l l.from; together_with = l.together_with; key = ap (λ b. if b then min u.1 (smallest together us t) else smallest together us t) q ∙ (let e : min u.1 (smallest together us t) ≡ smallest together us t = omega arith in e ∙ l.key) }
+      by_order l q (inr h) = record {
+        pair = l.pair;
+        from = later l l.from;
+        together_with = l.together_with;
+        key = ap (λ b. if b then min u.1 (smallest together us t) else smallest together us t) q
+            ∙ (let e : min u.1 (smallest together us t) ≡ smallest together us t = omega arith in e ∙ l.key);
+      }
 
       by_test : (b : Bool) → together u t ≡ b → Least us t → Least (u ∷ us) t
       by_test true q l = by_order l q (either u.1 (smallest together us t))
-      by_test false q l = record { pair = l.pair; from = later l l.from; together_with = l.together_with; key = ap (λ b. if b then min u.1 (smallest together us t) else smallest together us t) q ∙ l.key }
+      by_test false q l = record {
+        pair = l.pair;
+        from = later l l.from;
+        together_with = l.together_with;
+        key = ap (λ b. if b then min u.1 (smallest together us t) else smallest together us t) q
+            ∙ l.key;
+      }
 
   -- It is below the key of each member of the group, and of the pair itself.
   pub smallest_most : (us : List (ℕ × ℕ)) (t : ℕ × ℕ) → smallest together us t ≤ t.1
@@ -182,8 +194,10 @@ module _ (together : ℕ × ℕ → ℕ × ℕ → Bool) (same : Together togeth
     any_in [] t e = cc
     any_in (u ∷ us) t e = by_head ((u.0 == t.0) && (u.1 == t.1)) refl e (any_in us t)
       where
-        by_head : (b : Bool) → ((u.0 == t.0) && (u.1 == t.1)) ≡ b → (b || list_any (λ u. (u.0 == t.0) && (u.1 == t.1)) us) ≡ true → (list_any (λ u. (u.0 == t.0) && (u.1 == t.1)) us ≡ true → In us t) → In (u ∷ us) t
-        by_head true q r f = inl (ap (λ (z : ℕ). (z, u.1)) (exact_unsigned_eq u.0 t.0 (first_so (u.0 == t.0) (u.1 == t.1) q)) ∙ ap (λ (z : ℕ). (t.0, z)) (exact_unsigned_eq u.1 t.1 (second_so (u.0 == t.0) (u.1 == t.1) q)))
+        by_head : (b : Bool) → ((u.0 == t.0) && (u.1 == t.1)) ≡ b → (b || list_any (λ u. (u.0 == t.0) && (u.1 == t.1)) us) ≡ true → (list_any (λ u. (u.0 == t.0) && (u.1 == t.1)) us ≡ true → In us t)
+            → In (u ∷ us) t
+        by_head true q r f = inl (ap (λ (z : ℕ). (z, u.1)) (exact_unsigned_eq u.0 t.0 (first_so (u.0 == t.0) (u.1 == t.1) q))
+            ∙ ap (λ (z : ℕ). (t.0, z)) (exact_unsigned_eq u.1 t.1 (second_so (u.0 == t.0) (u.1 == t.1) q)))
         by_head false q r f = inr (f r)
 
     pub group_begins : (t : ℕ × ℕ) → In us t → begins together us (t.0, smallest together us t) ≡ true
@@ -214,20 +228,24 @@ module _ (together : ℕ × ℕ → ℕ × ℕ → Bool) (same : Together togeth
         let f = first_of_group t i in
         let g = first_of_group u j in
         let h = by_order (order (smallest together us t) (smallest together us u)) in
-        same.transitive t (u.0, smallest together us u) u (same.symmetric (u.0, smallest together us u) t (subst (λ z. together z t ≡ true) (ap (λ (z : ℕ). (z, smallest together us t)) c ∙ ap (λ (z : ℕ). (u.0, z)) h) f.1)) g.1
+        same.transitive t (u.0, smallest together us u) u
+        (same.symmetric (u.0, smallest together us u) t (subst (λ z. together z t ≡ true) (ap (λ (z : ℕ). (z, smallest together us t)) c ∙ ap (λ (z : ℕ). (u.0, z)) h) f.1)) g.1
       where
         order : (a b : ℕ) → (a < b) ⊎ ((b < a) ⊎ (a ≡ b))
         order a b = grind arith
 
-        by_order : (smallest together us t < smallest together us u) ⊎ ((smallest together us u < smallest together us t) ⊎ (smallest together us t ≡ smallest together us u)) → smallest together us t ≡ smallest together us u
+        by_order : (smallest together us t < smallest together us u) ⊎ ((smallest together us u < smallest together us t) ⊎ (smallest together us t ≡ smallest together us u))
+            → smallest together us t ≡ smallest together us u
         by_order (inl l) =
             let p : begins together us (u.0, smallest together us t) ≡ true = subst (λ c. begins together us (c, smallest together us t) ≡ true) c (group_begins t i) in
             let n = count_passes (λ key. begins together us (u.0, key)) (smallest together us t) (smallest together us u) p l in
-            let q : count_below (smallest together us t) (λ key. begins together us (t.0, key)) ≡ count_below (smallest together us t) (λ key. begins together us (u.0, key)) = ap (λ c. count_below (smallest together us t) (λ key. begins together us (c, key))) c in
+            let q : count_below (smallest together us t) (λ key. begins together us (t.0, key)) ≡ count_below (smallest together us t) (λ key. begins together us (u.0, key)) =
+            ap (λ c. count_below (smallest together us t) (λ key. begins together us (c, key))) c in
             absurd (omega arith)
         by_order (inr (inl l)) =
             let n = count_passes (λ key. begins together us (u.0, key)) (smallest together us u) (smallest together us t) (group_begins u j) l in
-            let q : count_below (smallest together us t) (λ key. begins together us (t.0, key)) ≡ count_below (smallest together us t) (λ key. begins together us (u.0, key)) = ap (λ c. count_below (smallest together us t) (λ key. begins together us (c, key))) c in
+            let q : count_below (smallest together us t) (λ key. begins together us (t.0, key)) ≡ count_below (smallest together us t) (λ key. begins together us (u.0, key)) =
+            ap (λ c. count_below (smallest together us t) (λ key. begins together us (c, key))) c in
             absurd (omega arith)
         by_order (inr (inr q)) = q
 

@@ -104,7 +104,8 @@ module _ (p : Parts) (a : AreParts p) (kept : List EventAt) (are : AreEvents p k
       event_renamed e f i j h =
           let c : IsChangedEvent (rekeying new) p q e f = record { class = h.class; agree = h.agree; fields = h.fields; rest = h.rest } in
           let lead =
-          event_leads (rekeying new) new never p q kept others a b are those (rekeying_keeps new p.classes) (rekeying_targets new p.classes) (λ t m. in_force_changed t (met_used p kept t m)) e f i j c in
+          event_leads (rekeying new) new never p q kept others a b are those (rekeying_keeps new p.classes) (rekeying_targets new p.classes)
+          (λ t m. in_force_changed t (met_used p kept t m)) e f i j c in
           record {
             class = h.class;
             rest = h.rest;

@@ -61,7 +61,8 @@ flagged_is flags xs n x e f = ap (λ o. option_to_list (option_and_then (λ keep
 pub flagged_not : {X : Type 0} (flags : List Bool) (xs : List X) (n : ℕ) → slice_get flags n ≡ Some false → option_to_list (flagged flags xs n) ≡ []
 flagged_not flags xs n e = ap (λ o. option_to_list (option_and_then (λ keep. if keep then slice_get xs n else None) o)) e
 
-pub entry_unlisted : (p : Parts) (flags : List Bool) (n : ℕ) (list : Missing) → slice_get flags n ≡ Some false → Lists p.entries (all_targets p (map entry_node (option_to_list (flagged flags p.entries n)))) list list
+pub entry_unlisted : (p : Parts) (flags : List Bool) (n : ℕ) (list : Missing) → slice_get flags n ≡ Some false
+    → Lists p.entries (all_targets p (map entry_node (option_to_list (flagged flags p.entries n)))) list list
 entry_unlisted p flags n list e = subst (λ z. Lists p.entries (all_targets p (map entry_node z)) list list) (sym (flagged_not flags p.entries n e)) (lists_none p.entries list)
 
 -- A flag that is there.
@@ -75,13 +76,17 @@ node_listed p ns n es k c a b i e f g h =
     let y : targets k c n ≡ all_targets p ns = ap (λ z. targets z c n) f ∙ (ap (λ z. targets p.classes z n) g ∙ (sym (append-nil (targets p.classes p.bytes n)) ∙ ap (all_targets p) (sym i))) in
     subst (λ z. Lists p.entries z a b) y x
 
-pub event_listed : (p : Parts) (flags : List Bool) (n : ℕ) (e : EventAt) (es : List EntryAt) (k : Classes) (c : List ℕ) (a b : Missing) → slice_get flags n ≡ Some true → slice_get (events_of p) n ≡ Some e → es ≡ p.entries → k ≡ p.classes → c ≡ p.bytes
+pub event_listed : (p : Parts) (flags : List Bool) (n : ℕ) (e : EventAt) (es : List EntryAt) (k : Classes) (c : List ℕ) (a b : Missing) → slice_get flags n ≡ Some true
+    → slice_get (events_of p) n ≡ Some e → es ≡ p.entries → k ≡ p.classes → c ≡ p.bytes
     → TakesAll (λ t old new. Lists es (t ∷ []) old new) (targets k c e.node) a b → Lists p.entries (all_targets p (nodes_of (option_to_list (flagged flags (events_of p) n)))) a b
-event_listed p flags n e es k c a b t g i j l h = node_listed p (nodes_of (option_to_list (flagged flags (events_of p) n))) e.node es k c a b (ap nodes_of (flagged_is flags (events_of p) n e t g)) i j l h
+event_listed p flags n e es k c a b t g i j l h =
+    node_listed p (nodes_of (option_to_list (flagged flags (events_of p) n))) e.node es k c a b (ap nodes_of (flagged_is flags (events_of p) n e t g)) i j l h
 
-pub entry_listed : (p : Parts) (flags : List Bool) (n : ℕ) (e : EntryAt) (es : List EntryAt) (k : Classes) (c : List ℕ) (a b : Missing) → slice_get flags n ≡ Some true → slice_get p.entries n ≡ Some e → es ≡ p.entries → k ≡ p.classes → c ≡ p.bytes
+pub entry_listed : (p : Parts) (flags : List Bool) (n : ℕ) (e : EntryAt) (es : List EntryAt) (k : Classes) (c : List ℕ) (a b : Missing) → slice_get flags n ≡ Some true → slice_get p.entries n ≡ Some e
+    → es ≡ p.entries → k ≡ p.classes → c ≡ p.bytes
     → TakesAll (λ t old new. Lists es (t ∷ []) old new) (targets k c (entry_node e)) a b → Lists p.entries (all_targets p (map entry_node (option_to_list (flagged flags p.entries n)))) a b
-entry_listed p flags n e es k c a b t g i j l h = node_listed p (map entry_node (option_to_list (flagged flags p.entries n))) (entry_node e) es k c a b (ap (map entry_node) (flagged_is flags p.entries n e t g)) i j l h
+entry_listed p flags n e es k c a b t g i j l h =
+    node_listed p (map entry_node (option_to_list (flagged flags p.entries n))) (entry_node e) es k c a b (ap (map entry_node) (flagged_is flags p.entries n e t g)) i j l h
 
 -- Those up to a number, and the next.
 flagged_none : {X : Type 0} (flags : List Bool) (n : ℕ) → flagged {X = X} flags [] n ≡ None
@@ -95,7 +100,8 @@ marked_up flags [] n h = marked_none (take (n + 1) flags) ∙ sym (ap (λ z. z +
 marked_up [] (x ∷ xs) n h = absurd (omega (arith, h))
 marked_up (true ∷ flags) (x ∷ xs) zero h = refl
 marked_up (false ∷ flags) (x ∷ xs) zero h = refl
-marked_up (true ∷ flags) (x ∷ xs) (suc n) h = let q : suc n + 1 ≡ suc (n + 1) = omega arith in ap (λ m. marked (take m (true ∷ flags)) (x ∷ xs)) q ∙ ap (λ z. x ∷ z) (marked_up flags xs n (omega (arith, h)))
+marked_up (true ∷ flags) (x ∷ xs) (suc n) h = let q : suc n + 1 ≡ suc (n + 1) =
+    omega arith in ap (λ m. marked (take m (true ∷ flags)) (x ∷ xs)) q ∙ ap (λ z. x ∷ z) (marked_up flags xs n (omega (arith, h)))
 marked_up (false ∷ flags) (x ∷ xs) (suc n) h = let q : suc n + 1 ≡ suc (n + 1) = omega arith in ap (λ m. marked (take m (false ∷ flags)) (x ∷ xs)) q ∙ marked_up flags xs n (omega (arith, h))
 
 targets_append : (p : Parts) (ns ms : List NodeAt) → all_targets p (ns ++ ms) ≡ all_targets p ns ++ all_targets p ms
@@ -140,7 +146,8 @@ event_next p flags n a b w h l =
     subst (λ z. Holds p z b) (sym e) (holds_more p (all_targets p (nodes_of these)) (all_targets p (nodes_of next)) a b h l)
 
 -- When all events were seen.
-pub events_listed : (p : Parts) (flags : List Bool) (n : ℕ) (list : Missing) → length flags ≤ n → Holds p (all_targets p (nodes_of (marked (take n flags) (events_of p)))) list → Holds p (all_targets p (nodes_of (kept_by p flags))) list
+pub events_listed : (p : Parts) (flags : List Bool) (n : ℕ) (list : Missing) → length flags ≤ n → Holds p (all_targets p (nodes_of (marked (take n flags) (events_of p)))) list
+    → Holds p (all_targets p (nodes_of (kept_by p flags))) list
 events_listed p flags n list w h = subst (λ z. Holds p (all_targets p (nodes_of (marked z (events_of p)))) list) (take_all n flags w) h
 
 -- Before the entries are seen.
@@ -160,7 +167,8 @@ entry_next p ns flags n a b w h l =
     subst (λ z. Holds p z b) (sym e) (holds_more p (all_targets p (ns ++ map entry_node these)) (all_targets p (map entry_node next)) a b h l)
 
 -- When all events and entries were seen.
-pub all_listed : (p : Parts) (flags marks : List Bool) (n : ℕ) (list : Missing) → marks ≡ reached_marks p (kept_by p flags) → length marks ≤ n → Holds p (all_targets p (nodes_of (kept_by p flags) ++ map entry_node (marked (take n marks) p.entries))) list
+pub all_listed : (p : Parts) (flags marks : List Bool) (n : ℕ) (list : Missing) → marks ≡ reached_marks p (kept_by p flags) → length marks ≤ n
+    → Holds p (all_targets p (nodes_of (kept_by p flags) ++ map entry_node (marked (take n marks) p.entries))) list
     → Holds p (used_keys p (kept_by p flags)) list
 unfolding used_keys remain
 all_listed p flags marks n list e w h =
@@ -170,7 +178,8 @@ entry_there : (o : Option EntryAt) (n : NodeAt) → Some n ≡ option_map entry_
 entry_there None n h = cc
 entry_there (Some e) n h = (e, refl, cc)
 
-pub entry_listed_at : (p : Parts) (flags : List Bool) (i : ℕ) (n : NodeAt) (es : List EntryAt) (k : Classes) (c : List ℕ) (a b : Missing) → slice_get flags i ≡ Some true → Some n ≡ option_map entry_node (slice_get p.entries i) → es ≡ p.entries → k ≡ p.classes → c ≡ p.bytes
+pub entry_listed_at : (p : Parts) (flags : List Bool) (i : ℕ) (n : NodeAt) (es : List EntryAt) (k : Classes) (c : List ℕ) (a b : Missing) → slice_get flags i ≡ Some true
+    → Some n ≡ option_map entry_node (slice_get p.entries i) → es ≡ p.entries → k ≡ p.classes → c ≡ p.bytes
     → TakesAll (λ t old new. Lists es (t ∷ []) old new) (targets k c n) a b → Lists p.entries (all_targets p (map entry_node (option_to_list (flagged flags p.entries i)))) a b
 entry_listed_at p flags i n es k c a b t g e f j h =
     let r = entry_there (slice_get p.entries i) n g in

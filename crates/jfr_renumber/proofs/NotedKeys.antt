@@ -33,7 +33,8 @@ mapped f None y e = cc
 mapped f (Some x) y e = (x, refl, cc)
 
 -- If the event of each noted reference is kept, they are the classes and keys of the kept events.
-pub noted_kept : (p : Parts) (flags : List Bool) (refs : List MissingRef) (keys : List (ℕ × ℕ)) → AreMissing (missing_by_event p) refs → are_kept flags refs ≡ true → keys ≡ map pair_of refs → HoldsMissing p.entries (all_targets p (nodes_of (kept_by p flags))) keys
+pub noted_kept : (p : Parts) (flags : List Bool) (refs : List MissingRef) (keys : List (ℕ × ℕ)) → AreMissing (missing_by_event p) refs → are_kept flags refs ≡ true → keys ≡ map pair_of refs
+    → HoldsMissing p.entries (all_targets p (nodes_of (kept_by p flags))) keys
 noted_kept p flags refs keys a k e = record {
   all = λ t c. all_by t (contains_in (filter missing (all_targets p (nodes_of kept))) t c);
   only = λ t c. only_by t (map_in pair_of refs t (subst (λ z. In z t) e (contains_in keys t c)));
@@ -73,6 +74,7 @@ noted_kept p flags refs keys a k e = record {
         in_contains (filter missing (all_targets p (nodes_of kept))) t (passes_in missing (all_targets p (nodes_of kept)) t r (in_passes missing (targets p.classes p.bytes x.0.node) t s))
 
 -- The keys that were made of them, if memory was enough.
-pub keys_noted : (p : Parts) (flags : List Bool) (refs : List MissingRef) (r : Result (Vec (ℕ × ℕ) Global) NoMemory) → AreMissing (missing_by_event p) refs → are_kept flags refs ≡ true → IfOk r (λ keys. keys.items ≡ map pair_of refs) → IfOk r (λ keys. HoldsMissing p.entries (all_targets p (nodes_of (kept_by p flags))) keys.items)
+pub keys_noted : (p : Parts) (flags : List Bool) (refs : List MissingRef) (r : Result (Vec (ℕ × ℕ) Global) NoMemory) → AreMissing (missing_by_event p) refs → are_kept flags refs ≡ true
+    → IfOk r (λ keys. keys.items ≡ map pair_of refs) → IfOk r (λ keys. HoldsMissing p.entries (all_targets p (nodes_of (kept_by p flags))) keys.items)
 keys_noted p flags refs (Ok keys) a k e = noted_kept p flags refs keys.items a k e
 keys_noted p flags refs (Err fault) a k e = tt

@@ -51,14 +51,16 @@ stands_before class ks i j k l r h e f = by_order (order i j)
     by_order : (i < j) ⊎ ((j < i) ⊎ (i ≡ j)) → i < j
     by_order (inl a) = a
     by_order (inr (inl a)) = let b = key_rises class ks j i l k r a f e in absurd (omega arith)
-    by_order (inr (inr a)) = let x : slice_get ks j ≡ Some k = subst (λ z. slice_get ks z ≡ Some k) a e in let q : k ≡ l = cc in let p : k.key ≡ l.key = ap (λ (z : UsedKey). z.key) q in absurd (omega arith)
+    by_order (inr (inr a)) = let x : slice_get ks j ≡ Some k = subst (λ z. slice_get ks z ≡ Some k) a e in let q : k ≡ l = cc in let p : k.key ≡ l.key =
+        ap (λ (z : UsedKey). z.key) q in absurd (omega arith)
 
 -- A number that is kept for the value of a key, if it has one.
 abbrev pub Keeps : Option (Bor (List ℕ)) → ℕ → Firsts → Firsts → Type 0
 Keeps None next firsts later = later ≡ firsts
 Keeps (Some v) next firsts later = (q : List ℕ) → number_under later q ≡ (if bytes_eq v.now q then Some next else number_under firsts q)
 
-pub keeps_of : (o : Option (Bor (List ℕ))) (next : ℕ) (firsts later : Firsts) → IfSome o (λ v. (q : List ℕ) → number_under later q ≡ (if bytes_eq v.now q then Some next else number_under firsts q)) → (o ≡ None → later ≡ firsts) → Keeps o next firsts later
+pub keeps_of : (o : Option (Bor (List ℕ))) (next : ℕ) (firsts later : Firsts) → IfSome o (λ v. (q : List ℕ) → number_under later q ≡ (if bytes_eq v.now q then Some next else number_under firsts q))
+    → (o ≡ None → later ≡ firsts) → Keeps o next firsts later
 keeps_of None next firsts later a b = b refl
 keeps_of (Some v) next firsts later a b = a
 
@@ -112,7 +114,8 @@ module _ (together : ℕ × ℕ → ℕ × ℕ → Bool) (same : Together togeth
   used_member i k e = contains_in us (class, k.key) (are.used k (member i k e))
 
   -- It has the number of that, and begins no group.
-  pub number_again : (i j : ℕ) (k l : UsedKey) (q : List ℕ) → j < i → slice_get ks i ≡ Some k → slice_get ks j ≡ Some l → value_of_key k ≡ Some q → value_of_key l ≡ Some q → (number k ≡ number l) × (test k.key ≡ false)
+  pub number_again : (i j : ℕ) (k l : UsedKey) (q : List ℕ) → j < i → slice_get ks i ≡ Some k → slice_get ks j ≡ Some l → value_of_key k ≡ Some q → value_of_key l ≡ Some q
+      → (number k ≡ number l) × (test k.key ≡ false)
   number_again i j k l q h e f a b =
       let t : together (class, l.key) (class, k.key) ≡ true = (are.alike l k (member j l f) (member i k e)).1 (inr (record { value = q; here = b; there = a })) in
       let n = number_same together same us (class, l.key) (class, k.key) (used_member j l f) (used_member i k e) t in
@@ -137,14 +140,16 @@ module _ (together : ℕ × ℕ → ℕ × ℕ → Bool) (same : Together togeth
       order : (a b : ℕ) → (a < b) ⊎ (b ≤ a)
       order a b = grind arith
 
-      by_order : (l : Least together same us (class, k.key)) (m : UsedKey) (j : ℕ) → slice_get ks j ≡ Some m → m.key ≡ l.pair.1 → SameValue m k → (m.key < k.key) ⊎ (k.key ≤ m.key) → smallest together us (class, k.key) ≡ k.key
+      by_order : (l : Least together same us (class, k.key)) (m : UsedKey) (j : ℕ) → slice_get ks j ≡ Some m → m.key ≡ l.pair.1 → SameValue m k → (m.key < k.key) ⊎ (k.key ≤ m.key)
+          → smallest together us (class, k.key) ≡ k.key
       by_order l m j g q v (inl a) = absurd (none j m v.value (stands_before class ks j i m k are.rising a g e) g v.here v.there)
       by_order l m j g q v (inr a) =
           let b : smallest together us (class, k.key) ≡ l.pair.1 = l.key in
           let d = smallest_most together same us (class, k.key) in
           omega arith
 
-      by_case : (l : Least together same us (class, k.key)) (m : UsedKey) (j : ℕ) → slice_get ks j ≡ Some m → m.key ≡ l.pair.1 → (m.key ≡ k.key) ⊎ SameValue m k → smallest together us (class, k.key) ≡ k.key
+      by_case : (l : Least together same us (class, k.key)) (m : UsedKey) (j : ℕ) → slice_get ks j ≡ Some m → m.key ≡ l.pair.1 → (m.key ≡ k.key) ⊎ SameValue m k
+          → smallest together us (class, k.key) ≡ k.key
       by_case l m j g q (inl h) = l.key ∙ (sym q ∙ h)
       by_case l m j g q (inr v) = by_order l m j g q v (order m.key k.key)
 
@@ -152,7 +157,8 @@ module _ (together : ℕ × ℕ → ℕ × ℕ → Bool) (same : Together togeth
       by_member l (m, c, q) =
           let g = in_get ks m (contains_in ks m c) in
           let t : together (class, m.key) (class, k.key) ≡ true =
-          subst (λ z. together (class, z) (class, k.key) ≡ true) (sym q) (subst (λ z. together (z, l.pair.1) (class, k.key) ≡ true) (same.class l.pair (class, k.key) l.together_with) l.together_with) in
+          subst (λ z. together (class, z) (class, k.key) ≡ true) (sym q)
+          (subst (λ z. together (z, l.pair.1) (class, k.key) ≡ true) (same.class l.pair (class, k.key) l.together_with) l.together_with) in
           by_case l m g.0 g.1 q ((are.alike m k c (member i k e)).0 t)
 
   new_begins : (i : ℕ) (k : UsedKey) → slice_get ks i ≡ Some k → smallest together us (class, k.key) ≡ k.key → (test k.key ≡ true) × (number k ≡ count_below k.key test)
@@ -170,10 +176,12 @@ module _ (together : ℕ × ℕ → ℕ × ℕ → Bool) (same : Together togeth
   either j i h = grind arith
 
   -- After a key whose value an earlier key has.
-  pub again_next : (i : ℕ) (firsts : Firsts) (next : ℕ) (numbers : List ℕ) (k : UsedKey) (n : ℕ) → SoFar i firsts next numbers → slice_get ks i ≡ Some k → option_and_then (λ v. number_under firsts v.now) k.value ≡ Some n → SoFar (i + 1) firsts next (numbers ++ n ∷ [])
+  pub again_next : (i : ℕ) (firsts : Firsts) (next : ℕ) (numbers : List ℕ) (k : UsedKey) (n : ℕ) → SoFar i firsts next numbers → slice_get ks i ≡ Some k
+      → option_and_then (λ v. number_under firsts v.now) k.value ≡ Some n → SoFar (i + 1) firsts next (numbers ++ n ∷ [])
   again_next i firsts next numbers k n s e known = by_value k.value refl known
     where
-      found : (v : Bor (List ℕ)) → k.value ≡ Some v → number_under firsts v.now ≡ Some n → (j : ℕ) × (l : UsedKey) × (j < i) × (slice_get ks j ≡ Some l) × (value_of_key l ≡ Some v.now) × (number l ≡ n) → SoFar (i + 1) firsts next (numbers ++ n ∷ [])
+      found : (v : Bor (List ℕ)) → k.value ≡ Some v → number_under firsts v.now ≡ Some n
+          → (j : ℕ) × (l : UsedKey) × (j < i) × (slice_get ks j ≡ Some l) × (value_of_key l ≡ Some v.now) × (number l ≡ n) → SoFar (i + 1) firsts next (numbers ++ n ∷ [])
       found v q h (j, l, b, g, w, m) =
           let own : value_of_key k ≡ Some v.now = ap (option_map (λ (z : Bor (List ℕ)). z.now)) q in
           let a = number_again i j k l v.now b e g own w in
@@ -208,11 +216,13 @@ module _ (together : ℕ × ℕ → ℕ × ℕ → Bool) (same : Together togeth
       by_value (Some v) q h = found v q h (s.held v.now n h)
 
   -- After a key that begins a group.
-  pub new_next : (i : ℕ) (firsts later : Firsts) (next : ℕ) (numbers : List ℕ) (k : UsedKey) → SoFar i firsts next numbers → slice_get ks i ≡ Some k → option_and_then (λ v. number_under firsts v.now) k.value ≡ None
+  pub new_next : (i : ℕ) (firsts later : Firsts) (next : ℕ) (numbers : List ℕ) (k : UsedKey) → SoFar i firsts next numbers → slice_get ks i ≡ Some k
+      → option_and_then (λ v. number_under firsts v.now) k.value ≡ None
       → Keeps k.value next firsts later → SoFar (i + 1) later (next + 1) (numbers ++ next ∷ [])
   new_next i firsts later next numbers k s e unknown keeps = by_value k.value refl unknown keeps
     where
-      no_earlier : (j : ℕ) (l : UsedKey) (q : List ℕ) → j < i → slice_get ks j ≡ Some l → value_of_key l ≡ Some q → value_of_key k ≡ Some q → (o : Option (Bor (List ℕ))) → k.value ≡ o → option_and_then (λ v. number_under firsts v.now) o ≡ None → ⊥
+      no_earlier : (j : ℕ) (l : UsedKey) (q : List ℕ) → j < i → slice_get ks j ≡ Some l → value_of_key l ≡ Some q → value_of_key k ≡ Some q → (o : Option (Bor (List ℕ))) → k.value ≡ o
+          → option_and_then (λ v. number_under firsts v.now) o ≡ None → ⊥
       no_earlier j l q b g w own None r u = let z : None ≡ Some q = sym (ap (option_map (λ (z : Bor (List ℕ)). z.now)) r) ∙ own in cc
       no_earlier j l q b g w own (Some v) r u =
           let z : Some v.now ≡ Some q = sym (ap (option_map (λ (z : Bor (List ℕ)). z.now)) r) ∙ own in
@@ -249,16 +259,19 @@ module _ (together : ℕ × ℕ → ℕ × ℕ → Bool) (same : Together togeth
               let y : None ≡ Some q = sym (ap value_of_key same_key ∙ ap (option_map (λ (z : Bor (List ℕ)). z.now)) v) ∙ w in
               cc
 
-      held_some : (v : Bor (List ℕ)) → k.value ≡ Some v → Keeps (Some v) next firsts later → (q : List ℕ) (n : ℕ) → number_under later q ≡ Some n → (j : ℕ) × (l : UsedKey) × (j < i + 1) × (slice_get ks j ≡ Some l) × (value_of_key l ≡ Some q) × (number l ≡ n)
+      held_some : (v : Bor (List ℕ)) → k.value ≡ Some v → Keeps (Some v) next firsts later → (q : List ℕ) (n : ℕ) → number_under later q ≡ Some n
+          → (j : ℕ) × (l : UsedKey) × (j < i + 1) × (slice_get ks j ≡ Some l) × (value_of_key l ≡ Some q) × (number l ≡ n)
       held_some v r m q n h = by_test (bytes_eq v.now q) refl (sym (m q) ∙ h)
         where
-          by_test : (t : Bool) → bytes_eq v.now q ≡ t → (if t then Some next else number_under firsts q) ≡ Some n → (j : ℕ) × (l : UsedKey) × (j < i + 1) × (slice_get ks j ≡ Some l) × (value_of_key l ≡ Some q) × (number l ≡ n)
+          by_test : (t : Bool) → bytes_eq v.now q ≡ t → (if t then Some next else number_under firsts q) ≡ Some n
+              → (j : ℕ) × (l : UsedKey) × (j < i + 1) × (slice_get ks j ≡ Some l) × (value_of_key l ≡ Some q) × (number l ≡ n)
           by_test true t h =
               let x : next ≡ n = (let y : Some next ≡ Some n = h in cc) in
               (i, k, omega arith, e, ap (option_map (λ (z : Bor (List ℕ)). z.now)) r ∙ ap (λ z. Some z) ((bytes_eq-Decides v.now q).0 t), own_number ∙ x)
           by_test false t h = let y = s.held q n h in (y.0, y.1, (let z = y.2 in omega arith), y.3, y.4, y.5)
 
-      kept_some : (v : Bor (List ℕ)) → k.value ≡ Some v → Keeps (Some v) next firsts later → (j : ℕ) (l : UsedKey) (q : List ℕ) → j < i + 1 → slice_get ks j ≡ Some l → value_of_key l ≡ Some q → number_under later q ≡ None → ⊥
+      kept_some : (v : Bor (List ℕ)) → k.value ≡ Some v → Keeps (Some v) next firsts later → (j : ℕ) (l : UsedKey) (q : List ℕ) → j < i + 1 → slice_get ks j ≡ Some l → value_of_key l ≡ Some q
+          → number_under later q ≡ None → ⊥
       kept_some v r m j l q b g w z = by_place (either j i b)
         where
           by_test : (t : Bool) → bytes_eq v.now q ≡ t → (if t then Some next else number_under firsts q) ≡ None → (j < i) → ⊥
@@ -276,7 +289,8 @@ module _ (together : ℕ × ℕ → ℕ × ℕ → Bool) (same : Together togeth
               let y : Some v.now ≡ Some q = sym (ap value_of_key same_key ∙ ap (option_map (λ (z : Bor (List ℕ)). z.now)) r) ∙ w in
               here (bytes_eq v.now q) refl (cc) (sym (m q) ∙ z)
 
-      by_value : (o : Option (Bor (List ℕ))) → k.value ≡ o → option_and_then (λ v. number_under firsts v.now) o ≡ None → Keeps o next firsts later → SoFar (i + 1) later (next + 1) (numbers ++ next ∷ [])
+      by_value : (o : Option (Bor (List ℕ))) → k.value ≡ o → option_and_then (λ v. number_under firsts v.now) o ≡ None → Keeps o next firsts later
+          → SoFar (i + 1) later (next + 1) (numbers ++ next ∷ [])
       by_value None r u m = record { numbers_are = numbers_next; next_is = next_next; held = held_none m; kept = kept_none m r }
       by_value (Some v) r u m = record { numbers_are = numbers_next; next_is = next_next; held = held_some v r m; kept = kept_some v r m }
 

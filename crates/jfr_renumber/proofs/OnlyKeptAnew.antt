@@ -85,8 +85,12 @@ module _ (R : EntryAt → EntryAt → Type 0) (s : EntryAt → EntryAt → Bool)
     related_firsts [] (f ∷ fs) r = absurd r
     related_firsts (e ∷ es) [] r = absurd r
     related_firsts (e ∷ es) (f ∷ fs) r =
-        let i = related_firsts es fs r.2 in
-        (r.0, pools_filter R (apart e) (apart_too f) (apart_like e f r.0) e f (firsts_with s es) (firsts_with z fs) i (pools_firsts e f es fs r.2 r.1), related_filter R (apart e) (apart_too f) (apart_like e f r.0) (firsts_with s es) (firsts_with z fs) i)
+        let i = related_firsts es fs r.2 in (
+          r.0,
+          pools_filter R (apart e) (apart_too f) (apart_like e f r.0) e f (firsts_with s es) (firsts_with z fs) i (pools_firsts e f es fs r.2 r.1),
+          related_filter R (apart e) (apart_too f)
+              (apart_like e f r.0) (firsts_with s es) (firsts_with z fs) i,
+        )
 
     pools_firsts : (x y : EntryAt) (es fs : List EntryAt) → Related R es fs → SamePools x y es fs → SamePools x y (firsts_with s es) (firsts_with z fs)
     pools_firsts x y [] [] r p = tt
@@ -149,7 +153,8 @@ module _ (slim other : Option (List ℕ)) (p q : Parts) (kept others : List Even
   unfolding together
   together_same t u x y =
       ap (λ z. (t.0 == u.0) && ((t.1 == u.1) || z))
-      (equal_same (in_force p.entries t) (in_force p.entries u) (in_force q.entries t) (in_force q.entries u) (same_entry p q a b slim other kept others these those g t x) (same_entry p q a b slim other kept others these those g u y))
+      (equal_same (in_force p.entries t) (in_force p.entries u) (in_force q.entries t) (in_force q.entries u) (same_entry p q a b slim other kept others these those g t x)
+      (same_entry p q a b slim other kept others these those g u y))
 
   -- So they have the same new keys.
   listed : (t : ℕ × ℕ) → Contains (used_keys p kept) t → Used p kept t
@@ -159,11 +164,13 @@ module _ (slim other : Option (List ℕ)) (p q : Parts) (kept others : List Even
   unfolding new_key
   new_same t i =
       same_numbers (together p) (together q) (together_is p) (together_is q) (used_keys p kept) (used_keys p kept) (λ u. u)
-      (record { there = λ u c. c; back = λ u c. (u, c, refl); class = λ u c. refl; alike = λ u v c d. together_same u v (listed u c) (listed v d); rising = λ u v c d e l. l }) t (in_contains (used_keys p kept) t i)
+      (record { there = λ u c. c; back = λ u c. (u, c, refl); class = λ u c. refl; alike = λ u v c d. together_same u v (listed u c) (listed v d); rising = λ u v c d e l. l }) t
+      (in_contains (used_keys p kept) t i)
       ∙ ap (λ us. group_number (together q) us t) keys_same
 
   -- And the same bytes.
-  node_same : (n o : NodeAt) → NodePair p q a b n o → ((t : ℕ × ℕ) → In (targets p.classes p.bytes n) t → In (used_keys p kept) t) → rekeyed_bytes (new_key p kept) p.classes p.bytes n ≡ rekeyed_bytes (new_key q others) q.classes q.bytes o
+  node_same : (n o : NodeAt) → NodePair p q a b n o → ((t : ℕ × ℕ) → In (targets p.classes p.bytes n) t → In (used_keys p kept) t)
+      → rekeyed_bytes (new_key p kept) p.classes p.bytes n ≡ rekeyed_bytes (new_key q others) q.classes q.bytes o
   node_same n o x u =
       bytes_same (new_key p kept) (new_key q others) p.classes p.bytes n (λ t i. new_same t (u t i))
       ∙ ap (λ z. option_map_or (λ v. bytes_of (changed (rekeying (new_key q others)) None v)) z []) (value_same n o x)
@@ -176,14 +183,16 @@ module _ (slim other : Option (List ℕ)) (p q : Parts) (kept others : List Even
 
   entry_same : (e f : EntryAt) → NP e f → entry_bytes (new_key p kept) p e ≡ entry_bytes (new_key q others) q f
   entry_same e f r =
-      let k : new_key p kept (pair_of e) ≡ new_key q others (pair_of f) = new_same (pair_of e) (used_in p (has_nodes p a) kept nodes (pair_of e) (entry_in_use e f r)) ∙ ap (new_key q others) (pair_same e f r) in
+      let k : new_key p kept (pair_of e) ≡ new_key q others (pair_of f) =
+      new_same (pair_of e) (used_in p (has_nodes p a) kept nodes (pair_of e) (entry_in_use e f r)) ∙ ap (new_key q others) (pair_same e f r) in
       let v = node_same (entry_node e) (entry_node f) r.pair (λ t i. entry_used p (has_nodes p a) kept nodes e t r.remains i) in
       λ i. spell (k i) ++ v i
 
   -- An event's bytes after its fields are the same, too.
   fields_alike : (e f : EventAt) → EP e f → SameFields p.bytes q.bytes e.record_of f.record_of
   fields_alike e f r =
-      same_fields p.bytes q.bytes e.record_of f.record_of (all_in (IsRecord p.bytes) p.records e.record_of (recorded p a) r.left.listed) (all_in (IsRecord q.bytes) q.records f.record_of (recorded q b) r.right.listed) r.same.bytes
+      same_fields p.bytes q.bytes e.record_of f.record_of (all_in (IsRecord p.bytes) p.records e.record_of (recorded p a) r.left.listed)
+      (all_in (IsRecord q.bytes) q.records f.record_of (recorded q b) r.right.listed) r.same.bytes
 
   body_split : (k : Parts) (e : EventAt) → IsEvent k e → body_bytes k.bytes e.record_of ≡ node_bytes k.bytes e.node ++ slice_range k.bytes e.node.end (record_end e.record_of)
   body_split k e i = ap (λ z. slice_range k.bytes z (record_end e.record_of)) (sym i.at) ∙ range_split k.bytes e.node.at e.node.end (record_end e.record_of) i.node.order i.within
@@ -192,7 +201,8 @@ module _ (slim other : Option (List ℕ)) (p q : Parts) (kept others : List Even
   rest_same e f r =
       let n : node_bytes p.bytes e.node ≡ node_bytes q.bytes f.node = r.pair.left.bytes ∙ sym r.pair.right.bytes in
       let z = sym (body_split p e r.left) ∙ ((fields_alike e f r).body ∙ body_split q f r.right) in
-      (one_run (node_bytes p.bytes e.node) (node_bytes q.bytes f.node) (slice_range p.bytes e.node.end (record_end e.record_of)) (slice_range q.bytes f.node.end (record_end f.record_of)) z (ap length n)).1
+      (one_run (node_bytes p.bytes e.node) (node_bytes q.bytes f.node) (slice_range p.bytes e.node.end (record_end e.record_of)) (slice_range q.bytes f.node.end (record_end f.record_of)) z
+      (ap length n)).1
 
   event_same : (e f : EventAt) → EP e f → event_bytes (new_key p kept) p e ≡ event_bytes (new_key q others) q f
   event_same e f r =
@@ -206,11 +216,13 @@ module _ (slim other : Option (List ℕ)) (p q : Parts) (kept others : List Even
   unfolding firsts
   firsts_same =
       related_firsts NP (λ e d. together p (pair_of e) (pair_of d)) (λ f h. together q (pair_of f) (pair_of h))
-      (λ e f d h r s. together_same (pair_of e) (pair_of d) (entry_in_use e f r) (entry_in_use d h s) ∙ (λ i. together q (pair_same e f r i) (pair_same d h s i))) (remain p kept) (remain q others) (entries slim other p q kept others a b these those g)
+      (λ e f d h r s. together_same (pair_of e) (pair_of d) (entry_in_use e f r) (entry_in_use d h s) ∙ (λ i. together q (pair_same e f r i) (pair_same d h s i))) (remain p kept) (remain q others)
+      (entries slim other p q kept others a b these those g)
 
   same_told_anew : told_anew slim p kept ≡ told_anew other q others
   unfolding told_anew
-  same_told_anew = told_same slim other p q kept others a b these those g (rewritten (new_key p kept) p kept) (rewritten (new_key q others) q others) event_same entry_same (firsts p kept) (firsts q others) firsts_same
+  same_told_anew = told_same slim other p q kept others a b these those g (rewritten (new_key p kept) p kept) (rewritten (new_key q others) q others) event_same entry_same (firsts p kept)
+      (firsts q others) firsts_same
 
   -- The law: the outputs with new keys are equal.
   pub same_renumber : renumber_with slim p kept ≡ renumber_with other q others

@@ -40,7 +40,8 @@ never_none (x ∷ es) n e i q = by_later (last_from (n + 1) es (pair_of e)) refl
     by_hit true a b h = cc
     by_hit false a b h = let z = hit h in cc
 
-    by_later : (o : Option ℕ) → last_from (n + 1) es (pair_of e) ≡ o → or_later n ((x.class == e.class) && (x.key == e.key)) o ≡ None → (x ≡ e) ⊎ In es e → (In es e → last_from (n + 1) es (pair_of e) ≡ None → ⊥) → ⊥
+    by_later : (o : Option ℕ) → last_from (n + 1) es (pair_of e) ≡ o → or_later n ((x.class == e.class) && (x.key == e.key)) o ≡ None → (x ≡ e) ⊎ In es e
+        → (In es e → last_from (n + 1) es (pair_of e) ≡ None → ⊥) → ⊥
     by_later (Some m) a b i f = cc
     by_later None a b (inl h) f = by_hit ((x.class == e.class) && (x.key == e.key)) refl b h
     by_later None a b (inr j) f = f j a
@@ -90,7 +91,8 @@ module _ (p q : Parts) (s : HasNodes p) (new : ℕ × ℕ → ℕ) (kept : List 
   remains_first e i = first_with p (remain p kept) e i
 
   -- An entry of the second chunk with the new key of a key is that of a first entry which is together with it.
-  fellow : (t : ℕ × ℕ) (f : EntryAt) → Used p kept t → In q.entries f → pair_of f ≡ rekeyed_pair new t → (e : EntryAt) × Remaining p s kept nodes e × IsRekeyedEntry new p q e f × (together p (pair_of e) t ≡ true)
+  fellow : (t : ℕ × ℕ) (f : EntryAt) → Used p kept t → In q.entries f → pair_of f ≡ rekeyed_pair new t
+      → (e : EntryAt) × Remaining p s kept nodes e × IsRekeyedEntry new p q e f × (together p (pair_of e) t ≡ true)
   fellow t f u i h = by_first (first (IsRekeyedEntry new p q) (firsts p kept) q.entries renamed f i)
     where
       by_first : (e : EntryAt) × In (firsts p kept) e × IsRekeyedEntry new p q e f → (e : EntryAt) × Remaining p s kept nodes e × IsRekeyedEntry new p q e f × (together p (pair_of e) t ≡ true)
@@ -119,7 +121,8 @@ module _ (p q : Parts) (s : HasNodes p) (new : ℕ × ℕ → ℕ) (kept : List 
       by_force (Some f) g = absurd (by_found f (found q.entries (rekeyed_pair new t) f g))
 
   -- Entries in force of keys that are together have equal value bytes.
-  equal_bytes : (t : ℕ × ℕ) (e d : EntryAt) → in_force p.entries t ≡ Some e → in_force p.entries (pair_of d) ≡ Some d → Alike p (pair_of d) t → node_bytes p.bytes (entry_node d) ≡ node_bytes p.bytes (entry_node e)
+  equal_bytes : (t : ℕ × ℕ) (e d : EntryAt) → in_force p.entries t ≡ Some e → in_force p.entries (pair_of d) ≡ Some d → Alike p (pair_of d) t
+      → node_bytes p.bytes (entry_node d) ≡ node_bytes p.bytes (entry_node e)
   equal_bytes t e d h m (c, inl k) =
       let x : in_force p.entries t ≡ Some d = subst (λ z. in_force p.entries z ≡ Some d) (pair_is (pair_of d) t c k) m in
       let y : d ≡ e = cc in

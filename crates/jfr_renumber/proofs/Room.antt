@@ -59,7 +59,8 @@ module _ (p : Parts) (a : AreParts p) (flags : List Bool) (new : ℕ × ℕ → 
       → Shorter p sound new most (groups_of (marked fm p.entries) i) (groups_of (marked ms p.entries) i)
   groups_shorter fm ms u i g =
       numbers_short p sound new most 0 (reverse p.chain) p.entries fm ms u a.entries i
-      (subst (AllByRecursion (IsEntryIn p.bytes p.classes)) (groups_hold (filter (λ e. e.checkpoint == i) (marked fm p.entries))) (entries_stand p.bytes p.classes (groups_of (marked fm p.entries) i) g))
+      (subst (AllByRecursion (IsEntryIn p.bytes p.classes)) (groups_hold (filter (λ e. e.checkpoint == i) (marked fm p.entries)))
+      (entries_stand p.bytes p.classes (groups_of (marked fm p.entries) i) g))
 
   module _ (fm : List Bool) where
     abbrev remaining : List EntryAt

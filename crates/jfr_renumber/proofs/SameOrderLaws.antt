@@ -108,6 +108,7 @@ module _ (tg th : ℕ × ℕ → ℕ × ℕ → Bool) (a : Together tg) (b : Tog
   same_numbers t i = sym (below_bound (suc (N t)) t (contains_in us t i) (omega arith))
 
 -- So corresponding keys of two chunks have equal new keys.
-pub same_new_keys : (p q : Parts) (kept others : List EventAt) (to : ℕ × ℕ → ℕ × ℕ) → SameOrder (together p) (together q) (used_keys p kept) (used_keys q others) to → (t : ℕ × ℕ) → Contains (used_keys p kept) t → new_key p kept t ≡ new_key q others (to t)
+pub same_new_keys : (p q : Parts) (kept others : List EventAt) (to : ℕ × ℕ → ℕ × ℕ) → SameOrder (together p) (together q) (used_keys p kept) (used_keys q others) to → (t : ℕ × ℕ)
+    → Contains (used_keys p kept) t → new_key p kept t ≡ new_key q others (to t)
 unfolding new_key
 same_new_keys p q kept others to s t c = same_numbers (together p) (together q) (together_is p) (together_is q) (used_keys p kept) (used_keys q others) to s t c

@@ -51,8 +51,11 @@ module _ (p : Parts) where
   pub together_alike : (t u : ℕ × ℕ) → together p t u ≡ true → Alike p t u
   unfolding together
   together_alike t u e =
-      let a : t.0 ≡ u.0 = (unsigned_Decides t.0 u.0).0 (first_so (t.0 == u.0) ((t.1 == u.1) || equal_values p.bytes (in_force p.entries t) (in_force p.entries u)) e) in
-      (a, by_case (or_cases (t.1 == u.1) (equal_values p.bytes (in_force p.entries t) (in_force p.entries u)) (second_so (t.0 == u.0) ((t.1 == u.1) || equal_values p.bytes (in_force p.entries t) (in_force p.entries u)) e)))
+      let a : t.0 ≡ u.0 = (unsigned_Decides t.0 u.0).0 (first_so (t.0 == u.0) ((t.1 == u.1) || equal_values p.bytes (in_force p.entries t) (in_force p.entries u)) e) in (
+        a,
+        by_case (or_cases (t.1 == u.1) (equal_values p.bytes (in_force p.entries t) (in_force p.entries u))
+            (second_so (t.0 == u.0) ((t.1 == u.1) || equal_values p.bytes (in_force p.entries t) (in_force p.entries u)) e)),
+      )
     where
       by_case : ((t.1 == u.1) ≡ true) ⊎ (equal_values p.bytes (in_force p.entries t) (in_force p.entries u) ≡ true) → (t.1 ≡ u.1) ⊎ Twins p t u
       by_case (inl e) = inl ((unsigned_Decides t.1 u.1).0 e)

@@ -55,7 +55,8 @@ module _ (p : Parts) where
   in_nodes [] t i = absurd i
   in_nodes (m ∷ ns) t i = by_case (in_cases (targets p.classes p.bytes m) (all_targets p ns) t i) (λ j. in_nodes ns t j)
     where
-      by_case : In (targets p.classes p.bytes m) t ⊎ In (all_targets p ns) t → (In (all_targets p ns) t → (n : NodeAt) × In ns n × In (targets p.classes p.bytes n) t) → (n : NodeAt) × In (m ∷ ns) n × In (targets p.classes p.bytes n) t
+      by_case : In (targets p.classes p.bytes m) t ⊎ In (all_targets p ns) t → (In (all_targets p ns) t → (n : NodeAt) × In ns n × In (targets p.classes p.bytes n) t)
+          → (n : NodeAt) × In (m ∷ ns) n × In (targets p.classes p.bytes n) t
       by_case (inl j) g = (m, inl refl, j)
       by_case (inr j) g = let r = g j in (r.0, inr r.1, r.2)
 
@@ -167,7 +168,11 @@ module _ (p : Parts) (s : HasNodes p) (kept : List EventAt) (nodes : (e : EventA
   unfolding new_key
   new_keys = record {
     most = number_most (together p) (together_is p) (used_keys p kept);
-    groups = λ t u i j c. (λ e. number_apart (together p) (together_is p) (used_keys p kept) t u (used_in t i) (used_in u j) c e, λ e. number_same (together p) (together_is p) (used_keys p kept) t u (used_in t i) (used_in u j) e);
+    groups = λ t u i j c. (
+      λ e. number_apart (together p) (together_is p) (used_keys p kept) t u (used_in t i) (used_in u j) c e,
+      λ e. number_same (together p) (together_is p) (used_keys p kept) t u
+          (used_in t i) (used_in u j) e,
+    );
     dense = λ t n i h. (let d = number_dense (together p) (together_is p) (used_keys p kept) t n h in (d.0, in_used d.0 d.1, d.2, d.3));
   }
 

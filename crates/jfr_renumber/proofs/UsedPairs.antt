@@ -86,7 +86,8 @@ module _ (p : Parts) (s : HasNodes p) (kept : List EventAt) (nodes : (e : EventA
   used_pairs t i = by_number (number_in_force p.entries t) refl
     where
       by_number : (o : Option ℕ) → number_in_force p.entries t ≡ o → In all_pairs t
-      by_number None e = in_left (filter (is_missing p.entries) (used_keys p kept)) (map pair_of (remain p kept)) t (passes_in (is_missing p.entries) (used_keys p kept) t i (ap (λ o. not (is_some o)) e))
+      by_number None e = in_left (filter (is_missing p.entries) (used_keys p kept)) (map pair_of (remain p kept)) t
+          (passes_in (is_missing p.entries) (used_keys p kept) t i (ap (λ o. not (is_some o)) e))
       by_number (Some n) e =
           let f = forced p.entries t n e in
           let l = (last_is p.entries t n).0 e in
@@ -100,8 +101,10 @@ module _ (p : Parts) (s : HasNodes p) (kept : List EventAt) (nodes : (e : EventA
       → map pair_at ks ≡ ps → AllByRecursion (HasValue p) ks → ArePairsOf (together p) (used_keys p kept) ks
   are_pairs ps ks r on off e v = record {
     rising = subst IsRising (sym e) r;
-    used = λ k c. in_contains (used_keys p kept) (pair_at k) (pairs_used (pair_at k) (contains_in all_pairs (pair_at k) (off (pair_at k) (in_contains ps (pair_at k) (subst (λ z. In z (pair_at k)) e (in_map pair_at ks k (contains_in ks k c)))))));
-    all = λ t c. (let j : In ps t = contains_in ps t (on t (in_contains all_pairs t (used_pairs t (contains_in (used_keys p kept) t c)))) in let m = map_in pair_at ks t (subst (λ z. In z t) (sym e) j) in (m.0, in_contains ks m.0 m.1, m.2));
+    used = λ k c. in_contains (used_keys p kept) (pair_at k)
+        (pairs_used (pair_at k) (contains_in all_pairs (pair_at k) (off (pair_at k) (in_contains ps (pair_at k) (subst (λ z. In z (pair_at k)) e (in_map pair_at ks k (contains_in ks k c)))))));
+    all = λ t c. (let j : In ps t = contains_in ps t (on t (in_contains all_pairs t (used_pairs t (contains_in (used_keys p kept) t c)))) in let m = map_in pair_at ks t
+        (subst (λ z. In z t) (sym e) j) in (m.0, in_contains ks m.0 m.1, m.2));
     alike = λ k l c d. alike_by p k l (all_in (HasValue p) ks k v (contains_in ks k c)) (all_in (HasValue p) ks l v (contains_in ks l d));
   }
 
@@ -160,8 +163,10 @@ module _ (p : Parts) (a : AreParts p) (flags marks : List Bool) (m : marks ≡ r
       by_case (inl i) = in_left missing reached t (contains_in missing t (e t (in_contains ms t i)))
       by_case (inr i) = in_right missing reached t i
 
-  pub they_are : (ms l ps qs : List (ℕ × ℕ)) (ks js : List UsedKey) → ((t : ℕ × ℕ) → Contains missing t → Contains ms t) → ((t : ℕ × ℕ) → Contains ms t → Contains missing t) → l ≡ ms ++ map pair_of (marked marks p.entries) → IsRising ps
-      → ((t : ℕ × ℕ) → Contains l t → Contains ps t) → ((t : ℕ × ℕ) → Contains ps t → Contains l t) → qs ≡ ps → map pair_at ks ≡ qs → AllByRecursion (HasValue p) ks → js ≡ ks → ArePairsOf (together p) (used_keys p kept) js
+  pub they_are : (ms l ps qs : List (ℕ × ℕ)) (ks js : List UsedKey) → ((t : ℕ × ℕ) → Contains missing t → Contains ms t) → ((t : ℕ × ℕ) → Contains ms t → Contains missing t)
+      → l ≡ ms ++ map pair_of (marked marks p.entries) → IsRising ps
+      → ((t : ℕ × ℕ) → Contains l t → Contains ps t) → ((t : ℕ × ℕ) → Contains ps t → Contains l t) → qs ≡ ps → map pair_at ks ≡ qs → AllByRecursion (HasValue p) ks → js ≡ ks
+      → ArePairsOf (together p) (used_keys p kept) js
   they_are ms l ps qs ks js d e f r on off q b v j =
       subst (ArePairsOf (together p) (used_keys p kept)) (sym j)
       (are_pairs p (has_nodes p a) kept (kept_nodes p a kept (chosen_events p flags)) ps ks r (λ t c. on t (from_all ms l d f t c)) (λ t c. to_all ms l e f t (off t c)) (b ∙ q) v)
@@ -172,7 +177,8 @@ module _ (p : Parts) (a : AreParts p) (flags marks : List Bool) (m : marks ≡ r
       there : Contains (map pair_at js) t → Used p kept t
       there c =
           let r = map_in pair_at js t (contains_in (map pair_at js) t c) in
-          in_used p (has_nodes p a) kept (kept_nodes p a kept (chosen_events p flags)) t (subst (In (used_keys p kept)) r.2 (contains_in (used_keys p kept) (pair_at r.0) (are.used r.0 (in_contains js r.0 r.1))))
+          in_used p (has_nodes p a) kept (kept_nodes p a kept (chosen_events p flags)) t
+          (subst (In (used_keys p kept)) r.2 (contains_in (used_keys p kept) (pair_at r.0) (are.used r.0 (in_contains js r.0 r.1))))
 
       back : Used p kept t → Contains (map pair_at js) t
       back u =
@@ -180,7 +186,8 @@ module _ (p : Parts) (a : AreParts p) (flags marks : List Bool) (m : marks ≡ r
           in_contains (map pair_at js) t (subst (In (map pair_at js)) r.2 (in_map pair_at js r.0 (contains_in js r.0 r.1)))
 
   -- So the numbers of the pairs are the new keys of all that is used.
-  pub all_numbered : (ms l ps qs : List (ℕ × ℕ)) (ks js : List UsedKey) (ns : List ℕ) → ((t : ℕ × ℕ) → Contains missing t → Contains ms t) → ((t : ℕ × ℕ) → Contains ms t → Contains missing t) → l ≡ ms ++ map pair_of (marked marks p.entries) → IsRising ps → ((t : ℕ × ℕ) → Contains l t → Contains ps t) → ((t : ℕ × ℕ) → Contains ps t → Contains l t)
+  pub all_numbered : (ms l ps qs : List (ℕ × ℕ)) (ks js : List UsedKey) (ns : List ℕ) → ((t : ℕ × ℕ) → Contains missing t → Contains ms t) → ((t : ℕ × ℕ) → Contains ms t → Contains missing t)
+      → l ≡ ms ++ map pair_of (marked marks p.entries) → IsRising ps → ((t : ℕ × ℕ) → Contains l t → Contains ps t) → ((t : ℕ × ℕ) → Contains ps t → Contains l t)
       → qs ≡ ps → map pair_at ks ≡ qs → AllByRecursion (HasValue p) ks → js ≡ ks
       → ((test : ℕ × ℕ → ℕ × ℕ → Bool) (us : List (ℕ × ℕ)) → Together test → ArePairsOf test us js → ns ≡ pair_numbers test us js)
       → IsNumbered p kept ps ns
@@ -191,7 +198,8 @@ module _ (p : Parts) (a : AreParts p) (flags marks : List Bool) (m : marks ≡ r
       given (together p) (used_keys p kept) (together_is p) are ∙ (numbers_are p kept js ∙ (sym (map_map (new_key p kept) pair_at js) ∙ ap (map (new_key p kept)) pairs)) in
       let same = used_by js js are refl in
       record {
-        each = λ t. (let x : number_at ps ns t ≡ (if list_any (λ u. pair_same u t) ps then Some (new_key p kept t) else None) = ap (λ z. number_at ps z t) numbers ∙ number_given (new_key p kept) ps t in
+        each = λ t. (let x : number_at ps ns t ≡ (if list_any (λ u. pair_same u t) ps then Some (new_key p kept t) else None) = ap (λ z. number_at ps z t) numbers
+            ∙ number_given (new_key p kept) ps t in
             x ∙ ap (λ o. if o then Some (new_key p kept t) else None)
             (any_same ps (used_keys p kept) t
             (λ i. used_in p (has_nodes p a) kept (kept_nodes p a kept (chosen_events p flags)) t ((same t).0 (in_contains (map pair_at js) t (subst (λ z. In z t) (sym pairs) i))))
@@ -204,7 +212,8 @@ entry_there [] n h = absurd (omega (arith, h))
 entry_there (e ∷ es) zero h = (e, refl)
 entry_there (e ∷ es) (suc n) h = entry_there es n (omega (arith, h))
 
-pub next_reached : (p : Parts) (es : List EntryAt) (marks : List Bool) (n : ℕ) (old these next : List (ℕ × ℕ)) (t : ℕ × ℕ) (keep : Bool) → es ≡ p.entries → n < length es → length marks ≡ length p.entries → keep ≡ is_marked marks n → IfSome (slice_get es n) (λ e. t ≡ pair_of e)
+pub next_reached : (p : Parts) (es : List EntryAt) (marks : List Bool) (n : ℕ) (old these next : List (ℕ × ℕ)) (t : ℕ × ℕ) (keep : Bool) → es ≡ p.entries → n < length es
+    → length marks ≡ length p.entries → keep ≡ is_marked marks n → IfSome (slice_get es n) (λ e. t ≡ pair_of e)
     → these ≡ old ++ map pair_of (marked (take n marks) p.entries) → next ≡ these ++ (if keep then t ∷ [] else []) → next ≡ old ++ map pair_of (marked (take (n + 1) marks) p.entries)
 next_reached p es marks n old these next t keep q w l m s h i =
     let e = entry_there es n w in
@@ -212,6 +221,7 @@ next_reached p es marks n old these next t keep q w l m s h i =
     let len : length es ≡ length p.entries = ap length q in
     reached_next p marks n old these next e.0 keep (omega (arith, w, l, len)) (sym m) (sym (ap (λ z. slice_get z n) q) ∙ e.1) h (i ∙ ap (λ z. these ++ (if keep then z ∷ [] else [])) u)
 
-pub numbered_of : (p : Parts) (these : List EventAt) (ps : List (ℕ × ℕ)) (ns : List ℕ) → IsNumbered p these ps ns → (t : ℕ × ℕ) → number_of (record { pairs = ps; numbers = ns }) t ≡ new_key_of p these t
+pub numbered_of : (p : Parts) (these : List EventAt) (ps : List (ℕ × ℕ)) (ns : List ℕ) → IsNumbered p these ps ns → (t : ℕ × ℕ)
+    → number_of (record { pairs = ps; numbers = ns }) t ≡ new_key_of p these t
 unfolding number_of
 numbered_of p these ps ns n t = n.each t

@@ -33,23 +33,27 @@ numbers_below p a flags k h t = subst (λ o. unwrap_or o 0 ≤ t.1) (sym (h t)) 
     by_test false = omega arith
 
 -- With these entries and keys the rewritten chunk is the output with new keys.
-pub all_renumbered : (slim : Option (List ℕ)) (p : Parts) (a : AreParts p) (flags : List Bool) (k : NumberedPairs) (entries : List EntryAt) → ((t : ℕ × ℕ) → number_of k t ≡ new_key_of p (kept_by p flags) t) → entries ≡ firsts p (kept_by p flags)
+pub all_renumbered : (slim : Option (List ℕ)) (p : Parts) (a : AreParts p) (flags : List Bool) (k : NumberedPairs) (entries : List EntryAt)
+    → ((t : ℕ × ℕ) → number_of k t ≡ new_key_of p (kept_by p flags) t) → entries ≡ firsts p (kept_by p flags)
     → rewritten (with_keys (number_or_zero k) slim) p (kept_by p flags) entries ≡ renumber_with slim p (kept_by p flags)
 all_renumbered slim p a flags k entries h e =
     sym (is_rewritten (number_or_zero k) slim p (kept_by p flags) entries)
-    ∙ (ap (λ z. assembled_by p (new_bytes (number_or_zero k) p (kept_by p flags) z) (output_records slim p (kept_by p flags))) e ∙ output_same p a flags (number_or_zero k) (number_used p a flags k h) slim)
+    ∙ (ap (λ z. assembled_by p (new_bytes (number_or_zero k) p (kept_by p flags) z) (output_records slim p (kept_by p flags))) e
+    ∙ output_same p a flags (number_or_zero k) (number_used p a flags k h) slim)
 
 -- The first entries are some of the chunk's.
 pub firsts_some : (p : Parts) (flags : List Bool) (entries : List EntryAt) → entries ≡ firsts p (kept_by p flags) → AreSomeOf p entries
 firsts_some p flags entries e = let m = firsts_marked p (kept_by p flags) in (m.0, e ∙ m.1)
 
 -- Each size fits in its old width.
-pub all_carried : (slim : Option (List ℕ)) (p : Parts) (a : AreParts p) (flags : List Bool) (k : NumberedPairs) (entries : List EntryAt) → ((t : ℕ × ℕ) → number_of k t ≡ new_key_of p (kept_by p flags) t) → entries ≡ firsts p (kept_by p flags)
+pub all_carried : (slim : Option (List ℕ)) (p : Parts) (a : AreParts p) (flags : List Bool) (k : NumberedPairs) (entries : List EntryAt)
+    → ((t : ℕ × ℕ) → number_of k t ≡ new_key_of p (kept_by p flags) t) → entries ≡ firsts p (kept_by p flags)
     → IsNewMetadata p (kept_by p flags) slim → CarriesAll (with_keys (number_or_zero k) slim) p (kept_by p flags) entries
 all_carried slim p a flags k entries h e n =
     let m = firsts_marked p (kept_by p flags) in
     subst (λ z. CarriesAll (with_keys (number_or_zero k) slim) p (kept_by p flags) z) (sym (e ∙ m.1))
-    (subst (λ s. CarriesAll (with_keys (number_or_zero k) s) p (kept_by p flags) (marked m.0 p.entries)) (sym n.is) (carries_all p a flags (number_or_zero k) (numbers_below p a flags k h) m.0 n.names))
+    (subst (λ s. CarriesAll (with_keys (number_or_zero k) s) p (kept_by p flags) (marked m.0 p.entries)) (sym n.is)
+    (carries_all p a flags (number_or_zero k) (numbers_below p a flags k h) m.0 n.names))
 
 -- If all sizes are carried, the fault isn't `TooLong`.
 pub not_too_long : {A : Type 0} (fault : WriteFault) (P : A → Type 0) (C : Type 0) → fault ≡ faults.TooLong → Wrote (Err fault) P C → C → ⊥

@@ -26,7 +26,8 @@ pub a_chars : chars (codes "t.A") ≡ codes "t.A"
 a_chars = chars-IsAscii (codes "t.A") (word_ascii (codes "t.A") refl)
 
 -- The lines of a chunk and the scrub with the kept events.
-pub lines_by : (result : Result (List ℕ) NoMemory) (p : Parts) (events entries : ℕ) (written : List ℕ) (kept : List EventAt) → IfOk result (λ text. (k : List EventAt) → events ≡ length k → entries ≡ length (remain p k) → written ≡ scrub_of (describes only_a) p k → text ≡ lines_of p k)
+pub lines_by : (result : Result (List ℕ) NoMemory) (p : Parts) (events entries : ℕ) (written : List ℕ) (kept : List EventAt)
+    → IfOk result (λ text. (k : List EventAt) → events ≡ length k → entries ≡ length (remain p k) → written ≡ scrub_of (describes only_a) p k → text ≡ lines_of p k)
     → events ≡ length kept → entries ≡ length (remain p kept) → written ≡ scrub_of (describes only_a) p kept → IfOk result (λ text. text ≡ lines_of p kept)
 lines_by (Ok text) p events entries written kept h e n w = h kept e n w
 lines_by (Err fault) p events entries written kept h e n w = tt
@@ -36,7 +37,8 @@ unfolding counted
 counted_by result p h = h
 
 -- The text for the sample, by its bytes.
-pub sampled_by : (result : Result (List ℕ) NoMemory) (seed events : ℕ) (bytes : List ℕ) (p : Parts) → bytes ≡ sample_of seed events → read_parts bytes ≡ Ok p → IfOk result (λ text. text ≡ counted p) → IfOk result (λ text. text ≡ sampled seed events)
+pub sampled_by : (result : Result (List ℕ) NoMemory) (seed events : ℕ) (bytes : List ℕ) (p : Parts) → bytes ≡ sample_of seed events → read_parts bytes ≡ Ok p → IfOk result (λ text. text ≡ counted p)
+    → IfOk result (λ text. text ≡ sampled seed events)
 unfolding sampled
 sampled_by (Ok text) seed events bytes p e h t = t ∙ sym (ap (λ b. counted_in (read_parts b)) (sym e) ∙ ap counted_in h)
 sampled_by (Err fault) seed events bytes p e h t = tt

@@ -23,6 +23,8 @@ chunk_goes : (n : ℕ) (texts : Parts → List (List ℕ)) (c : List ℕ) → Is
 unfolding refusal_of
 chunk_goes n texts c = goes_if n texts (read_parts c)
 
-pub texting_ends_well : (texts : ℕ → Parts → List (List ℕ)) (last : List (List ℕ) → List (List ℕ)) (x : List ℕ) → ((plan_after (texting texts last) [] (Some x)).end ≡ Some Fine) ↔ AllAccepted refusal_of x
+pub texting_ends_well : (texts : ℕ → Parts → List (List ℕ)) (last : List (List ℕ) → List (List ℕ)) (x : List ℕ)
+    → ((plan_after (texting texts last) [] (Some x)).end ≡ Some Fine) ↔ AllAccepted refusal_of x
 texting_ends_well texts last x =
-    ends_well (texting texts last) (λ c. refusal_of c ≡ None) x (λ before c. never_well (length before + 1) (texts (length before + 1)) (read_parts c)) (λ before c. chunk_goes (length before + 1) (texts (length before + 1)) c)
+    ends_well (texting texts last) (λ c. refusal_of c ≡ None) x (λ before c. never_well (length before + 1) (texts (length before + 1)) (read_parts c))
+    (λ before c. chunk_goes (length before + 1) (texts (length before + 1)) c)

@@ -22,7 +22,8 @@ skips (false ∷ fs) (x ∷ xs) zero e = refl
 skips (f ∷ fs) (x ∷ xs) (suc n) e = skips fs xs n e
 
 -- A member that is marked is the next one.
-takes : {X : Type 0} (fs : List Bool) (xs : List X) (x : X) (n : ℕ) → unwrap_or (slice_get fs n) false ≡ true → slice_get xs n ≡ Some x → marked (drop n fs) (drop n xs) ≡ x ∷ marked (drop (suc n) fs) (drop (suc n) xs)
+takes : {X : Type 0} (fs : List Bool) (xs : List X) (x : X) (n : ℕ) → unwrap_or (slice_get fs n) false ≡ true → slice_get xs n ≡ Some x
+    → marked (drop n fs) (drop n xs) ≡ x ∷ marked (drop (suc n) fs) (drop (suc n) xs)
 takes [] xs x n e h = cc
 takes (f ∷ fs) [] x n e h = cc
 takes (true ∷ fs) (y ∷ ys) x zero e h = cc
@@ -35,7 +36,8 @@ one_more n = omega arith
 pub kept_skips : {X : Type 0} (fs : List Bool) (xs : List X) (n : ℕ) → unwrap_or (slice_get fs n) false ≡ false → marked (drop n fs) (drop n xs) ≡ marked (drop (n + 1) fs) (drop (n + 1) xs)
 kept_skips fs xs n e = skips fs xs n e ∙ ap (λ k. marked (drop k fs) (drop k xs)) (one_more n)
 
-pub kept_takes : {X : Type 0} (fs : List Bool) (xs : List X) (x : X) (n : ℕ) → unwrap_or (slice_get fs n) false ≡ true → slice_get xs n ≡ Some x → marked (drop n fs) (drop n xs) ≡ x ∷ marked (drop (n + 1) fs) (drop (n + 1) xs)
+pub kept_takes : {X : Type 0} (fs : List Bool) (xs : List X) (x : X) (n : ℕ) → unwrap_or (slice_get fs n) false ≡ true → slice_get xs n ≡ Some x
+    → marked (drop n fs) (drop n xs) ≡ x ∷ marked (drop (n + 1) fs) (drop (n + 1) xs)
 kept_takes fs xs x n e h = takes fs xs x n e h ∙ ap (λ k. x ∷ marked (drop k fs) (drop k xs)) (one_more n)
 
 -- Past the last one nothing is left.

@@ -56,7 +56,8 @@ module _ (all : List (List ℕ)) (before now : Option (List ℕ)) (g : List ℕ)
   some_written = record { first = i.written; rest = i.waiting ++ rest; parts = i.parts; holds = i.holds }
 
 -- A text more is gathered.
-pub gathered_more : (all : List (List ℕ)) (before now : Option (List ℕ)) (g h text : List ℕ) (rest : List (List ℕ)) → h ≡ g ++ text → IsGathered all before now g (text ∷ rest) → IsGathered all before now h rest
+pub gathered_more : (all : List (List ℕ)) (before now : Option (List ℕ)) (g h text : List ℕ) (rest : List (List ℕ)) → h ≡ g ++ text → IsGathered all before now g (text ∷ rest)
+    → IsGathered all before now h rest
 gathered_more all before now g h text rest e i = record {
   written = i.written;
   waiting = i.waiting ++ text ∷ [];
@@ -70,7 +71,8 @@ pub all_written : (all : List (List ℕ)) (before now : Option (List ℕ)) → I
 all_written all before now i = subst (λ z. Grew z before now) joined i.holds
   where
     joined : concat i.written ≡ concat all
-    joined = sym (append-nil (concat i.written)) ∙ (ap (λ z. concat i.written ++ z) (i.gathers ∙ ap concat (sym (append-nil i.waiting))) ∙ (sym (concat-append i.written (i.waiting ++ [])) ∙ ap concat (sym i.parts)))
+    joined = sym (append-nil (concat i.written))
+        ∙ (ap (λ z. concat i.written ++ z) (i.gathers ∙ ap concat (sym (append-nil i.waiting))) ∙ (sym (concat-append i.written (i.waiting ++ [])) ∙ ap concat (sym i.parts)))
 
 -- A prefix of joined texts is the first of them and a prefix of the next one.
 record Torn (texts : List (List ℕ)) (k : ℕ) : Type 0 where
@@ -108,21 +110,26 @@ tear x (y ∷ ys) k = by_length (nat_le k (length x)) refl (tear y ys (k - lengt
     by_length true e t = record { first = []; torn = x; rest = y ∷ ys; bytes = k; parts = refl; is = take-append-le k x (concat (y ∷ ys)) (leb-true k (length x) e) }
     by_length false e t = later t (least k (length x) (leb-false k (length x) e))
 
-torn_from : (all : List (List ℕ)) (before now next : Option (List ℕ)) (g : List ℕ) (rest : List (List ℕ)) (i : IsGathered all before now g rest) (k : ℕ) → Grew (take k g) now next → Torn i.waiting k → TearsText all before next
+torn_from : (all : List (List ℕ)) (before now next : Option (List ℕ)) (g : List ℕ) (rest : List (List ℕ)) (i : IsGathered all before now g rest) (k : ℕ) → Grew (take k g) now next → Torn i.waiting k
+    → TearsText all before next
 torn_from all before now next g rest i k w t = record {
   first = i.written ++ t.first;
   torn = t.torn;
   rest = t.rest ++ rest;
   bytes = t.bytes;
-  parts = i.parts ∙ (ap (λ z. i.written ++ (z ++ rest)) t.parts ∙ (ap (λ z. i.written ++ z) (append_assoc t.first (t.torn ∷ t.rest) rest) ∙ sym (append_assoc i.written t.first (t.torn ∷ (t.rest ++ rest)))));
+  parts = i.parts ∙ (ap (λ z. i.written ++ (z ++ rest)) t.parts
+      ∙ (ap (λ z. i.written ++ z) (append_assoc t.first (t.torn ∷ t.rest) rest) ∙ sym (append_assoc i.written t.first (t.torn ∷ (t.rest ++ rest)))));
   holds = subst (λ z. Grew z before next) joined (grew_on (concat i.written) (take k g) before now next i.holds w);
 }
   where
     joined : concat i.written ++ take k g ≡ concat (i.written ++ t.first) ++ take t.bytes t.torn
-    joined = ap (λ z. concat i.written ++ take k z) i.gathers ∙ (ap (λ z. concat i.written ++ z) t.is ∙ (sym (append_assoc (concat i.written) (concat t.first) (take t.bytes t.torn)) ∙ ap (λ z. z ++ take t.bytes t.torn) (sym (concat-append i.written t.first))))
+    joined = ap (λ z. concat i.written ++ take k z) i.gathers
+        ∙ (ap (λ z. concat i.written ++ z) t.is ∙ (sym (append_assoc (concat i.written) (concat t.first) (take t.bytes t.torn))
+        ∙ ap (λ z. z ++ take t.bytes t.torn) (sym (concat-append i.written t.first))))
 
 -- What is gathered is written in part.
-pub tears : (all : List (List ℕ)) (before now next : Option (List ℕ)) (g : List ℕ) (rest : List (List ℕ)) (k : ℕ) → (g ≡ [] → ⊥) → Grew (take k g) now next → IsGathered all before now g rest → TearsText all before next
+pub tears : (all : List (List ℕ)) (before now next : Option (List ℕ)) (g : List ℕ) (rest : List (List ℕ)) (k : ℕ) → (g ≡ [] → ⊥) → Grew (take k g) now next → IsGathered all before now g rest
+    → TearsText all before next
 tears all before now next g rest k some w i = by_waiting i.waiting refl
   where
     by_waiting : (ws : List (List ℕ)) → i.waiting ≡ ws → TearsText all before next
@@ -146,15 +153,18 @@ pub tears_one : (text : List ℕ) (before now : Option (List ℕ)) → ((k : ℕ
 tears_one text before now t = record { first = []; torn = text; rest = []; bytes = t.0; parts = refl; holds = t.1 }
 
 -- What is gathered is written, or a part of it.
-pub page_written : (all : List (List ℕ)) (before now next : Option (List ℕ)) (g bytes h : List ℕ) (rest : List (List ℕ)) → bytes ≡ g → h ≡ [] → next ≡ option_map (added bytes) now → IsGathered all before now g rest → IsGathered all before next h rest
+pub page_written : (all : List (List ℕ)) (before now next : Option (List ℕ)) (g bytes h : List ℕ) (rest : List (List ℕ)) → bytes ≡ g → h ≡ [] → next ≡ option_map (added bytes) now
+    → IsGathered all before now g rest → IsGathered all before next h rest
 page_written all before now next g bytes h rest e n w i =
     subst (λ z. IsGathered all before next z rest) (sym n) (written_all all before now g rest i next (w ∙ ap (λ z. option_map (added z) now) e))
 
-pub page_torn : (all : List (List ℕ)) (before now next : Option (List ℕ)) (g bytes : List ℕ) (rest : List (List ℕ)) → bytes ≡ g → (g ≡ [] → ⊥) → ((k : ℕ) × (next ≡ option_map (added (take k bytes)) now)) → IsGathered all before now g rest → TearsText all before next
+pub page_torn : (all : List (List ℕ)) (before now next : Option (List ℕ)) (g bytes : List ℕ) (rest : List (List ℕ)) → bytes ≡ g → (g ≡ [] → ⊥)
+    → ((k : ℕ) × (next ≡ option_map (added (take k bytes)) now)) → IsGathered all before now g rest → TearsText all before next
 page_torn all before now next g bytes rest e some w i = tears all before now next g rest w.0 some (w.1 ∙ ap (λ z. option_map (added (take w.0 z)) now) e) i
 
 -- The page could not be written.
-pub page_failed : (all : List (List ℕ)) (before now next : Option (List ℕ)) (g bytes : List ℕ) (rest : List (List ℕ)) (r : Result (Unit {0}) Fault) (z : Result (Unit {0}) Ending) (y : Ending) → Passes r z → z ≡ Err y → bytes ≡ g → (g ≡ [] → ⊥) → IsAfterAppend r now next bytes added → IsGathered all before now g rest → TextLeaves all (Err y) before next
+pub page_failed : (all : List (List ℕ)) (before now next : Option (List ℕ)) (g bytes : List ℕ) (rest : List (List ℕ)) (r : Result (Unit {0}) Fault) (z : Result (Unit {0}) Ending) (y : Ending)
+    → Passes r z → z ≡ Err y → bytes ≡ g → (g ≡ [] → ⊥) → IsAfterAppend r now next bytes added → IsGathered all before now g rest → TextLeaves all (Err y) before next
 page_failed all before now next g bytes rest r z y h q e some w i =
     passed (λ s. s ≡ Err y → TextLeaves all (Err y) before next) r z h
     (λ x p k. cc)
@@ -163,7 +173,8 @@ page_failed all before now next g bytes rest r z y h q e some w i =
     q
 
 -- The page was written.
-pub page_passed : (now next : Option (List ℕ)) (bytes : List ℕ) (r : Result (Unit {0}) Fault) (z : Result (Unit {0}) Ending) (y : Unit {0}) → Passes r z → z ≡ Ok y → IsAfterAppend r now next bytes added → next ≡ option_map (added bytes) now
+pub page_passed : (now next : Option (List ℕ)) (bytes : List ℕ) (r : Result (Unit {0}) Fault) (z : Result (Unit {0}) Ending) (y : Unit {0}) → Passes r z → z ≡ Ok y
+    → IsAfterAppend r now next bytes added → next ≡ option_map (added bytes) now
 page_passed now next bytes r z y h q w =
     passed (λ s. s ≡ Ok y → next ≡ option_map (added bytes) now) r z h
     (λ x p k. rw p at w)
@@ -172,7 +183,8 @@ page_passed now next bytes r z y h q w =
     q
 
 -- One text is written, as its write answers.
-pub text_leaves : (text : List ℕ) (before now : Option (List ℕ)) (r : Result (Unit {0}) Fault) (z : Result (Unit {0}) Ending) → Passes r z → IsAfterAppend r before now text added → TextLeaves (text ∷ []) z before now
+pub text_leaves : (text : List ℕ) (before now : Option (List ℕ)) (r : Result (Unit {0}) Fault) (z : Result (Unit {0}) Ending) → Passes r z → IsAfterAppend r before now text added
+    → TextLeaves (text ∷ []) z before now
 text_leaves text before now r z h t =
     passed (λ y. TextLeaves (text ∷ []) y before now) r z h
     (λ x e. let w : now ≡ option_map (added text) before = rw e at t in w ∙ ap (λ y. option_map (added y) before) (sym (append-nil text)))
@@ -187,7 +199,8 @@ text_counted before now r z h c =
     (λ e. rw e at c)
 
 -- The last page is written.
-pub last_page : (all : List (List ℕ)) (before now : Option (List ℕ)) (result : Result (Unit {0}) Ending) (h : List ℕ) → PageLeaves all before result h [] now → OnOk result (h ≡ []) → TextLeaves all result before now
+pub last_page : (all : List (List ℕ)) (before now : Option (List ℕ)) (result : Result (Unit {0}) Ending) (h : List ℕ) → PageLeaves all before result h [] now → OnOk result (h ≡ [])
+    → TextLeaves all result before now
 last_page all before now (Ok x) h i e = all_written all before now (subst (λ z. IsGathered all before now z []) e i)
 last_page all before now (Err e) h i n = i
 

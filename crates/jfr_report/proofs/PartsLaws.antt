@@ -16,5 +16,6 @@ parts_more [] c p e = ap (λ r. parts_with r []) e
 parts_more (d ∷ ds) c p e = ap (parts_with (read_parts d)) (parts_more ds c p e) ∙ parts_first (read_parts d) (all_parts ds) p
 
 -- What is seen of the parts so far.
-pub seen_more : (Seen : List Parts → Type 0) (result : Result (Unit {0}) Ending) (cs : List (List ℕ)) (c : List ℕ) (p : Parts) → read_parts c ≡ Ok p → OnOk result (Seen (all_parts cs ++ p ∷ [])) → OnOk result (Seen (all_parts (cs ++ c ∷ [])))
+pub seen_more : (Seen : List Parts → Type 0) (result : Result (Unit {0}) Ending) (cs : List (List ℕ)) (c : List ℕ) (p : Parts) → read_parts c ≡ Ok p → OnOk result (Seen (all_parts cs ++ p ∷ []))
+    → OnOk result (Seen (all_parts (cs ++ c ∷ [])))
 seen_more Seen result cs c p e h = subst (λ ps. OnOk result (Seen ps)) (sym (parts_more cs c p e)) h

@@ -21,7 +21,8 @@ done_writes [] w o = ap (snapshot w) (nothing o)
     nothing : (o : Option (List ℕ)) → o ≡ option_map (added []) o
     nothing None = refl
     nothing (Some b) = ap Some (sym (append-nil b))
-done_writes (t ∷ ts) w o = done_writes ts w (option_map (added t) o) ∙ ap (snapshot w) (grew_on t (concat ts) o (option_map (added t) o) (option_map (added (concat ts)) (option_map (added t) o)) refl refl)
+done_writes (t ∷ ts) w o = done_writes ts w (option_map (added t) o) ∙ ap (snapshot w)
+    (grew_on t (concat ts) o (option_map (added t) o) (option_map (added (concat ts)) (option_map (added t) o)) refl refl)
 
 map_append : (xs ys : List (List ℕ)) → writes (xs ++ ys) ≡ writes xs ++ writes ys
 map_append [] ys = refl
@@ -42,12 +43,14 @@ breaks st all w o p t = record {
   rest = writes t.rest;
   bytes = t.bytes;
   parts = ap writes t.parts ∙ map_append t.first (t.torn ∷ t.rest);
-  holds = ap (snapshot w) (t.holds ∙ sym (grew_on (concat t.first) (take t.bytes t.torn) o (option_map (added (concat t.first)) o) (option_map (added (take t.bytes t.torn)) (option_map (added (concat t.first)) o)) refl refl)) ∙ ap (broken t.bytes (Write t.torn)) (sym (done_writes t.first w o));
+  holds = ap (snapshot w) (t.holds ∙ sym (grew_on (concat t.first) (take t.bytes t.torn) o (option_map (added (concat t.first)) o)
+      (option_map (added (take t.bytes t.torn)) (option_map (added (concat t.first)) o)) refl refl)) ∙ ap (broken t.bytes (Write t.torn)) (sym (done_writes t.first w o));
   cause = λ h. tt;
 }
 
 -- A part that was asked for these texts.
-pub texts_stand : (st : Bool) (all : List (List ℕ)) (result : Result (Unit {0}) Ending) (w : World) (o p : Option (List ℕ)) → TextLeaves all result o p → PartOutcome st (Goes (writes all)) result (snapshot w o) (snapshot w p)
+pub texts_stand : (st : Bool) (all : List (List ℕ)) (result : Result (Unit {0}) Ending) (w : World) (o p : Option (List ℕ)) → TextLeaves all result o p
+    → PartOutcome st (Goes (writes all)) result (snapshot w o) (snapshot w p)
 texts_stand st all (Ok x) w o p t = (refl, ap (snapshot w) t ∙ sym (done_writes all w o))
 texts_stand st all (Err WriteFault) w o p t = breaks st all w o p t
 texts_stand st all (Err Memory) w o p t = some_done all w o p t
@@ -58,11 +61,13 @@ texts_stand st all (Err TooManyParts) w o p t = absurd t
 texts_stand st all (Err (MaskTooLong n)) w o p t = absurd t
 
 -- A part of a command that writes these texts and leaves the place.
-pub texts_told : (st : Bool) (all : List (List ℕ)) (result : Result (Unit {0}) Ending) (t : Option World) (o p : Option (List ℕ)) → TextLeaves all result o p → IfKnown t t (PartWorld st (Goes (writes all)) result o p)
+pub texts_told : (st : Bool) (all : List (List ℕ)) (result : Result (Unit {0}) Ending) (t : Option World) (o p : Option (List ℕ)) → TextLeaves all result o p
+    → IfKnown t t (PartWorld st (Goes (writes all)) result o p)
 texts_told st all result None o p h = tt
 texts_told st all result (Some w) o p h = (refl, texts_stand st all result w o p h)
 
-pub chunk_told : (st : Bool) (n m : ℕ) (texts : ℕ → Parts → List (List ℕ)) (c : List ℕ) (parts : Parts) (result : Result (Unit {0}) Ending) (t : Option World) (o p : Option (List ℕ)) → read_parts c ≡ Ok parts → n ≡ m → TextLeaves (texts n parts) result o p → IfKnown t t (PartWorld st (asks_texts m (texts m) (read_parts c)) result o p)
+pub chunk_told : (st : Bool) (n m : ℕ) (texts : ℕ → Parts → List (List ℕ)) (c : List ℕ) (parts : Parts) (result : Result (Unit {0}) Ending) (t : Option World) (o p : Option (List ℕ))
+    → read_parts c ≡ Ok parts → n ≡ m → TextLeaves (texts n parts) result o p → IfKnown t t (PartWorld st (asks_texts m (texts m) (read_parts c)) result o p)
 chunk_told st n m texts c parts result t o p e is h =
     subst (λ r. IfKnown t t (PartWorld st (asks_texts m (texts m) r) result o p)) (sym e)
     (subst (λ k. IfKnown t t (PartWorld st (Goes (writes (texts k parts))) result o p)) is (texts_told st (texts n parts) result t o p h))

@@ -32,7 +32,8 @@ unfolding is_event_class sample_classes
 not_checkpoint = refl
 
 -- The records of events among those of a sample have their fields.
-events_fields : (c : List ℕ) (last : Framed) (frames : List Framed) → last.type_id ≡ 1 → AllByRecursion (IsEvent c) frames → All (HasFields c sample_classes) (event_records sample_classes (frames ++ last ∷ []))
+events_fields : (c : List ℕ) (last : Framed) (frames : List Framed) → last.type_id ≡ 1 → AllByRecursion (IsEvent c) frames
+    → All (HasFields c sample_classes) (event_records sample_classes (frames ++ last ∷ []))
 events_fields c last [] one e = rw (ap (is_event_class sample_classes) one ∙ not_checkpoint) (All-nil (HasFields c sample_classes))
 events_fields c last (r ∷ rs) one e = rw e.0.class (All-cons (HasFields c sample_classes) r (event_records sample_classes (rs ++ last ∷ [])) e.0.fields (events_fields c last rs one e.1))
 
@@ -45,7 +46,8 @@ module _ (seed events : ℕ) (h : Header) (in_header : h.metadata ≡ 68) (pools
     bytes : parts.bytes ≡ c
     are : AreParts parts
 
-  built : (c : List ℕ) → c ≡ header_bytes h ++ (before_checkpoint seed events ++ checkpoint events) → Holds c (length c) 68 (before_checkpoint seed events ++ checkpoint events) → header_of (take 68 c) ≡ h → length c ≡ last + length (checkpoint events) → length c < 2 ^ 28 → Built c
+  built : (c : List ℕ) → c ≡ header_bytes h ++ (before_checkpoint seed events ++ checkpoint events) → Holds c (length c) 68 (before_checkpoint seed events ++ checkpoint events)
+      → header_of (take 68 c) ≡ h → length c ≡ last + length (checkpoint events) → length c < 2 ^ 28 → Built c
   built c is holds header long small =
       let evs : List ℕ = events_to seed events events in
       let p = holds_parts c (length c) 68 (before_checkpoint seed events) (checkpoint events) holds in

@@ -35,8 +35,13 @@ fields_of n = Group (inline 7) [] (Cons (node_value (next_of n)) (Cons (Single (
 value_fits : (n : ℕ) → Fits sample_classes (fields_of n)
 unfolding sample_classes kind_of
 value_fits n =
-    let text : List ℕ = decimal n in
-    (inr (refl, refl, node_class, refl, refl, refl, refl), (inl (refl, refl, next_of n, spell_spells (next_of n), refl, refl), (inr (refl, refl, text_class, refl, refl, (Utf8 text, (refl, (spell (length text), text, refl, spell_spells (length text), refl)), refl)), tt)))
+    let text : List ℕ = decimal n in (
+      inr (refl, refl, node_class, refl, refl, refl, refl),
+      (
+        inl (refl, refl, next_of n, spell_spells (next_of n), refl, refl),
+        (inr (refl, refl, text_class, refl, refl, (Utf8 text, (refl, (spell (length text), text, refl, spell_spells (length text), refl)), refl)), tt),
+      ),
+    )
 
 entry_is : (n : ℕ) → entry n ≡ spell n ++ bytes_of (fields_of n)
 unfolding entry
@@ -60,7 +65,8 @@ entry_read c end n at any h =
     let to : m + length (bytes_of v) ≡ at + length (entry n) = omega (arith, ap length (entry_is n), length-append (spell n) (bytes_of v)) in
     let read : Reads (value_format sample_classes (inline 7)) c end m v (m + length (bytes_of v)) = value_read sample_classes c end m v classes_sound (value_fits n) p.1 in
     let behind = λ (value : Value). Here (λ (last : ℕ). Done (record { key = n; key_at = at; value_at = m; end = last; value = value })) in
-    let both : Reads (value_format sample_classes (inline 7) >>= behind) c end m (constant_at at n) (m + length (bytes_of v)) = reads_then (value_format sample_classes (inline 7)) behind c end m v (m + length (bytes_of v)) (constant_at at n) (m + length (bytes_of v)) read (refl, refl) in
+    let both : Reads (value_format sample_classes (inline 7) >>= behind) c end m (constant_at at n) (m + length (bytes_of v)) =
+    reads_then (value_format sample_classes (inline 7)) behind c end m v (m + length (bytes_of v)) (constant_at at n) (m + length (bytes_of v)) read (refl, refl) in
     (m, n, spelled_int c end at n p.0, w, refl, subst (Reads (value_format sample_classes (inline 7) >>= behind) c end m (constant_at at n)) to both)
 
 all_any : (ns : List ℕ) → AllByRecursion IsAny ns
@@ -93,7 +99,8 @@ seven_spelled : Spells (7 ∷ []) 7
 seven_spelled = record { form = omega arith; worth = refl }
 
 -- The pool: its class, its number of entries, and the entries.
-pool_read : (c : List ℕ) (end n at : ℕ) → Holds c end at (7 ∷ (spell n ++ entries_to n)) → Reads (pool_format sample_classes) c end at (pool_at (at + 1 + length (spell n)) n) (at + 1 + length (spell n) + length (entries_to n))
+pool_read : (c : List ℕ) (end n at : ℕ) → Holds c end at (7 ∷ (spell n ++ entries_to n))
+    → Reads (pool_format sample_classes) c end at (pool_at (at + 1 + length (spell n)) n) (at + 1 + length (spell n) + length (entries_to n))
 pool_read c end n at h =
     let p = holds_parts c end at (7 ∷ []) (spell n ++ entries_to n) h in
     let q = holds_parts c end (at + 1) (spell n) (entries_to n) p.1 in
@@ -113,7 +120,8 @@ pool_read c end n at h =
         spelled_int c end (at + 1) n q.0,
         x,
         refl,
-        reads_then (times n (constant_format sample_classes 7)) behind c end first (constants_at first n) (first + length (entries_to n)) (pool_at first n) (first + length (entries_to n)) read (refl, refl),
+        reads_then (times n (constant_format sample_classes 7)) behind c end first (constants_at first n) (first + length (entries_to n)) (pool_at first n) (first + length (entries_to n)) read
+            (refl, refl),
       ),
     )
 
@@ -176,8 +184,10 @@ checkpoint_stands c at n small h =
     let last : ℕ = first_at at n + length (entries_to n) in
     let ends : last ≡ end = omega (arith, length-append (spell 1) (after_type n), length-append (spell n) (entries_to n)) in
     let read = pool_read c end n (p + 1 + 1 + 1 + 1 + 1) f.1 in
-    let one : Reads (times 1 (pool_format sample_classes)) c end (p + 1 + 1 + 1 + 1 + 1) (pool ∷ []) last = reads_then (pool_format sample_classes) (λ q. Done (q ∷ [])) c end (p + 1 + 1 + 1 + 1 + 1) pool last (pool ∷ []) last read (refl, refl) in
-    let all : Reads (times 1 (pool_format sample_classes) >>= λ pools. Stop (Done pools)) c end (p + 1 + 1 + 1 + 1 + 1) (pool ∷ []) last = reads_then (times 1 (pool_format sample_classes)) (λ pools. Stop (Done pools)) c end (p + 1 + 1 + 1 + 1 + 1) (pool ∷ []) last (pool ∷ []) last one (omega arith, (refl, refl)) in
+    let one : Reads (times 1 (pool_format sample_classes)) c end (p + 1 + 1 + 1 + 1 + 1) (pool ∷ []) last =
+    reads_then (pool_format sample_classes) (λ q. Done (q ∷ [])) c end (p + 1 + 1 + 1 + 1 + 1) pool last (pool ∷ []) last read (refl, refl) in
+    let all : Reads (times 1 (pool_format sample_classes) >>= λ pools. Stop (Done pools)) c end (p + 1 + 1 + 1 + 1 + 1) (pool ∷ []) last =
+    reads_then (times 1 (pool_format sample_classes)) (λ pools. Stop (Done pools)) c end (p + 1 + 1 + 1 + 1 + 1) (pool ∷ []) last (pool ∷ []) last one (omega arith, (refl, refl)) in
     let whole : Reads (checkpoint_format sample_classes) c end p (pool ∷ []) last =
     (p + 1, 0, start, ea, refl, (p + 1 + 1, 0, duration, eb, refl, (p + 1 + 1 + 1, 0, delta, ed, refl, (ee, (p + 1 + 1 + 1 + 1 + 1, 1, count, ef, refl, all))))) in
     record {

@@ -69,24 +69,31 @@ record EventStands (c : List ℕ) (at : ℕ) (bytes : List ℕ) : Type 0 where
 
 module _ (c : List ℕ) (small : length c < 2 ^ 28) where
   -- An event of this class whose fields are spelled by the rest.
-  event_stands : (at type : ℕ) (rest : List ℕ) (v : Value) → is_event_class sample_classes type ≡ true → Fits sample_classes v → shape_of v ≡ inline type → bytes_of v ≡ rest → Holds c (length c) at (record_in 4 (spell type ++ rest)) → EventStands c at (record_in 4 (spell type ++ rest))
+  event_stands : (at type : ℕ) (rest : List ℕ) (v : Value) → is_event_class sample_classes type ≡ true → Fits sample_classes v → shape_of v ≡ inline type → bytes_of v ≡ rest
+      → Holds c (length c) at (record_in 4 (spell type ++ rest)) → EventStands c at (record_in 4 (spell type ++ rest))
   event_stands at type rest v class fits shape bytes h =
       let s = written_record c 4 at type rest (omega arith) (omega arith) (omega (arith, small)) h in
       let r : Framed = framed 4 at type rest in
-      let read : Reads (value_format sample_classes (shape_of v)) c (record_end r) r.body v (r.body + length (bytes_of v)) = value_read sample_classes c (record_end r) r.body v classes_sound fits (subst (Holds c (record_end r) r.body) (sym bytes) s.body) in
+      let read : Reads (value_format sample_classes (shape_of v)) c (record_end r) r.body v (r.body + length (bytes_of v)) =
+      value_read sample_classes c (record_end r) r.body v classes_sound fits (subst (Holds c (record_end r) r.body) (sym bytes) s.body) in
       record {
         frame = r;
         place = refl;
         end = omega (arith, length-record_in 4 (spell type ++ rest));
         is = s.is;
-        event = record { class = class; fields = (v, r.body + length (bytes_of v), subst (λ z. Reads (value_format sample_classes z) c (record_end r) r.body v (r.body + length (bytes_of v))) shape read) };
+        event = record {
+          class = class;
+          fields =
+              (v, r.body + length (bytes_of v), subst (λ z. Reads (value_format sample_classes z) c (record_end r) r.body v (r.body + length (bytes_of v))) shape read);
+        };
       }
 
   a_stands : (at i key : ℕ) → Holds c (length c) at (event_a i key) → EventStands c at (event_a i key)
   a_stands at i key h =
       let e : spell 8 ++ (spell i ++ spell key) ≡ spell 8 ++ spell i ++ spell key = sym (append_assoc (spell 8) (spell i) (spell key)) in
       let b : bytes_of (fields_a i key) ≡ spell i ++ spell key = ap (λ z. spell i ++ z) (append-nil (spell key)) in
-      subst (λ z. EventStands c at (record_in 4 z)) e (event_stands at 8 (spell i ++ spell key) (fields_a i key) a_is_event (a_fits i key) refl b (subst (λ z. Holds c (length c) at (record_in 4 z)) (sym e) h))
+      subst (λ z. EventStands c at (record_in 4 z)) e
+      (event_stands at 8 (spell i ++ spell key) (fields_a i key) a_is_event (a_fits i key) refl b (subst (λ z. Holds c (length c) at (record_in 4 z)) (sym e) h))
 
   b_stands : (at key : ℕ) → Holds c (length c) at (event_b key) → EventStands c at (event_b key)
   b_stands at key h = event_stands at 9 (spell key) (fields_b key) b_is_event (b_fits key) refl (append-nil (spell key)) h

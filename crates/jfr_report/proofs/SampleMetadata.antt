@@ -39,7 +39,13 @@ abbrev pub node_class : Class
 node_class = record { id = 7; name = codes "t.Node"; super_name = None; fields = record { name = codes "next"; shape = node } ∷ record { name = codes "text"; shape = plain 6 } ∷ []; categories = [] }
 
 abbrev pub a_class : Class
-a_class = record { id = 8; name = codes "t.A"; super_name = Some (codes "jdk.jfr.Event"); fields = record { name = codes "n"; shape = plain 5 } ∷ record { name = codes "node"; shape = node } ∷ []; categories = [] }
+a_class = record {
+  id = 8;
+  name = codes "t.A";
+  super_name = Some (codes "jdk.jfr.Event");
+  fields = record { name = codes "n"; shape = plain 5 } ∷ record { name = codes "node"; shape = node } ∷ [];
+  categories = [];
+}
 
 abbrev pub b_class : Class
 b_class = record { id = 9; name = codes "t.B"; super_name = Some (codes "jdk.jfr.Event"); fields = record { name = codes "node"; shape = node } ∷ []; categories = [] }

@@ -277,9 +277,11 @@ module _ (given : Rewriting) where
               class = sym type;
               agree = given.suits.agree id ((suits_kept given).event e k);
               fields =
-                  fields_are w p (sound given) given.keeps e (event_here given e k) (event_record given e k) ∙ (sym st.fields_held.bytes ∙ (ap (λ z. slice_range b z to) (sym start) ∙ ap (slice_range b f.node.at) (sym one.1)));
+                  fields_are w p (sound given) given.keeps e (event_here given e k) (event_record given e k)
+                  ∙ (sym st.fields_held.bytes ∙ (ap (λ z. slice_range b z to) (sym start) ∙ ap (slice_range b f.node.at) (sym one.1)));
               rest =
-                  sym st.rest_held.bytes ∙ (ap (λ z. slice_range b z (to + length (slice_range p.bytes e.node.end (record_end e.record_of)))) (sym one.1) ∙ ap (slice_range b f.node.end) (st.ends ∙ sym last));
+                  sym st.rest_held.bytes ∙ (ap (λ z. slice_range b z (to + length (slice_range p.bytes e.node.end (record_end e.record_of)))) (sym one.1)
+                  ∙ ap (slice_range b f.node.end) (st.ends ∙ sym last));
             }
 
     changed_events : (xs ys : List EventAt) → ((e : EventAt) → In xs e → In these e) → ((f : EventAt) → In ys f → In (events_of parts) f)

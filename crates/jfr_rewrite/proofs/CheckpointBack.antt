@@ -116,7 +116,13 @@ module _ (c : List ℕ) (l : Link) (delta : ℕ) (gs : List SpelledPool) where
         record {
           is_record = m.is_record;
           head = (middle, s.start, start_int.0, start_int.1, refl, (delta_at, s.duration, duration_int.0, duration_int.1, refl, (kind_at, delta, delta_int, e0, refl, (refl, refl))));
-          are_pools =
-              (middle, s.start, start_int.0, start_int.1, refl, (delta_at, s.duration, duration_int.0, duration_int.1, refl, (kind_at, delta, delta_int, e0, refl, (omega arith, (pools_start, count, count_int, e2, refl, stopped)))));
+          are_pools = (
+            middle,
+            s.start,
+            start_int.0,
+            start_int.1,
+            refl,
+            (delta_at, s.duration, duration_int.0, duration_int.1, refl, (kind_at, delta, delta_int, e0, refl, (omega arith, (pools_start, count, count_int, e2, refl, stopped)))),
+          );
           pools_held = p5.1;
         }

@@ -28,7 +28,8 @@ pub entry_is : (k : Classes) (c : List ℕ) (e : EntryAt) → (s : IsEntryIn c k
 entry_is k c e s =
     let o : e.value_at ≤ e.end = s.order in
     let w : e.end ≤ length c = s.within in
-    let r : Reads (value_format k (inline e.class)) c e.end e.value_at s.value e.end = exact_reads (value_format k (inline e.class)) c e.end e.value_at e.end (slice_range c e.value_at e.end) s.value s.exact (record { order = o; within = w; bytes = refl }) (omega arith) w in
+    let r : Reads (value_format k (inline e.class)) c e.end e.value_at s.value e.end =
+    exact_reads (value_format k (inline e.class)) c e.end e.value_at e.end (slice_range c e.value_at e.end) s.value s.exact (record { order = o; within = w; bytes = refl }) (omega arith) w in
     (read_node k (inline e.class) c e.end e.value_at e.end s.value w o r).0
 
 -- The entries of these groups are in the chunk.
@@ -47,11 +48,13 @@ counted rest others e n g l r =
 
 module _ (w : Rewrite) (p : Parts) where
   -- An entry: nothing is around its value.
-  pub entry_put : (e : EntryAt) (old o1 o2 : List ℕ) (key : ℕ) → key ≡ w.key (pair_of e) → o1 ≡ old ++ spell key → o2 ≡ o1 ++ changed_within w.change p (entry_node e) e.value_at e.end → o2 ≡ old ++ entry_bytes w p e
+  pub entry_put : (e : EntryAt) (old o1 o2 : List ℕ) (key : ℕ) → key ≡ w.key (pair_of e) → o1 ≡ old ++ spell key → o2 ≡ o1 ++ changed_within w.change p (entry_node e) e.value_at e.end
+      → o2 ≡ old ++ entry_bytes w p e
   entry_put e old o1 o2 key k a b =
       let x : List ℕ = changed_bytes w.change p.classes p.bytes (entry_node e) in
       let alone : changed_within w.change p (entry_node e) e.value_at e.end ≡ x =
-      ap (λ z. z ++ (x ++ slice_range p.bytes e.end e.end)) (range_none p.bytes e.value_at e.value_at (omega arith)) ∙ (ap (λ z. x ++ z) (range_none p.bytes e.end e.end (omega arith)) ∙ append-nil x) in
+      ap (λ z. z ++ (x ++ slice_range p.bytes e.end e.end)) (range_none p.bytes e.value_at e.value_at (omega arith))
+      ∙ (ap (λ z. x ++ z) (range_none p.bytes e.end e.end (omega arith)) ∙ append-nil x) in
       b ∙ (ap (λ z. o1 ++ z) alone ∙ (ap (λ z. z ++ x) (a ∙ ap (λ z. old ++ spell z) k) ∙ append_assoc old (spell (w.key (pair_of e))) x))
 
   pub pool_next : (old o1 o2 o3 : List ℕ) (rest pool others : List EntryAt) (e : EntryAt) (n : ℕ) → slice_get rest 0 ≡ Some e → n ≡ leading e rest → pool ≡ take n rest → others ≡ drop n rest
@@ -63,7 +66,8 @@ module _ (w : Rewrite) (p : Parts) where
       let m : pool ≡ take (leading e rest) rest = q ∙ ap (λ z. take z rest) l in
       let k : others ≡ drop (leading e rest) rest = r ∙ ap (λ z. drop z rest) l in
       let groups : by_pool rest ≡ record { class = e.class; pool = e.pool; entries = pool } ∷ by_pool others =
-      by_first_of rest e g ∙ (ap (λ z. record { class = e.class; pool = e.pool; entries = z } ∷ by_pool (drop (leading e rest) rest)) (sym m) ∙ ap (λ z. record { class = e.class; pool = e.pool; entries = pool } ∷ by_pool z) (sym k)) in
+      by_first_of rest e g ∙ (ap (λ z. record { class = e.class; pool = e.pool; entries = z } ∷ by_pool (drop (leading e rest) rest)) (sym m)
+      ∙ ap (λ z. record { class = e.class; pool = e.pool; entries = pool } ∷ by_pool z) (sym k)) in
       let these : o3 ≡ ((old ++ spell e.class) ++ spell (length pool)) ++ items = d ∙ ap (λ z. z ++ items) (b ∙ ap (λ z. z ++ spell (length pool)) a) in
       ap (λ z. z ++ later) these ∙ (regroup old (spell e.class) (spell (length pool)) items later ∙ ap (λ z. old ++ flat_map (group_bytes w p) z) (sym groups))
     where
@@ -81,7 +85,8 @@ module _ (w : Rewrite) (p : Parts) where
     pub old_width : length old_size ≡ l.frame.type_at - l.frame.at
     old_width = range_length c l.frame.at l.frame.type_at s.record_stands.size_spelled.within
 
-    pub parts_written : (old o1 o2 o3 o4 o5 : List ℕ) (count : ℕ) → o1 ≡ old ++ slice_range c l.frame.at l.delta_at → o2 ≡ o1 ++ spell delta → o3 ≡ o2 ++ slice_range c l.delta_end (l.delta_end + 1) → count ≡ length (by_pool es) → o4 ≡ o3 ++ spell count
+    pub parts_written : (old o1 o2 o3 o4 o5 : List ℕ) (count : ℕ) → o1 ≡ old ++ slice_range c l.frame.at l.delta_at → o2 ≡ o1 ++ spell delta → o3 ≡ o2 ++ slice_range c l.delta_end (l.delta_end + 1)
+        → count ≡ length (by_pool es) → o4 ≡ o3 ++ spell count
         → o5 ≡ o4 ++ flat_map (group_bytes w p) (by_pool es) → o5 ≡ old ++ (old_size ++ checkpoint_tail w p l delta (by_pool es))
     parts_written old o1 o2 o3 o4 o5 count a b d n e f =
         let x : List ℕ = slice_range c l.frame.type_at l.frame.body in

@@ -96,7 +96,8 @@ copied_within ch p n v from to copied before after out sound i o l e f =
     ∙ append_assoc before (slice_range p.bytes from n.at) (changes ++ slice_range p.bytes n.end to)))))
 
 -- A value that stays.
-pub stays_within : (ch : Change) (p : Parts) (n : NodeAt) (from to : ℕ) → from ≤ n.at → n.at ≤ n.end → n.end ≤ to → changed_bytes ch p.classes p.bytes n ≡ slice_range p.bytes n.at n.end → slice_range p.bytes from to ≡ changed_within ch p n from to
+pub stays_within : (ch : Change) (p : Parts) (n : NodeAt) (from to : ℕ) → from ≤ n.at → n.at ≤ n.end → n.end ≤ to → changed_bytes ch p.classes p.bytes n ≡ slice_range p.bytes n.at n.end
+    → slice_range p.bytes from to ≡ changed_within ch p n from to
 stays_within ch p n from to u o l e =
     range_split p.bytes from n.at to u (omega arith)
     ∙ ap (λ z. slice_range p.bytes from n.at ++ z) (range_split p.bytes n.at n.end to o l ∙ ap (λ z. z ++ slice_range p.bytes n.end to) (sym e))

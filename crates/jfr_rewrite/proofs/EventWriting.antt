@@ -43,4 +43,11 @@ pub record EventFacts (c : List ℕ) (e : EventAt) : Type 0 where
 pub event_facts : (p : Parts) → AreParts p → (number : ℕ) (e : EventAt) → Some e ≡ slice_get (events_of p) number → EventFacts p.bytes e
 event_facts p a number e q =
     let i = event_is p a e (get_in (events_of p) number e (sym q)) in
-    record { is_record = all_in (IsRecord p.bytes) p.records e.record_of (recorded p a) i.listed; place = i.at; within = i.within; array = ap (λ (z : Shape). z.array) i.shape; constant = ap (λ (z : Shape). z.constant) i.shape }
+    record {
+      is_record = all_in (IsRecord p.bytes) p.records e.record_of (recorded p a) i.listed;
+      place = i.at;
+      within = i.within;
+      array = ap (λ (z : Shape). z.array) i.shape;
+      constant = ap
+          (λ (z : Shape). z.constant) i.shape;
+    }

@@ -56,7 +56,8 @@ module _ (w : Rewrite) (p q : Parts) (same : (t : ℕ × ℕ) → w.key t ≡ t.
       by_number (Some n) e =
           let m : IsMarked marks n = h n e in
           let c = changed_get (marked marks p.entries) q.entries (rank marks n) a in
-          by_numbers (Some n) (Some (rank marks n)) e (moved ∙ marked_force marks p.entries t n e m) (subst (λ z. Both (HasChangedValue w.change p q) z (slice_get q.entries (rank marks n))) (rank_get marks p.entries n m) c)
+          by_numbers (Some n) (Some (rank marks n)) e (moved ∙ marked_force marks p.entries t n e m)
+          (subst (λ z. Both (HasChangedValue w.change p q) z (slice_get q.entries (rank marks n))) (rank_get marks p.entries n m) c)
 
   pub same_keys_meet : (stops : Stops) (kept : List EventAt) (marks : List Bool) → Entries (marked marks p.entries) q.entries → MarksMet stops p kept marks → MeetsChanged w.change w.key stops p q kept
   same_keys_meet stops kept marks a met t u =

@@ -86,7 +86,8 @@ mutual
       (head_laid k c holder at s h (shapes_of vs) f.0 halves.first.bytes)
       (values_laid k c (part_holder s holder) (at + length h) end vs halves.second f.1)
 
-  pub values_laid : (k : Classes) (c : List ℕ) (holders : ℕ → Option Holder) (at end : ℕ) (vs : Values) → Stands c at end (bytes_of_all vs) → AllFit k vs → AreLaid k c at end (leaves_from holders at vs)
+  pub values_laid : (k : Classes) (c : List ℕ) (holders : ℕ → Option Holder) (at end : ℕ) (vs : Values) → Stands c at end (bytes_of_all vs) → AllFit k vs
+      → AreLaid k c at end (leaves_from holders at vs)
   values_laid k c holders at end Nil st f =
       let halves : Halves c at end [] [] = stands_split c at end [] [] [] st refl in
       let e = halves.place in
@@ -127,7 +128,14 @@ leaf_lies p at end l ls h w key =
       bytes = bytes;
       key = key;
       reference = λ n q. reference_spells p.classes l l.kind n refl h.2 q;
-      string = λ q. record { shape = refl; order = omega arith; within = omega (arith, e, o, w); bytes = bytes; fits = subst (λ z. Fits p.classes (value z)) q (string_fits p.classes l l.kind refl h.2 q) };
+      string = λ q. record {
+        shape = refl;
+        order = omega arith;
+        within = omega (arith, e, o, w);
+        bytes = bytes;
+        fits = subst (λ z. Fits p.classes (value z)) q
+            (string_fits p.classes l l.kind refl h.2 q);
+      };
     }
 
 all_lie : (p : Parts) (at end : ℕ) (ls : List LeafAt) → AreLaid p.classes p.bytes at end ls → end ≤ length p.bytes → AllByRecursion KeyIsSpelled ls → AllByRecursion (LiesIn p) ls

@@ -69,8 +69,10 @@ module _ (k : Classes) (bytes : OutputRecord → ℕ → Option ℕ → List ℕ
   last_made (Rebuilt r x ∷ ss) at None = last_made ss (at + length (bytes (Rebuilt r x) at None)) None
   last_made (Whole r ∷ ss) at (Some o) = last_made ss (at + length (bytes (Whole r) at (Some o))) (Some o)
   last_made (Rebuilt r x ∷ ss) at (Some o) = last_made ss (at + length (bytes (Rebuilt r x) at (Some o))) (Some o)
-  last_made (Chained i l ∷ ss) at None = let n : ℕ = length (bytes (Chained i l) at None) in last_made ss (at + n) (Some at) ∙ last_joined (checkpoint_at at None i l) (chain_from (at + n) (Some at) ss)
-  last_made (Chained i l ∷ ss) at (Some o) = let n : ℕ = length (bytes (Chained i l) at (Some o)) in last_made ss (at + n) (Some at) ∙ last_joined (checkpoint_at at (Some o) i l) (chain_from (at + n) (Some at) ss)
+  last_made (Chained i l ∷ ss) at None = let n : ℕ =
+      length (bytes (Chained i l) at None) in last_made ss (at + n) (Some at) ∙ last_joined (checkpoint_at at None i l) (chain_from (at + n) (Some at) ss)
+  last_made (Chained i l ∷ ss) at (Some o) = let n : ℕ =
+      length (bytes (Chained i l) at (Some o)) in last_made ss (at + n) (Some at) ∙ last_joined (checkpoint_at at (Some o) i l) (chain_from (at + n) (Some at) ss)
 
   pub last_inside : (ss : List OutputRecord) (at : ℕ) (older : Option ℕ) → AtMost older at → newest_at older (written_by bytes at older ss) ≤ at + length (bytes_from at older ss)
   last_inside [] at None o = omega arith

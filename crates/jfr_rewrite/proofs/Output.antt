@@ -223,7 +223,8 @@ module _ (given : Rewriting) where
       record {
         is_record = subst (λ z. IsRecord b (new_frame at (width_with l z) (length (resized w l.frame z)) l.frame)) (sym e) st.is_record;
         head =
-            subst (λ z. Reads head_format b (last z) (body z) (record { at = delta_at z; end = delta_at z + length (spell delta); value = cast_signed w64 delta }) (delta_at z + length (spell delta))) (sym e) st.head;
+            subst (λ z. Reads head_format b (last z) (body z) (record { at = delta_at z; end = delta_at z + length (spell delta); value = cast_signed w64 delta }) (delta_at z + length (spell delta)))
+            (sym e) st.head;
         are_pools =
             subst (λ z. Reads (checkpoint_format m) b (last z) (body z) (placed_each bytes_of_pool pool_at (new_pools_at at (width_with l z) l delta count) (spelled_groups i)) (last z))
             (sym e) st.are_pools;
@@ -335,7 +336,11 @@ module _ (given : Rewriting) where
       let x = given_read None (not_anew r f u) b at (subst (λ z. Holds b (length b) at (record_bytes p.bytes z)) f h) in
       let y : IsRecord b (frame_from 0 given.describes.type_after given.describes.body_after at (length (record_bytes p.bytes r))) =
       subst (λ z. IsRecord b (frame_from 0 given.describes.type_after given.describes.body_after at (length (record_bytes p.bytes z)))) (sym f) x.holds in
-      record { holds = subst (λ id. IsRecord b (frame_from id given.describes.type_after given.describes.body_after at (length (record_bytes p.bytes r)))) (sym type) y; fields = λ t. absurd (clash (is_event_class m r.type_id) t no_event) }
+      record {
+        holds = subst (λ id. IsRecord b (frame_from id given.describes.type_after given.describes.body_after at (length (record_bytes p.bytes r)))) (sym type) y;
+        fields = λ t. absurd
+            (clash (is_event_class m r.type_id) t no_event);
+      }
 
   -- What is written in its place is the new one.
   anew_here : (r : Framed) (x : List ℕ) → IsRecord p.bytes r → written_anew w.metadata p r ≡ Some x → w.metadata ≡ Some x

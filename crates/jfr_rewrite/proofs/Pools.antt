@@ -51,7 +51,8 @@ module _ (w : Rewrite) (p : Parts) (sound : Sound p.classes) (keeps : KeepsFit p
       let o : e.value_at ≤ e.end = s.order in
       let h : e.end ≤ length p.bytes = s.within in
       let r : Reads (value_format p.classes (inline e.class)) p.bytes e.end e.value_at s.value e.end =
-      exact_reads (value_format p.classes (inline e.class)) p.bytes e.end e.value_at e.end (slice_range p.bytes e.value_at e.end) s.value s.exact (record { order = o; within = h; bytes = refl }) (omega arith) h in
+      exact_reads (value_format p.classes (inline e.class)) p.bytes e.end e.value_at e.end (slice_range p.bytes e.value_at e.end) s.value s.exact (record { order = o; within = h; bytes = refl })
+      (omega arith) h in
       (read_node p.classes (inline e.class) p.bytes e.end e.value_at e.end s.value h o r).0
 
   value_here : (e : EntryAt) → (s : IsEntryIn p.bytes p.classes e) → value_in p.bytes p.classes e ≡ s.value
@@ -60,7 +61,8 @@ module _ (w : Rewrite) (p : Parts) (sound : Sound p.classes) (keeps : KeepsFit p
   -- Its new bytes are those of the spelled entry.
   changed_here : (e : EntryAt) → IsEntryIn p.bytes p.classes e → changed_bytes w.change p.classes p.bytes (entry_node e) ≡ bytes_of (new_value e)
   changed_here e s =
-      ap (λ o. option_map_or (λ v. bytes_of (changed w.change None v)) o []) (value_is p.classes p.bytes (entry_node e) s.value sound (entry_is e s)) ∙ ap (λ v. bytes_of (changed w.change None v)) (sym (value_here e s))
+      ap (λ o. option_map_or (λ v. bytes_of (changed w.change None v)) o []) (value_is p.classes p.bytes (entry_node e) s.value sound (entry_is e s))
+      ∙ ap (λ v. bytes_of (changed w.change None v)) (sym (value_here e s))
 
   entry_spelled : (e : EntryAt) → IsEntryIn p.bytes p.classes e → entry_bytes w p e ≡ bytes_of_entry (spelled e)
   entry_spelled e s = ap (λ z. spell (w.key (pair_of e)) ++ z) (changed_here e s)

@@ -59,25 +59,41 @@ module _ (w : Rewrite) (r : Framed) (xs : List ℕ) (start : ℕ) (there : start
   pub not_carried : (width len : ℕ) → len ≡ length xs → width ≡ w.width r (len - start - room) → (FitsIn (width + (len - start - room)) width → ⊥) → CarriesTail w r rest → ⊥
   not_carried width len l e unfit carried =
       let f : FitsIn (w.width r (length rest) + length rest) (w.width r (length rest)) = carries_fits (w.width r (length rest)) (length rest) carried in
-      unfit (subst (λ z. FitsIn (z + (len - start - room)) z) (sym (width_same width len l e)) (subst (λ z. FitsIn (w.width r (length rest) + z) (w.width r (length rest))) (sym (rest_length len l)) f))
+      unfit (subst (λ z. FitsIn (z + (len - start - room)) z) (sym (width_same width len l e))
+      (subst (λ z. FitsIn (w.width r (length rest) + z) (w.width r (length rest))) (sym (rest_length len l)) f))
 
   longer : (width len : ℕ) (after : List ℕ) → len ≡ length xs → width ≡ w.width r (len - start - room) → 1 ≤ width → after ≡ take start xs ++ resized w r rest → start < length after
   longer width len after l e some h =
       let size : List ℕ = spell_in (w.width r (length rest)) (w.width r (length rest) + length rest) in
-      omega (arith, there, some, width_same width len l e, ap length h, length-append (take start xs) (size ++ rest), length-append size rest, in_length (w.width r (length rest)) (w.width r (length rest) + length rest), length-take-le start xs (omega (arith, there)))
+      omega (
+        arith,
+        there,
+        some,
+        width_same width len l e,
+        ap length h,
+        length-append (take start xs) (size ++ rest),
+        length-append size rest,
+        in_length (w.width r (length rest))
+            (w.width r (length rest) + length rest),
+        length-take-le start xs (omega (arith, there)),
+      )
 
-  pub replaced : (width len : ℕ) (after : List ℕ) → len ≡ length xs → width ≡ w.width r (len - start - room) → 1 ≤ width → after ≡ take start xs ++ (spell_in width (width + (length xs - start - room)) ++ rest)
+  pub replaced : (width len : ℕ) (after : List ℕ) → len ≡ length xs → width ≡ w.width r (len - start - room) → 1 ≤ width
+      → after ≡ take start xs ++ (spell_in width (width + (length xs - start - room)) ++ rest)
       → (after ≡ take start xs ++ resized w r rest) × (start < length after)
   replaced width len after l e some h =
       let q : after ≡ take start xs ++ resized w r rest =
-      h ∙ (ap (λ z. take start xs ++ (spell_in width (width + z) ++ rest)) (rest_length (length xs) refl) ∙ ap (λ z. take start xs ++ (spell_in z (z + length rest) ++ rest)) (width_same width len l e)) in
+      h ∙ (ap (λ z. take start xs ++ (spell_in width (width + z) ++ rest)) (rest_length (length xs) refl)
+      ∙ ap (λ z. take start xs ++ (spell_in z (z + length rest) ++ rest)) (width_same width len l e)) in
       (q, longer width len after l e some q)
 
-  pub stayed : (width len : ℕ) (after : List ℕ) → len ≡ length xs → width ≡ w.width r (len - start - room) → 1 ≤ width → width ≡ room → after ≡ take start xs ++ (spell_in width (length xs - start) ++ drop (start + width) xs)
+  pub stayed : (width len : ℕ) (after : List ℕ) → len ≡ length xs → width ≡ w.width r (len - start - room) → 1 ≤ width → width ≡ room
+      → after ≡ take start xs ++ (spell_in width (length xs - start) ++ drop (start + width) xs)
       → (after ≡ take start xs ++ resized w r rest) × (start < length after)
   stayed width len after l e some same h =
       let size : length xs - start ≡ width + (length xs - start - room) = omega (arith, there, same) in
-      replaced width len after l e some (h ∙ (ap (λ z. take start xs ++ (spell_in width z ++ drop (start + width) xs)) size ∙ ap (λ z. take start xs ++ (spell_in width (width + (length xs - start - room)) ++ drop (start + z) xs)) same))
+      replaced width len after l e some (h ∙ (ap (λ z. take start xs ++ (spell_in width z ++ drop (start + width) xs)) size
+      ∙ ap (λ z. take start xs ++ (spell_in width (width + (length xs - start - room)) ++ drop (start + z) xs)) same))
 
 -- A result of which more is known is one of which less is.
 pub wrote_weaker : {A : Type 0} (result : Result A WriteFault) {P Q : A → Type 0} {C D : Type 0} → ((x : A) → P x → Q x) → (D → C) → Wrote result P C → Wrote result Q D
@@ -108,5 +124,7 @@ module _ (w : Rewrite) (r : Framed) (old a t o : List ℕ) (start : ℕ) (s : st
       → Wrote result (λ x. (last ≡ old ++ resized w r t) × (length old < length last)) (CarriesTail w r t)
   sized_last result last h =
       let f : take start o ≡ old = ap (λ z. take z o) s ∙ (ap (take (length old)) e ∙ front_taken old (a ++ t)) in
-      let d : drop (start + (r.type_at - r.at)) o ≡ t = ap (λ z. drop (z + (r.type_at - r.at)) o) s ∙ (ap (λ z. drop (length old + z) o) (sym l) ∙ (ap (drop (length old + length a)) e ∙ both_dropped old a t)) in
-      wrote_weaker result (λ x k. (k.0 ∙ (ap (λ z. z ++ resized w r (drop (start + (r.type_at - r.at)) o)) f ∙ ap (λ z. old ++ resized w r z) d), subst (λ z. z < length last) s k.1)) (λ k. subst (CarriesTail w r) (sym d) k) h
+      let d : drop (start + (r.type_at - r.at)) o ≡ t =
+      ap (λ z. drop (z + (r.type_at - r.at)) o) s ∙ (ap (λ z. drop (length old + z) o) (sym l) ∙ (ap (drop (length old + length a)) e ∙ both_dropped old a t)) in
+      wrote_weaker result (λ x k. (k.0 ∙ (ap (λ z. z ++ resized w r (drop (start + (r.type_at - r.at)) o)) f ∙ ap (λ z. old ++ resized w r z) d), subst (λ z. z < length last) s k.1))
+      (λ k. subst (CarriesTail w r) (sym d) k) h

@@ -66,7 +66,8 @@ module _ (k : Classes) (b : List ℕ) (end : ℕ) where
         key,
         p.0.within,
         refl,
-        reads_then (value_format k (inline e.class)) (λ value. Here λ to. Done (record { key = e.key; key_at = at; value_at = m; end = to; value = value })) b end m e.value to (constant_at at e) to read (refl, refl),
+        reads_then (value_format k (inline e.class)) (λ value. Here λ to. Done (record { key = e.key; key_at = at; value_at = m; end = to; value = value })) b end m e.value to
+            (constant_at at e) to read (refl, refl),
       )
 
   pool_reads : (g : SpelledPool) (at : ℕ) → IsSpelledPool k g → Holds b end at (bytes_of_pool g) → Reads (pool_format k) b end at (pool_at at g) (at + length (bytes_of_pool g))

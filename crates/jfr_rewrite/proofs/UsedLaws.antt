@@ -79,7 +79,8 @@ module _ (w : Rewrite) (stops : Stops) (p q : Parts) (kept others : List EventAt
       let r = ranked marks p.entries i (subst (λ z. i < z) (sym c) h) in
       let t = reached r.place r.is_marked in
       let u = (used t.0).1 (t.0, t.1, ap (λ z. (t.0.0, z)) (same t.0)) in
-      let f : number_in_force q.entries t.0 ≡ Some (rank marks r.place) = sym (changed_force w p q same (marked marks p.entries) q.entries t.0 entries) ∙ marked_force marks p.entries t.0 r.place t.2 r.is_marked in
+      let f : number_in_force q.entries t.0 ≡ Some (rank marks r.place) =
+      sym (changed_force w p q same (marked marks p.entries) q.entries t.0 entries) ∙ marked_force marks p.entries t.0 r.place t.2 r.is_marked in
       record {
         event = u.event;
         is_kept = u.is_kept;

@@ -71,12 +71,14 @@ module _ (p : Parts) (a : AreParts p) (flags : List Bool) where
           let i : In (events_of p) e = contains_in (events_of p) e (All-contains (Contains (events_of p)) kept e (chosen_events p flags) (in_contains kept e f.0)) in
           let c = computed p e i in
           let same : e.record_of ≡ a.metadata_record = f.1 ∙ there in
-          let none : is_event_class p.classes e.record_of.type_id ≡ false = ap (λ (z : Framed). is_event_class p.classes z.type_id) same ∙ (ap (is_event_class p.classes) a.metadata_there.type_is ∙ no_metadata_event p.classes) in
+          let none : is_event_class p.classes e.record_of.type_id ≡ false =
+          ap (λ (z : Framed). is_event_class p.classes z.type_id) same ∙ (ap (is_event_class p.classes) a.metadata_there.type_is ∙ no_metadata_event p.classes) in
           absurd (clash (is_event_class p.classes e.record_of.type_id) c.class none)
 
   -- All output records can be written, with some of the entries.
   module _ (new : Option (List ℕ)) (entries : List EntryAt) where
-    each_can : (ss : List OutputRecord) → AllByRecursion (OnChosen (IsRecord p.bytes) (is_kept_or_metadata p kept) (written_anew new p)) ss → AllByRecursion (OnChained (IsOutputRecordIn p.bytes entries p.classes)) ss
+    each_can : (ss : List OutputRecord) → AllByRecursion (OnChosen (IsRecord p.bytes) (is_kept_or_metadata p kept) (written_anew new p)) ss
+        → AllByRecursion (OnChained (IsOutputRecordIn p.bytes entries p.classes)) ss
         → AllByRecursion (CanWrite p entries) ss
     unfolding CanWrite
     each_can [] h c = tt
@@ -128,12 +130,14 @@ module _ (w : Rewrite) (p : Parts) (flags : List Bool) (entries : List EntryAt) 
   appended_before : (o : Option ℕ) (old x after : List ℕ) → after ≡ old ++ x → IsBefore o (length old) → IsBefore o (length after)
   appended_before o old x after e h = later_before o (length old) (length after) h (omega (arith, ap length e, length-append old x))
 
-  event_next : (number : ℕ) (r : Framed) (b : Progress) (after : List ℕ) (k : IsKeptEvent p flags number r) → (r.at == place) ≡ false → after ≡ b.bytes ++ event_bytes w p k.event → record { bytes = after; newest = b.newest; metadata = b.metadata } ≡ with_record bytes place b (Whole r)
+  event_next : (number : ℕ) (r : Framed) (b : Progress) (after : List ℕ) (k : IsKeptEvent p flags number r) → (r.at == place) ≡ false → after ≡ b.bytes ++ event_bytes w p k.event
+      → record { bytes = after; newest = b.newest; metadata = b.metadata } ≡ with_record bytes place b (Whole r)
   unfolding with_record
   event_next number r b after k t h =
       λ i. record { bytes = (h ∙ ap (λ o. b.bytes ++ whole_bytes w p r o) (sym k.there)) i; newest = b.newest; metadata = sym (seen_not b.metadata (r.at == place) (length b.bytes) t) i }
 
-  pub event_written : {A : Type 0} (result : Result A WriteFault) (s : RemainingRecord) (number : ℕ) (r : Framed) (b : Progress) (after : List ℕ) → s ≡ remaining_records.Event number r → ShowsEvent p flags s → ShowsMetadata place s
+  pub event_written : {A : Type 0} (result : Result A WriteFault) (s : RemainingRecord) (number : ℕ) (r : Framed) (b : Progress) (after : List ℕ) → s ≡ remaining_records.Event number r
+      → ShowsEvent p flags s → ShowsMetadata place s
       → IsBefore b.newest (length b.bytes) → IfSome (slice_get (events_of p) number) (λ e. Wrote result (λ x. after ≡ b.bytes ++ event_bytes w p e) (CarriesTail w e.record_of (event_tail w p e)))
       → Wrote result (λ x. IsNext s b (record { bytes = after; newest = b.newest; metadata = b.metadata })) (CarriesIt s b)
   event_written {A = A} result s number r b after q k t before h =
@@ -144,10 +148,16 @@ module _ (w : Rewrite) (p : Parts) (flags : List Bool) (entries : List EntryAt) 
   metadata_next : (a : AreParts p) (r : Framed) (o : Option (List ℕ)) (b : Progress) → IsRecord p.bytes r → (r.at == place) ≡ true
       → record { bytes = b.bytes ++ unwrap_or o (record_bytes p.bytes r); newest = b.newest; metadata = offset_so_far b.metadata true (length b.bytes) } ≡ with_record bytes place b (whole_or o r)
   unfolding with_record
-  metadata_next a r None b s t = λ i. record { bytes = b.bytes ++ whole_bytes w p r (sym (metadata_no_event p a flags r s t) i); newest = b.newest; metadata = offset_so_far b.metadata (sym t i) (length b.bytes) }
+  metadata_next a r None b s t = λ i. record {
+    bytes = b.bytes ++ whole_bytes w p r (sym (metadata_no_event p a flags r s t) i);
+    newest = b.newest;
+    metadata = offset_so_far b.metadata (sym t i)
+        (length b.bytes);
+  }
   metadata_next a r (Some x) b s t = λ i. record { bytes = b.bytes ++ x; newest = b.newest; metadata = offset_so_far b.metadata (sym t i) (length b.bytes) }
 
-  pub metadata_written : (a : AreParts p) (s : RemainingRecord) (r : Framed) (b after : Progress) → s ≡ remaining_records.Metadata r → ShowsMetadata place s → IsBefore b.newest (length b.bytes) → IsRecord p.bytes r
+  pub metadata_written : (a : AreParts p) (s : RemainingRecord) (r : Framed) (b after : Progress) → s ≡ remaining_records.Metadata r → ShowsMetadata place s → IsBefore b.newest (length b.bytes)
+      → IsRecord p.bytes r
       → after ≡ record { bytes = b.bytes ++ unwrap_or new (record_bytes p.bytes r); newest = b.newest; metadata = offset_so_far b.metadata true (length b.bytes) } → IsNext s b after
   metadata_written a s r b after q t before i e =
       subst (λ z. ShowsMetadata place z → IsNext z b after) (sym q)
@@ -175,12 +185,14 @@ module _ (w : Rewrite) (p : Parts) (flags : List Bool) (entries : List EntryAt) 
       (λ t. wrote_weaker result (λ x e. (e.0 ∙ link_next number l b t, subst (λ o. IsBefore o (length after.bytes)) (sym (ap (λ (z : Progress). z.newest) e.0)) e.1)) (λ carried. carried) h) t
 
 -- What a checkpoint and the metadata record need.
-pub link_stands : (p : Parts) (entries : List EntryAt) (new : Option (List ℕ)) (s : RemainingRecord) (number : ℕ) (l : Link) → s ≡ remaining_records.Chained number l → CanWrite p entries (output_record_for new s)
+pub link_stands : (p : Parts) (entries : List EntryAt) (new : Option (List ℕ)) (s : RemainingRecord) (number : ℕ) (l : Link) → s ≡ remaining_records.Chained number l
+    → CanWrite p entries (output_record_for new s)
     → CheckpointStands p l (filter (λ e. e.checkpoint == number) entries)
 unfolding CanWrite
 link_stands p entries new s number l q c = subst (λ z. CanWrite p entries (output_record_for new z)) q c
 
-pub record_stands : (p : Parts) (entries : List EntryAt) (new : Option (List ℕ)) (s : RemainingRecord) (r : Framed) → s ≡ remaining_records.Metadata r → CanWrite p entries (output_record_for new s) → IsRecord p.bytes r
+pub record_stands : (p : Parts) (entries : List EntryAt) (new : Option (List ℕ)) (s : RemainingRecord) (r : Framed) → s ≡ remaining_records.Metadata r → CanWrite p entries (output_record_for new s)
+    → IsRecord p.bytes r
 unfolding CanWrite
 record_stands p entries new s r q c = by_new new (subst (λ z. CanWrite p entries (output_record_for new z)) q c)
   where
@@ -201,7 +213,8 @@ module _ (p : Parts) (bytes : OutputRecord → ℕ → Option ℕ → List ℕ) 
   pub going_none : (all : List OutputRecord) (b : Progress) → b ≡ record { bytes = replicate 68 0; newest = None; metadata = None } → AllByRecursion Can all → Going all all b
   going_none all b e c = subst (Going all all) (sym e) (record { body = refl; newest = refl; metadata = refl; can = c; carried = λ h. h; before = tt })
 
-  pub going_next : (all ss : List OutputRecord) (s : OutputRecord) (b next : Progress) → Going all (s ∷ ss) b → next ≡ with_record bytes (metadata_at p.bytes) b s → IsBefore next.newest (length next.bytes) → Going all ss next
+  pub going_next : (all ss : List OutputRecord) (s : OutputRecord) (b next : Progress) → Going all (s ∷ ss) b → next ≡ with_record bytes (metadata_at p.bytes) b s
+      → IsBefore next.newest (length next.bytes) → Going all ss next
   unfolding with_record
   going_next all ss s b next g e h = subst (Going all ss) (sym e) going
     where
@@ -216,7 +229,8 @@ module _ (p : Parts) (bytes : OutputRecord → ℕ → Option ℕ → List ℕ) 
           record {
             body = ap (λ n. (b.bytes ++ x) ++ flat_map (bytes_by bytes) (written_by bytes n o ss)) l ∙ (append_assoc b.bytes x (flat_map (bytes_by bytes) ws) ∙ g.body);
             newest = ap (λ n. newest_at o (written_by bytes n o ss)) l ∙ (sym (newest_next b.newest w ws) ∙ g.newest);
-            metadata = ap (λ n. or_place (offset_so_far b.metadata ((record_of s).at == metadata_at p.bytes) at) (moved (written_by bytes n o ss) (metadata_at p.bytes))) l ∙ (sym (moved_next b.metadata w ws (metadata_at p.bytes)) ∙ g.metadata);
+            metadata = ap (λ n. or_place (offset_so_far b.metadata ((record_of s).at == metadata_at p.bytes) at) (moved (written_by bytes n o ss) (metadata_at p.bytes))) l
+                ∙ (sym (moved_next b.metadata w ws (metadata_at p.bytes)) ∙ g.metadata);
             can = g.can.1;
             carried = λ c. subst (λ n. AllByRecursion Carried (written_by bytes n o ss)) (sym l) (g.carried c).1;
             before = subst (λ (z : Progress). IsBefore z.newest (length z.bytes)) e h;
@@ -229,14 +243,16 @@ module _ (p : Parts) (bytes : OutputRecord → ℕ → Option ℕ → List ℕ) 
       done g = record { body = sym (append-nil b.bytes) ∙ g.body; newest = sym (newest_none b.newest) ∙ g.newest; metadata = sym (or_none b.metadata) ∙ g.metadata }
 
 -- The header in its place before the body is the output.
-pub all_assembled : (p : Parts) (bytes : OutputRecord → ℕ → Option ℕ → List ℕ) (ss : List OutputRecord) (b : Progress) (h : Header) (out : List ℕ) → HasAllRecords p bytes ss b → h ≡ header_of (take 68 p.bytes)
+pub all_assembled : (p : Parts) (bytes : OutputRecord → ℕ → Option ℕ → List ℕ) (ss : List OutputRecord) (b : Progress) (h : Header) (out : List ℕ) → HasAllRecords p bytes ss b
+    → h ≡ header_of (take 68 p.bytes)
     → out ≡ header_bytes (record h { size = length b.bytes; pools = unwrap_or b.newest 0; metadata = unwrap_or b.metadata 0 }) ++ drop 68 b.bytes → out ≡ assembled_by p bytes ss
 all_assembled p bytes ss b h out i e o =
     let body : List ℕ = flat_map (bytes_by bytes) (written_by bytes 68 None ss) in
     let size : length b.bytes ≡ 68 + length body = ap length i.body ∙ length-append (replicate 68 0) body in
     o ∙ (λ n. header_bytes (record (e n) { size = size n; pools = i.newest n; metadata = i.metadata n }) ++ drop 68 (i.body n))
 
-pub is_rewritten : (w : Rewrite) (p : Parts) (these : List EventAt) (entries : List EntryAt) (out : List ℕ) → out ≡ assembled_by p (new_bytes w p these entries) (output_records w.metadata p these) → out ≡ rewritten w p these entries
+pub is_rewritten : (w : Rewrite) (p : Parts) (these : List EventAt) (entries : List EntryAt) (out : List ℕ) → out ≡ assembled_by p (new_bytes w p these entries) (output_records w.metadata p these)
+    → out ≡ rewritten w p these entries
 unfolding rewritten
 is_rewritten w p these entries out e = e
 

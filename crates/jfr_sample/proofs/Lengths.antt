@@ -77,7 +77,8 @@ parts-le : (part : ℕ → List ℕ) (most last : ℕ) → ((i : ℕ) → i ≤ 
 parts-le part most last each zero low = omega arith
 parts-le part most last each (suc n) low =
     let before = parts-le part most last each n (omega arith) in
-    let all : flat_map part (range_with_len 1 (suc n)) ≡ flat_map part (range_with_len 1 n) ++ part (n + 1) = ap (λ (k : ℕ). flat_map part (range_with_len 1 k)) (sym (add-one n)) ∙ parts_more part n in
+    let all : flat_map part (range_with_len 1 (suc n)) ≡ flat_map part (range_with_len 1 n) ++ part (n + 1) =
+    ap (λ (k : ℕ). flat_map part (range_with_len 1 k)) (sym (add-one n)) ∙ parts_more part n in
     let sum : most * suc n ≡ most * n + most = mul-suc most n in
     omega (arith, ap length all, join-le (flat_map part (range_with_len 1 n)) (part (n + 1)) (most * n) most before (each (n + 1) (omega arith)), sum)
 

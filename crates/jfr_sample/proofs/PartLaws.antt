@@ -23,7 +23,8 @@ unfolding draw
 draw_more seed n = ap (draw seed) (add-one n)
 
 -- One part more, after others.
-pub parts_next : (part : ℕ → List ℕ) (n : ℕ) (start before added : List ℕ) → before ≡ start ++ flat_map part (range_with_len 1 n) → added ≡ part (n + 1) → before ++ added ≡ start ++ flat_map part (range_with_len 1 (n + 1))
+pub parts_next : (part : ℕ → List ℕ) (n : ℕ) (start before added : List ℕ) → before ≡ start ++ flat_map part (range_with_len 1 n) → added ≡ part (n + 1)
+    → before ++ added ≡ start ++ flat_map part (range_with_len 1 (n + 1))
 parts_next part n start before added so_far is =
     ap (λ (l : List ℕ). l ++ added) so_far
     ∙ append_assoc start (flat_map part (range_with_len 1 n)) added

@@ -16,7 +16,8 @@ chunks_same : (g : Given) (c d : List ℕ) → Whole c → Whole d → ChunksAgr
 unfolding scrubbed
 chunks_same g c d w v s =
     ap (scrubbed_by g) (parts_read g c d w s)
-    ∙ (same_scrub (new_metadata (describes g) s.parts (kept_of g s.parts)) (new_metadata (describes g) s.others (kept_of g s.others)) s.parts s.others (kept_of g s.parts) (kept_of g s.others) s.valid s.others_valid
+    ∙ (same_scrub (new_metadata (describes g) s.parts (kept_of g s.parts)) (new_metadata (describes g) s.others (kept_of g s.others)) s.parts s.others (kept_of g s.parts)
+    (kept_of g s.others) s.valid s.others_valid
     (chosen_events s.parts (chosen g s.parts)) (chosen_events s.others (chosen g s.others)) s.same
     ∙ sym (ap (scrubbed_by g) (others_read g c d v s)))
 

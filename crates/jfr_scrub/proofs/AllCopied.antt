@@ -81,11 +81,13 @@ or_first b d e = ap (λ z. z || d) e
 
 module _ (new : Option (List ℕ)) (p : Parts) (a : AreParts p) (ps : List Range) where
   -- Of what stays whole.
-  whole_copied : (kept : List EventAt) (remaining : List EntryAt) (r : Framed) → AllByRecursion (OutputRecordIsCopied remaining ps) (output_records new p kept) → In p.records r → link_there p r ≡ None → is_kept_or_metadata p kept r ≡ true → written_anew new p r ≡ None → RecordIsCopied ps r
+  whole_copied : (kept : List EventAt) (remaining : List EntryAt) (r : Framed) → AllByRecursion (OutputRecordIsCopied remaining ps) (output_records new p kept) → In p.records r → link_there p r ≡ None
+      → is_kept_or_metadata p kept r ≡ true → written_anew new p r ≡ None → RecordIsCopied ps r
   whole_copied kept remaining r c i l w n =
       all_in (OutputRecordIsCopied remaining ps) (output_records new p kept) (Whole r) c (in_given (output_record_of new p kept) p.records r (Whole r) i (λ j. output_record_by (l j) (w j) (n j) r))
 
-  event_copied : (flags : List Bool) (remaining : List EntryAt) → AllByRecursion (OutputRecordIsCopied remaining ps) (output_records new p (kept_by p flags)) → (e : EventAt) → In (kept_by p flags) e → EventIsCopied ps e
+  event_copied : (flags : List Bool) (remaining : List EntryAt) → AllByRecursion (OutputRecordIsCopied remaining ps) (output_records new p (kept_by p flags)) → (e : EventAt) → In (kept_by p flags) e
+      → EventIsCopied ps e
   unfolding events_of
   event_copied flags remaining c e i =
       let there = in_filter_map (event_in p) p.records e (subst (λ z. In z e) (events_given p p.records) (in_marked flags (events_of p) e i)) in
@@ -99,10 +101,12 @@ module _ (new : Option (List ℕ)) (p : Parts) (a : AreParts p) (ps : List Range
       (whole_copied (kept_by p flags) remaining r c there.1 alone.1 (or_first (list_any (λ x. x.record_of.at == r.at) (kept_by p flags)) (r.at == metadata_at p.bytes) chosen)
       (ap (λ t. if t then new else None) alone.0))
 
-  pub events_are_copied : (flags : List Bool) (remaining : List EntryAt) → AllByRecursion (OutputRecordIsCopied remaining ps) (output_records new p (kept_by p flags)) → AllByRecursion (EventIsCopied ps) (kept_by p flags)
+  pub events_are_copied : (flags : List Bool) (remaining : List EntryAt) → AllByRecursion (OutputRecordIsCopied remaining ps) (output_records new p (kept_by p flags))
+      → AllByRecursion (EventIsCopied ps) (kept_by p flags)
   events_are_copied flags remaining c = all_from (EventIsCopied ps) (kept_by p flags) (event_copied flags remaining c)
 
-  entry_copied : (kept : List EventAt) → AllByRecursion (OutputRecordIsCopied (remain p kept) ps) (output_records new p kept) → (e : EntryAt) → In (remain p kept) e → In p.entries e → EntryIsCopied ps e
+  entry_copied : (kept : List EventAt) → AllByRecursion (OutputRecordIsCopied (remain p kept) ps) (output_records new p kept) → (e : EntryAt) → In (remain p kept) e → In p.entries e
+      → EntryIsCopied ps e
   entry_copied kept c e i j =
       let remaining = remain p kept in
       let link = entry_link p.bytes p.classes 0 (reverse p.chain) p.entries e a.entries j in

@@ -39,12 +39,15 @@ pub record Going (p : Parts) (remaining : List EntryAt) (all ss : List OutputRec
   pub before : IsBefore b.newest b.at
   pub within : 68 + length (flat_map (written_bytes p.bytes remaining) (written p.bytes remaining 68 None all)) ≤ length p.bytes
 
-pub going_none : (p : Parts) (remaining : List EntryAt) (all : List OutputRecord) (b : Progress) → b ≡ record { output = record { chunk = p.bytes; bytes = [] }; at = 68; newest = None; metadata = None } →
-    AllByRecursion (WrittenFits p.bytes remaining) (written p.bytes remaining 68 None all) → 68 + length (flat_map (written_bytes p.bytes remaining) (written p.bytes remaining 68 None all)) ≤ length p.bytes → Going p remaining all all b
+pub going_none : (p : Parts) (remaining : List EntryAt) (all : List OutputRecord) (b : Progress)
+    → b ≡ record { output = record { chunk = p.bytes; bytes = [] }; at = 68; newest = None; metadata = None } →
+    AllByRecursion (WrittenFits p.bytes remaining) (written p.bytes remaining 68 None all) → 68 + length
+    (flat_map (written_bytes p.bytes remaining) (written p.bytes remaining 68 None all)) ≤ length p.bytes → Going p remaining all all b
 going_none p remaining all b e f w = subst (Going p remaining all all) (sym e) (record { chunk = refl; output = refl; at = refl; newest = refl; metadata = refl; fits = f; before = tt; within = w })
 
 -- What is left is no longer than all.
-pub going_room : (p : Parts) (remaining : List EntryAt) (all ss : List OutputRecord) (s : OutputRecord) (b : Progress) → Going p remaining all (s ∷ ss) b → b.at + length (bytes_of p.bytes remaining s b.at b.newest) ≤ length p.bytes
+pub going_room : (p : Parts) (remaining : List EntryAt) (all ss : List OutputRecord) (s : OutputRecord) (b : Progress) → Going p remaining all (s ∷ ss) b
+    → b.at + length (bytes_of p.bytes remaining s b.at b.newest) ≤ length p.bytes
 going_room p remaining all ss s b g =
     let x = bytes_of p.bytes remaining s b.at b.newest in
     let y = flat_map (written_bytes p.bytes remaining) (written p.bytes remaining (b.at + length x) (newest_after s b.at b.newest) ss) in
@@ -55,15 +58,34 @@ going_room p remaining all ss s b g =
     let a : b.at ≡ 68 + length b.output.bytes = g.at in
     omega arith
 
-pub going_next : (p : Parts) (remaining : List EntryAt) (all ss : List OutputRecord) (s : OutputRecord) (b next : Progress) (m : ℕ) → Going p remaining all (s ∷ ss) b → m ≡ metadata_at p.bytes → next ≡ body_with remaining m b s → 1 ≤ length (bytes_of p.bytes remaining s b.at b.newest) → Going p remaining all ss next
+pub going_next : (p : Parts) (remaining : List EntryAt) (all ss : List OutputRecord) (s : OutputRecord) (b next : Progress) (m : ℕ) → Going p remaining all (s ∷ ss) b → m ≡ metadata_at p.bytes
+    → next ≡ body_with remaining m b s → 1 ≤ length (bytes_of p.bytes remaining s b.at b.newest) → Going p remaining all ss next
 going_next p remaining all ss s b next m g e n k =
     let c = g.chunk in
-    let same : next ≡ record { output = more b.output (bytes_of p.bytes remaining s b.at b.newest); at = b.at + length (bytes_of p.bytes remaining s b.at b.newest); newest = newest_after s b.at b.newest; metadata = offset_so_far b.metadata ((record_of s).at == metadata_at p.bytes) b.at } =
-    n ∙ (λ i. record { output = more b.output (bytes_of (c i) remaining s b.at b.newest); at = b.at + length (bytes_of (c i) remaining s b.at b.newest); newest = newest_after s b.at b.newest; metadata = offset_so_far b.metadata ((record_of s).at == e i) b.at }) in
+    let same : next ≡ record {
+      output = more b.output (bytes_of p.bytes remaining s b.at b.newest);
+      at = b.at + length
+          (bytes_of p.bytes remaining s b.at b.newest);
+      newest = newest_after s b.at b.newest;
+      metadata = offset_so_far b.metadata ((record_of s).at == metadata_at p.bytes) b.at;
+    } =
+    n ∙ (λ i. record {
+      output = more b.output (bytes_of (c i) remaining s b.at b.newest);
+      at = b.at + length
+          (bytes_of (c i) remaining s b.at b.newest);
+      newest = newest_after s b.at b.newest;
+      metadata = offset_so_far b.metadata ((record_of s).at == e i) b.at;
+    }) in
     subst (Going p remaining all ss) (sym same) (going k)
   where
     going : 1 ≤ length (bytes_of p.bytes remaining s b.at b.newest) →
-        Going p remaining all ss (record { output = more b.output (bytes_of p.bytes remaining s b.at b.newest); at = b.at + length (bytes_of p.bytes remaining s b.at b.newest); newest = newest_after s b.at b.newest; metadata = offset_so_far b.metadata ((record_of s).at == metadata_at p.bytes) b.at })
+        Going p remaining all ss (record {
+          output = more b.output (bytes_of p.bytes remaining s b.at b.newest);
+          at = b.at + length
+              (bytes_of p.bytes remaining s b.at b.newest);
+          newest = newest_after s b.at b.newest;
+          metadata = offset_so_far b.metadata ((record_of s).at == metadata_at p.bytes) b.at;
+        })
     going k =
         let x = bytes_of p.bytes remaining s b.at b.newest in
         let y = flat_map (written_bytes p.bytes remaining) (written p.bytes remaining (b.at + length x) (newest_after s b.at b.newest) ss) in
@@ -87,7 +109,8 @@ going_all p remaining all ss b g e = done (subst (λ z. Going p remaining all z 
   where
     done : Going p remaining all [] b → HasAllRecords p remaining all b
     done g =
-        let o : b.output ≡ record { chunk = p.bytes; bytes = flat_map (written_bytes p.bytes remaining) (written p.bytes remaining 68 None all) } = (λ i. record { chunk = b.output.chunk; bytes = sym (append-nil b.output.bytes) i }) ∙ g.output in
+        let o : b.output ≡ record { chunk = p.bytes; bytes = flat_map (written_bytes p.bytes remaining) (written p.bytes remaining 68 None all) } =
+        (λ i. record { chunk = b.output.chunk; bytes = sym (append-nil b.output.bytes) i }) ∙ g.output in
         let l : length b.output.bytes ≡ length (flat_map (written_bytes p.bytes remaining) (written p.bytes remaining 68 None all)) = ap (λ (z : OutputSoFar). length z.bytes) o in
         let a : b.at ≡ 68 + length b.output.bytes = g.at in
         let w : 68 + length (flat_map (written_bytes p.bytes remaining) (written p.bytes remaining 68 None all)) ≤ length p.bytes = g.within in
@@ -100,7 +123,8 @@ going_all p remaining all ss b g e = done (subst (λ z. Going p remaining all z 
         }
 
 -- The header before the body is what the chunk becomes.
-pub laid_all : (new : Option (List ℕ)) (p : Parts) (kept : List EventAt) (remaining : List EntryAt) (b : Progress) (h : Header) (front joined : List ℕ) → remaining ≡ remain p kept → HasAllRecords p remaining (output_records new p kept) b → h ≡ header_of (take 68 p.bytes) →
+pub laid_all : (new : Option (List ℕ)) (p : Parts) (kept : List EventAt) (remaining : List EntryAt) (b : Progress) (h : Header) (front joined : List ℕ) → remaining ≡ remain p kept
+    → HasAllRecords p remaining (output_records new p kept) b → h ≡ header_of (take 68 p.bytes) →
     front ≡ header_bytes (record h { size = b.at; pools = unwrap_or b.newest 0; metadata = unwrap_or b.metadata 0 }) → joined ≡ front ++ b.output.bytes → joined ≡ scrub_with new p kept
 unfolding scrub_with
 laid_all new p kept remaining b h front joined l i e f j =

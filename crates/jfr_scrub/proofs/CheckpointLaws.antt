@@ -95,7 +95,8 @@ flat_map_suc f [] i d h = absurd (omega arith)
 flat_map_suc f (e ∷ es) zero d h = append-nil (f e)
 flat_map_suc f (e ∷ es) (suc i) d h = ap (λ z. f e ++ z) (flat_map_suc f es i d (omega arith)) ∙ sym (append_assoc (f e) (flat_map f (take i es)) (f (get_or es i d)))
 
-pub entry_laid : (o now next : OutputSoFar) (es : List EntryAt) (i : ℕ) (d : EntryAt) → i < length es → now ≡ more o (flat_map (entry_bytes o.chunk) (take i es)) → next ≡ more now (entry_bytes now.chunk (get_or es i d)) →
+pub entry_laid : (o now next : OutputSoFar) (es : List EntryAt) (i : ℕ) (d : EntryAt) → i < length es → now ≡ more o (flat_map (entry_bytes o.chunk) (take i es))
+    → next ≡ more now (entry_bytes now.chunk (get_or es i d)) →
     next ≡ more o (flat_map (entry_bytes o.chunk) (take (i + 1) es))
 entry_laid o now next es i d h l n =
     let f = entry_bytes o.chunk in
@@ -106,7 +107,8 @@ regrouped : (o s a t m d k n g : List ℕ) → a ≡ t ++ m → (((((o ++ s) ++ 
 regrouped o s a t m d k n g e = rw e (simp append_assoc)
 
 -- Parts one after another, of the chunk that doesn't change.
-pub laid_parts : (o a b d e f g : OutputSoFar) (s v n : List ℕ) (p q t u : ℕ) (h : List ℕ → List ℕ) → a ≡ more o s → b ≡ more a (slice_range a.chunk p q) → d ≡ more b v → e ≡ more d (slice_range d.chunk t u) → f ≡ more e n → g ≡ more f (h f.chunk) →
+pub laid_parts : (o a b d e f g : OutputSoFar) (s v n : List ℕ) (p q t u : ℕ) (h : List ℕ → List ℕ) → a ≡ more o s → b ≡ more a (slice_range a.chunk p q) → d ≡ more b v
+    → e ≡ more d (slice_range d.chunk t u) → f ≡ more e n → g ≡ more f (h f.chunk) →
     g ≡ more (more (more (more (more (more o s) (slice_range o.chunk p q)) v) (slice_range o.chunk t u)) n) (h o.chunk)
 laid_parts o a b d e f g s v n p q t u h i j k l m w =
     let b' : b ≡ more (more o s) (slice_range o.chunk p q) = j ∙ ap (λ (z : OutputSoFar). more z (slice_range z.chunk p q)) i in
@@ -116,14 +118,17 @@ laid_parts o a b d e f g s v n p q t u h i j k l m w =
     w ∙ ap (λ (z : OutputSoFar). more z (h z.chunk)) f'
 
 -- The parts of a checkpoint.
-pub laid_checkpoint : (o : OutputSoFar) (l : Link) (delta size : ℕ) (gs : List Group) → LinkFits o.chunk l delta gs → size ≡ (l.frame.type_at - l.frame.at) + length (checkpoint_tail o.chunk l delta gs) →
-    more (more (more (more (more (more o (spell_in (l.frame.type_at - l.frame.at) size)) (slice_range o.chunk l.frame.type_at l.delta_at)) (spell delta)) (slice_range o.chunk l.delta_end (l.delta_end + 1))) (spell (length gs))) (flat_map (group_bytes o.chunk) gs)
+pub laid_checkpoint : (o : OutputSoFar) (l : Link) (delta size : ℕ) (gs : List Group) → LinkFits o.chunk l delta gs
+    → size ≡ (l.frame.type_at - l.frame.at) + length (checkpoint_tail o.chunk l delta gs) →
+    more (more (more (more (more (more o (spell_in (l.frame.type_at - l.frame.at) size)) (slice_range o.chunk l.frame.type_at l.delta_at)) (spell delta))
+    (slice_range o.chunk l.delta_end (l.delta_end + 1))) (spell (length gs))) (flat_map (group_bytes o.chunk) gs)
     ≡ more o (checkpoint_bytes o.chunk l delta gs)
 laid_checkpoint o l delta size gs f e =
     let w = l.frame.type_at - l.frame.at in
     let a : slice_range o.chunk l.frame.type_at l.delta_at ≡ slice_range o.chunk l.frame.type_at l.frame.body ++ slice_range o.chunk l.frame.body l.delta_at =
     range_split o.chunk l.frame.type_at l.frame.body l.delta_at f.framed.type_spelled.order f.behind in
-    let b = regrouped o.bytes (spell_in w size) (slice_range o.chunk l.frame.type_at l.delta_at) (slice_range o.chunk l.frame.type_at l.frame.body) (slice_range o.chunk l.frame.body l.delta_at) (spell delta) (slice_range o.chunk l.delta_end (l.delta_end + 1)) (spell (length gs)) (flat_map (group_bytes o.chunk) gs) a in
+    let b = regrouped o.bytes (spell_in w size) (slice_range o.chunk l.frame.type_at l.delta_at) (slice_range o.chunk l.frame.type_at l.frame.body) (slice_range o.chunk l.frame.body l.delta_at)
+    (spell delta) (slice_range o.chunk l.delta_end (l.delta_end + 1)) (spell (length gs)) (flat_map (group_bytes o.chunk) gs) a in
     (λ i. record { chunk = o.chunk; bytes = b i }) ∙ ap (λ n. more o (spell_in w n ++ checkpoint_tail o.chunk l delta gs)) e
 
 -- The pools that are left to lay out.
@@ -144,7 +149,8 @@ group_laid o a b d x y f p q r =
     r ∙ ap (λ (z : OutputSoFar). more z (f z.chunk)) m
 
 pub laying_next : (o now next : OutputSoFar) (es rest : List EntryAt) (e : EntryAt) → LayingPools o now es rest → slice_get rest 0 ≡ Some e →
-    next ≡ more (more (more now (spell e.class)) (spell (length (take (leading e rest) rest)))) (flat_map (entry_bytes now.chunk) (take (leading e rest) rest)) → LayingPools o next es (drop (leading e rest) rest)
+    next ≡ more (more (more now (spell e.class)) (spell (length (take (leading e rest) rest)))) (flat_map (entry_bytes now.chunk) (take (leading e rest) rest)) → LayingPools o next es
+    (drop (leading e rest) rest)
 laying_next o now next es [] e m r n = cc
 laying_next o now next es (x ∷ behind) e m r n =
     let same : x ≡ e = cc in
@@ -155,7 +161,8 @@ laying_next o now next es (x ∷ behind) e m r n =
     subst (λ z. by_pool rest ≡ record { class = z.class; pool = z.pool; entries = take (leading z rest) rest } ∷ by_pool (drop (leading z rest) rest)) same (by_leading x behind) in
     let f = flat_map (group_bytes o.chunk) (by_pool others) in
     let g = spell e.class ++ (spell (length pool) ++ flat_map (entry_bytes o.chunk) pool) in
-    let u : next ≡ more (more (more now (spell e.class)) (spell (length pool))) (flat_map (entry_bytes o.chunk) pool) = n ∙ ap (λ z. more (more (more now (spell e.class)) (spell (length pool))) (flat_map (entry_bytes z) pool)) m.chunk in
+    let u : next ≡ more (more (more now (spell e.class)) (spell (length pool))) (flat_map (entry_bytes o.chunk) pool) =
+    n ∙ ap (λ z. more (more (more now (spell e.class)) (spell (length pool))) (flat_map (entry_bytes z) pool)) m.chunk in
     let v = one_group now.bytes (spell e.class) (spell (length pool)) (flat_map (entry_bytes o.chunk) pool) f in
     record {
       chunk = ap (λ (z : OutputSoFar). z.chunk) n ∙ m.chunk;
@@ -178,7 +185,8 @@ size_is c l delta gs bytes v w f a h b d e =
     omega arith
 
 -- And how long it is.
-pub checkpoint_length : (c : List ℕ) (l : Link) (delta : ℕ) (gs : List Group) → LinkFits c l delta gs → length (checkpoint_bytes c l delta gs) ≡ (l.frame.type_at - l.frame.at) + length (checkpoint_tail c l delta gs)
+pub checkpoint_length : (c : List ℕ) (l : Link) (delta : ℕ) (gs : List Group) → LinkFits c l delta gs
+    → length (checkpoint_bytes c l delta gs) ≡ (l.frame.type_at - l.frame.at) + length (checkpoint_tail c l delta gs)
 checkpoint_length c l delta gs f =
     let w = l.frame.type_at - l.frame.at in
     let n = w + length (checkpoint_tail c l delta gs) in
@@ -187,7 +195,8 @@ checkpoint_length c l delta gs f =
     omega arith
 
 -- What is made of the first pool, and of the others.
-pub pools_parts : (es others : List EntryAt) (e : EntryAt) (n : ℕ) → slice_get es 0 ≡ Some e → n ≡ leading e es → others ≡ drop n es → flat_map pool_parts (by_pool es) ≡ (PoolClass ∷ EntryCount ∷ []) ++ flat_map pool_parts (by_pool others)
+pub pools_parts : (es others : List EntryAt) (e : EntryAt) (n : ℕ) → slice_get es 0 ≡ Some e → n ≡ leading e es → others ≡ drop n es
+    → flat_map pool_parts (by_pool es) ≡ (PoolClass ∷ EntryCount ∷ []) ++ flat_map pool_parts (by_pool others)
 pools_parts [] others e n g l o = cc
 pools_parts (x ∷ es) others e n g l o =
     let same : x ≡ e = cc in

@@ -107,7 +107,11 @@ last_made : (ps : List Range) (from to : ℕ) → made_parts (ps ++ ranges.Copie
 last_made ps from to = made_append ps (ranges.Copied from to ∷ []) ∙ append-nil (made_parts ps)
 
 pub grows_longer : (ps : List Range) (from to end : ℕ) → to ≤ end → Grows (ps ++ ranges.Copied from to ∷ []) (ps ++ ranges.Copied from end ∷ []) []
-grows_longer ps from to end h = record { keeps = keeps_longer ps from to end h; made = last_made ps from end ∙ (sym (last_made ps from to) ∙ sym (append-nil (made_parts (ps ++ ranges.Copied from to ∷ [])))) }
+grows_longer ps from to end h = record {
+  keeps = keeps_longer ps from to end h;
+  made = last_made ps from end
+      ∙ (sym (last_made ps from to) ∙ sym (append-nil (made_parts (ps ++ ranges.Copied from to ∷ []))));
+}
 
 pub grows_settled : (ps qs : List Range) (from to : ℕ) → Grows ps qs [] → (from < to → IsCopied qs from to) → Grows (ps ++ ranges.Copied from to ∷ []) qs []
 grows_settled ps qs from to g h = record { keeps = keeps_settled ps qs from to g.keeps h; made = g.made ∙ ap (λ z. z ++ []) (sym (last_made ps from to)) }
@@ -129,7 +133,8 @@ pub making_all : (ps now : List Range) (rest all : List MadePart) → MakingPart
 making_all ps now rest all m e = subst (Grows ps now) (sym (append-nil m.done) ∙ (ap (λ z. m.done ++ z) (sym e) ∙ m.remaining)) m.grows
 
 -- Nothing is made of a run.
-pub run_parts : (remaining : List EntryAt) (rs : List Framed) (before rest : List OutputRecord) → before ≡ map (λ r. Whole r) rs ++ rest → flat_map (output_record_parts remaining) before ≡ flat_map (output_record_parts remaining) rest
+pub run_parts : (remaining : List EntryAt) (rs : List Framed) (before rest : List OutputRecord) → before ≡ map (λ r. Whole r) rs ++ rest
+    → flat_map (output_record_parts remaining) before ≡ flat_map (output_record_parts remaining) rest
 run_parts remaining rs before rest e = ap (flat_map (output_record_parts remaining)) e ∙ none rs
   where
     none : (rs : List Framed) → flat_map (output_record_parts remaining) (map (λ r. Whole r) rs ++ rest) ≡ flat_map (output_record_parts remaining) rest
@@ -137,14 +142,16 @@ run_parts remaining rs before rest e = ap (flat_map (output_record_parts remaini
     none (r ∷ rs) = none rs
 
 -- The parts made so far and those left are all, after a run and one more output record.
-pub parts_next : (remaining : List EntryAt) (now mid next : List Range) (rs : List Framed) (before rest ss : List OutputRecord) (s : OutputRecord) (all : List MadePart) → before ≡ map (λ r. Whole r) rs ++ rest → rest ≡ s ∷ ss → Grows now mid [] → Grows mid next (output_record_parts remaining s) →
+pub parts_next : (remaining : List EntryAt) (now mid next : List Range) (rs : List Framed) (before rest ss : List OutputRecord) (s : OutputRecord) (all : List MadePart)
+    → before ≡ map (λ r. Whole r) rs ++ rest → rest ≡ s ∷ ss → Grows now mid [] → Grows mid next (output_record_parts remaining s) →
     made_parts now ++ flat_map (output_record_parts remaining) before ≡ all → made_parts next ++ flat_map (output_record_parts remaining) ss ≡ all
 parts_next remaining now mid next rs before rest ss s all e q g h m =
     let f = flat_map (output_record_parts remaining) in
     ap (λ z. z ++ f ss) h.made ∙ (append_assoc (made_parts mid) (output_record_parts remaining s) (f ss)
     ∙ (ap (λ z. z ++ f (s ∷ ss)) (g.made ∙ append-nil (made_parts now)) ∙ (ap (λ z. made_parts now ++ z) (ap f (sym q) ∙ sym (run_parts remaining rs before rest e)) ∙ m)))
 
-pub parts_all : (remaining : List EntryAt) (now mid : List Range) (rs : List Framed) (before rest : List OutputRecord) (all : List MadePart) → before ≡ map (λ r. Whole r) rs ++ rest → rest ≡ [] → Grows now mid [] → made_parts now ++ flat_map (output_record_parts remaining) before ≡ all → made_parts mid ≡ all
+pub parts_all : (remaining : List EntryAt) (now mid : List Range) (rs : List Framed) (before rest : List OutputRecord) (all : List MadePart) → before ≡ map (λ r. Whole r) rs ++ rest → rest ≡ []
+    → Grows now mid [] → made_parts now ++ flat_map (output_record_parts remaining) before ≡ all → made_parts mid ≡ all
 parts_all remaining now mid rs before rest all e q g m =
     let f = flat_map (output_record_parts remaining) in
     g.made ∙ (ap (λ z. made_parts now ++ z) (sym (run_parts remaining rs before rest e ∙ ap f q)) ∙ m)
@@ -158,7 +165,8 @@ pub entries_kept : (ps qs : List Range) → Keeps ps qs → (n : ℕ) (es : List
 entries_kept ps qs k n [] a c = tt
 entries_kept ps qs k n (e ∷ es) a c = (k e.key_at e.end a.0.order c.0, entries_kept ps qs k n es a.1 c.1)
 
-output_record_kept : (ps qs : List Range) → Keeps ps qs → (b : List ℕ) (remaining : List EntryAt) → AllByRecursion (HasRange (length b)) remaining → (s : OutputRecord) (at : ℕ) (newest : Option ℕ) → OutputRecordFits b remaining s at newest → OutputRecordIsCopied remaining ps s → OutputRecordIsCopied remaining qs s
+output_record_kept : (ps qs : List Range) → Keeps ps qs → (b : List ℕ) (remaining : List EntryAt) → AllByRecursion (HasRange (length b)) remaining → (s : OutputRecord) (at : ℕ) (newest : Option ℕ)
+    → OutputRecordFits b remaining s at newest → OutputRecordIsCopied remaining ps s → OutputRecordIsCopied remaining qs s
 output_record_kept ps qs k b remaining a (Whole r) at newest f c = k r.at (record_end r) (some_bytes b r f) c
 output_record_kept ps qs k b remaining a (Rebuilt r x) at newest f c = tt
 output_record_kept ps qs k b remaining a (Chained number l) at newest f c =
@@ -182,32 +190,43 @@ none_left [] h = refl
 none_left (x ∷ rest) h = absurd (omega arith)
 
 -- Entries after the first of them.
-pub so_far_entries : (n i : ℕ) (now next : List Range) (rest all pool : List EntryAt) → SoFar EntryIsCopied now rest all → Keeps now next → pool ≡ take i rest → AllByRecursion (HasRange n) pool → AllByRecursion (EntryIsCopied next) pool → SoFar EntryIsCopied next (drop i rest) all
+pub so_far_entries : (n i : ℕ) (now next : List Range) (rest all pool : List EntryAt) → SoFar EntryIsCopied now rest all → Keeps now next → pool ≡ take i rest → AllByRecursion (HasRange n) pool
+    → AllByRecursion (EntryIsCopied next) pool → SoFar EntryIsCopied next (drop i rest) all
 so_far_entries n i now next rest all pool s k e r c = λ ps m d.
-    s ps (keeps_then now next ps k m) (subst (AllByRecursion (EntryIsCopied ps)) (ap (λ z. z ++ drop i rest) e ∙ take-append-drop i rest) (all_append (EntryIsCopied ps) pool (drop i rest) (entries_kept next ps m n pool r c) d))
+    s ps (keeps_then now next ps k m) (subst (AllByRecursion (EntryIsCopied ps)) (ap (λ z. z ++ drop i rest) e ∙ take-append-drop i rest)
+    (all_append (EntryIsCopied ps) pool (drop i rest) (entries_kept next ps m n pool r c) d))
 
 -- Entries after one.
-pub so_far_entry : (n i : ℕ) (now next : List Range) (es all : List EntryAt) (d : EntryAt) → i < length es → SoFar EntryIsCopied now (drop i es) all → Keeps now next → HasRange n (get_or es i d) → EntryIsCopied next (get_or es i d) → SoFar EntryIsCopied next (drop (i + 1) es) all
+pub so_far_entry : (n i : ℕ) (now next : List Range) (es all : List EntryAt) (d : EntryAt) → i < length es → SoFar EntryIsCopied now (drop i es) all → Keeps now next → HasRange n (get_or es i d)
+    → EntryIsCopied next (get_or es i d) → SoFar EntryIsCopied next (drop (i + 1) es) all
 so_far_entry n i now next es all d h s k r c =
     let e = get_or es i d in
     let g : drop i es ≡ e ∷ drop (i + 1) es = drop-cons es i d h ∙ ap (λ m. e ∷ drop m es) (sym (add-one i)) in
     λ ps m b. s ps (keeps_then now next ps k m) (subst (AllByRecursion (EntryIsCopied ps)) (sym g) (m e.key_at e.end r.order c, b))
 
 -- The output records after one.
-pub so_far_output_record : (b : List ℕ) (remaining : List EntryAt) (now next : List Range) (s : OutputRecord) (rest all : List OutputRecord) (at : ℕ) (newest : Option ℕ) → AllByRecursion (HasRange (length b)) remaining → OutputRecordFits b remaining s at newest → SoFar (OutputRecordIsCopied remaining) now (s ∷ rest) all → Keeps now next → OutputRecordIsCopied remaining next s →
+pub so_far_output_record : (b : List ℕ) (remaining : List EntryAt) (now next : List Range) (s : OutputRecord) (rest all : List OutputRecord) (at : ℕ) (newest : Option ℕ)
+    → AllByRecursion (HasRange (length b)) remaining → OutputRecordFits b remaining s at newest → SoFar (OutputRecordIsCopied remaining) now (s ∷ rest) all → Keeps now next
+    → OutputRecordIsCopied remaining next s →
     SoFar (OutputRecordIsCopied remaining) next rest all
 so_far_output_record b remaining now next s rest all at newest a f so k c = λ ps m d. so ps (keeps_then now next ps k m) (output_record_kept next ps m b remaining a s at newest f c, d)
 
 -- Records of a range that is copied.
-records_copied : (b : List ℕ) (remaining : List EntryAt) (now next : List Range) → Keeps now next → (p from to : ℕ) (rs : List Framed) → IsCopied now p to → p ≤ from → Tiles b from rs to → AllByRecursion (OutputRecordIsCopied remaining next) (map (λ r. Whole r) rs)
+records_copied : (b : List ℕ) (remaining : List EntryAt) (now next : List Range) → Keeps now next → (p from to : ℕ) (rs : List Framed) → IsCopied now p to → p ≤ from → Tiles b from rs to
+    → AllByRecursion (OutputRecordIsCopied remaining next) (map (λ r. Whole r) rs)
 records_copied b remaining now next k p from to [] c h t = tt
 records_copied b remaining now next k p from to (r ∷ rs) c h t =
     let l : r.at < record_end r = some_bytes b r t.1 in
-    let e : r.at ≡ from = t.0 in
-    (k r.at (record_end r) l (narrower now p to r.at (record_end r) c (omega arith) (tiles_order b (record_end r) to rs t.2)), records_copied b remaining now next k p (record_end r) to rs c (omega arith) t.2)
+    let e : r.at ≡ from = t.0 in (
+      k r.at (record_end r) l (narrower now p to r.at (record_end r) c (omega arith) (tiles_order b (record_end r) to rs t.2)),
+      records_copied b remaining now next k p (record_end r) to rs c
+          (omega arith) t.2,
+    )
 
 -- The output records after a run.
-pub so_far_run : (b : List ℕ) (remaining : List EntryAt) (now next : List Range) (before rest all : List OutputRecord) (rs : List Framed) (from to : ℕ) → before ≡ map (λ r. Whole r) rs ++ rest → Tiles b from rs to → SoFar (OutputRecordIsCopied remaining) now before all → Keeps now next → IsCopied next from to →
+pub so_far_run : (b : List ℕ) (remaining : List EntryAt) (now next : List Range) (before rest all : List OutputRecord) (rs : List Framed) (from to : ℕ) → before ≡ map (λ r. Whole r) rs ++ rest
+    → Tiles b from rs to → SoFar (OutputRecordIsCopied remaining) now before all → Keeps now next → IsCopied next from to →
     SoFar (OutputRecordIsCopied remaining) next rest all
 so_far_run b remaining now next before rest all rs from to e t so k c = λ ps m d.
-    so ps (keeps_then now next ps k m) (subst (AllByRecursion (OutputRecordIsCopied remaining ps)) (sym e) (all_append (OutputRecordIsCopied remaining ps) (map (λ r. Whole r) rs) rest (records_copied b remaining next ps m from from to rs c (omega arith) t) d))
+    so ps (keeps_then now next ps k m) (subst (AllByRecursion (OutputRecordIsCopied remaining ps)) (sym e)
+    (all_append (OutputRecordIsCopied remaining ps) (map (λ r. Whole r) rs) rest (records_copied b remaining next ps m from from to rs c (omega arith) t) d))

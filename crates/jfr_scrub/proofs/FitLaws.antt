@@ -43,14 +43,16 @@ module _ (c : List ℕ) (remaining : List EntryAt) (k : Classes) where
   delta_room l s at (Some o) d = let e : l.delta_end ≡ l.delta_at + 9 = d refl in let i = spell_most (distance at (Some o)) in omega arith
 
   -- A checkpoint that can be written fits.
-  link_fits : (i : ℕ) (l : Link) (at : ℕ) (newest : Option ℕ) → IsOutputRecordIn c remaining k (Chained i l) → (is_some newest ≡ true → l.delta_end ≡ l.delta_at + 9) → LinkFits c l (distance at newest) (groups_of remaining i)
+  link_fits : (i : ℕ) (l : Link) (at : ℕ) (newest : Option ℕ) → IsOutputRecordIn c remaining k (Chained i l) → (is_some newest ≡ true → l.delta_end ≡ l.delta_at + 9)
+      → LinkFits c l (distance at newest) (groups_of remaining i)
   link_fits i l at newest s d =
       let b : l.frame.body ≤ s.0.middle = s.0.start_spelled.order in
       let m : s.0.middle ≤ l.delta_at = s.0.duration_spelled.order in
       let t = tail_small c l (distance at newest) (groups_of remaining i) s.0 (delta_room l s.0 at newest d) s.2 in
       record { framed = s.0.record_stands; behind = omega arith; order = s.0.delta_spelled.order; kind = s.0.kind_within; room = omega arith }
 
-  all_written : (ss : List OutputRecord) (at : ℕ) (newest : Option ℕ) → AllByRecursion (IsOutputRecordIn c remaining k) ss → Deltas (is_some newest) ss → AllByRecursion (WrittenFits c remaining) (written c remaining at newest ss)
+  all_written : (ss : List OutputRecord) (at : ℕ) (newest : Option ℕ) → AllByRecursion (IsOutputRecordIn c remaining k) ss → Deltas (is_some newest) ss
+      → AllByRecursion (WrittenFits c remaining) (written c remaining at newest ss)
   all_written [] at newest a d = tt
   all_written (Whole r ∷ ss) at newest a d = (a.0, all_written ss (at + length (bytes_of c remaining (Whole r) at newest)) newest a.1 d)
   all_written (Rebuilt r x ∷ ss) at newest a d =
@@ -92,14 +94,16 @@ module _ (names : Names) (p : Parts) (a : AreParts p) (kept : List EventAt) wher
       omega arith
 
 module _ (c : List ℕ) (k : Classes) where
-  constants_range : (checkpoint number class at : ℕ) (xs : List Constant) (to : ℕ) (ys : List EntryAt) → AreConstants c k class at xs to → AllByRecursion (HasRange (length c)) ys → AllByRecursion (HasRange (length c)) (map (entry_of checkpoint number class) xs ++ ys)
+  constants_range : (checkpoint number class at : ℕ) (xs : List Constant) (to : ℕ) (ys : List EntryAt) → AreConstants c k class at xs to → AllByRecursion (HasRange (length c)) ys
+      → AllByRecursion (HasRange (length c)) (map (entry_of checkpoint number class) xs ++ ys)
   constants_range checkpoint number class at [] to ys s b = b
   constants_range checkpoint number class at (x ∷ xs) to ys s b =
       let i : x.key_at < x.value_at = int_some c x.key_at x.value_at x.key s.0.key in
       let j : x.value_at ≤ x.end = s.0.order in
       (record { order = omega arith; within = s.0.within }, constants_range checkpoint number class x.end xs to ys s.1 b)
 
-  pools_range : (checkpoint number at : ℕ) (ps : List PoolAt) (to : ℕ) (ys : List EntryAt) → ArePools c k at ps to → AllByRecursion (HasRange (length c)) ys → AllByRecursion (HasRange (length c)) (entries_from checkpoint number ps ++ ys)
+  pools_range : (checkpoint number at : ℕ) (ps : List PoolAt) (to : ℕ) (ys : List EntryAt) → ArePools c k at ps to → AllByRecursion (HasRange (length c)) ys
+      → AllByRecursion (HasRange (length c)) (entries_from checkpoint number ps ++ ys)
   pools_range checkpoint number at [] to ys s b = b
   pools_range checkpoint number at (p ∷ ps) to ys s b =
       subst (AllByRecursion (HasRange (length c))) (sym (append_assoc (map (entry_of checkpoint number p.class) p.constants) (entries_from checkpoint (number + 1) ps) ys))
@@ -122,4 +126,5 @@ module _ (p : Parts) (a : AreParts p) (kept : List EventAt) where
 
   pub left_ranges : AllByRecursion (HasRange (length p.bytes)) (remain p kept)
   unfolding remain
-  left_ranges = all_marked (HasRange (length p.bytes)) (reached_marks p kept) p.entries (entries_range p.bytes p.classes 0 (reverse p.chain) p.entries (ends_of 0 (reverse p.chain) (chained_checkpoints p a)) a.entries)
+  left_ranges = all_marked (HasRange (length p.bytes)) (reached_marks p kept) p.entries
+      (entries_range p.bytes p.classes 0 (reverse p.chain) p.entries (ends_of 0 (reverse p.chain) (chained_checkpoints p a)) a.entries)

@@ -28,7 +28,8 @@ rises_get place p (y ∷ xs) zero x a g = let h : y ≡ x = cc in subst (λ z. p
 rises_get place p (y ∷ xs) (suc k) x a g = let i : place y + 1 ≤ place x = rises_get place (place y + 1) xs k x a.1 g in let j : p ≤ place y = a.0 in omega arith
 
 -- What a function gives comes after the records with lower numbers.
-given_later : {X : Type 0} (place : X → ℕ) (f : Framed → Option X) → Stands place f → (p : ℕ) (rs : List Framed) (i k : ℕ) (r : Framed) (x : X) → Rising p rs → i < k → slice_get (filter_map f rs) k ≡ Some x → slice_get rs i ≡ Some r → r.at < place x
+given_later : {X : Type 0} (place : X → ℕ) (f : Framed → Option X) → Stands place f → (p : ℕ) (rs : List Framed) (i k : ℕ) (r : Framed) (x : X) → Rising p rs → i < k
+    → slice_get (filter_map f rs) k ≡ Some x → slice_get rs i ≡ Some r → r.at < place x
 given_later place f s p [] i k r x a l g h = cc
 given_later place f s p (q ∷ rs) i zero r x a l g h = absurd (omega (arith, l))
 given_later {X = X} place f s p (q ∷ rs) zero (suc k) r x a l g h = by_value (f q) g
@@ -42,14 +43,17 @@ given_later {X = X} place f s p (q ∷ rs) zero (suc k) r x a l g h = by_value (
     by_value : (o : Option X) → slice_get (cons_option o (filter_map f rs)) (suc k) ≡ Some x → r.at < place x
     by_value None g = past (suc k) g
     by_value (Some y) g = past k g
-given_later {X = X} place f s p (q ∷ rs) (suc i) (suc k) r x a l g h = by_value (f q) g (λ g. given_later place f s (q.at + 1) rs i (suc k) r x a.1 (omega (arith, l)) g h) (λ g. given_later place f s (q.at + 1) rs i k r x a.1 (omega (arith, l)) g h)
+given_later {X = X} place f s p (q ∷ rs) (suc i) (suc k) r x a l g h =
+    by_value (f q) g (λ g. given_later place f s (q.at + 1) rs i (suc k) r x a.1 (omega (arith, l)) g h) (λ g. given_later place f s (q.at + 1) rs i k r x a.1 (omega (arith, l)) g h)
   where
-    by_value : (o : Option X) → slice_get (cons_option o (filter_map f rs)) (suc k) ≡ Some x → (slice_get (filter_map f rs) (suc k) ≡ Some x → r.at < place x) → (slice_get (filter_map f rs) k ≡ Some x → r.at < place x) → r.at < place x
+    by_value : (o : Option X) → slice_get (cons_option o (filter_map f rs)) (suc k) ≡ Some x → (slice_get (filter_map f rs) (suc k) ≡ Some x → r.at < place x)
+        → (slice_get (filter_map f rs) k ≡ Some x → r.at < place x) → r.at < place x
     by_value None g u v = u g
     by_value (Some y) g u v = v g
 
 -- If one of them is at the record with its own number, the first record has one.
-given_first : {X : Type 0} (place : X → ℕ) (f : Framed → Option X) → Stands place f → (p : ℕ) (q : Framed) (rs : List Framed) (k : ℕ) (r : Framed) (x : X) → Rising p (q ∷ rs) → slice_get (filter_map f (q ∷ rs)) k ≡ Some x → slice_get (q ∷ rs) k ≡ Some r → place x ≡ r.at → (y : X) × (f q ≡ Some y)
+given_first : {X : Type 0} (place : X → ℕ) (f : Framed → Option X) → Stands place f → (p : ℕ) (q : Framed) (rs : List Framed) (k : ℕ) (r : Framed) (x : X) → Rising p (q ∷ rs)
+    → slice_get (filter_map f (q ∷ rs)) k ≡ Some x → slice_get (q ∷ rs) k ≡ Some r → place x ≡ r.at → (y : X) × (f q ≡ Some y)
 given_first {X = X} place f s p q rs k r x a g h e = by_value (f q) refl g
   where
     none_first : (k : ℕ) → slice_get (filter_map f rs) k ≡ Some x → slice_get (q ∷ rs) k ≡ Some r → ⊥
@@ -72,7 +76,8 @@ record Given {X : Type 0} (f : Framed → Option X) (rs : List Framed) (i : ℕ)
   given : f framed ≡ Some value
 
 -- And all records up to that one have theirs.
-given_each : {X : Type 0} (place : X → ℕ) (f : Framed → Option X) → Stands place f → (p : ℕ) (rs : List Framed) (k : ℕ) (r : Framed) (x : X) → Rising p rs → slice_get (filter_map f rs) k ≡ Some x → slice_get rs k ≡ Some r → place x ≡ r.at → (i : ℕ) → i ≤ k → Given f rs i
+given_each : {X : Type 0} (place : X → ℕ) (f : Framed → Option X) → Stands place f → (p : ℕ) (rs : List Framed) (k : ℕ) (r : Framed) (x : X) → Rising p rs → slice_get (filter_map f rs) k ≡ Some x
+    → slice_get rs k ≡ Some r → place x ≡ r.at → (i : ℕ) → i ≤ k → Given f rs i
 given_each place f s p [] k r x a g h e i l = cc
 given_each place f s p (q ∷ rs) k r x a g h e zero l =
     let y = given_first place f s p q rs k r x a g h e in
@@ -144,7 +149,9 @@ rising_one p (s ∷ rs) (suc i) zero r a e f = let h : s ≡ r = cc in absurd (b
 rising_one p (s ∷ rs) (suc i) (suc j) r a e f = ap suc (rising_one (s.at + 1) rs i j r a.1 e f)
 
 -- What is computed at an offset.
-pub tells_event : (p : Parts) (c : RecordCursor) (offset number : ℕ) → AreParts p → option_map (slice_get p.records) (Some number) ≡ option_map (λ (e : EventAt). Some e.record_of) (slice_get (events_of p) (c.event + offset)) → IsTrue (number == c.frame + offset) ↔ HasEventAt p c offset
+pub tells_event : (p : Parts) (c : RecordCursor) (offset number : ℕ) → AreParts p
+    → option_map (slice_get p.records) (Some number) ≡ option_map (λ (e : EventAt). Some e.record_of) (slice_get (events_of p) (c.event + offset))
+    → IsTrue (number == c.frame + offset) ↔ HasEventAt p c offset
 tells_event p c offset number a e = (by_true, by_event)
   where
     at_number : (x : EventAt) → slice_get (events_of p) (c.event + offset) ≡ Some x → slice_get p.records number ≡ Some x.record_of
@@ -162,7 +169,8 @@ tells_event p c offset number a e = (by_true, by_event)
 
     by_event : HasEventAt p c offset → IsTrue (number == c.frame + offset)
     by_event h =
-        let n : number ≡ c.frame + offset = rising_one 0 p.records number (c.frame + offset) h.event.record_of (rising_of p.bytes 0 68 (length p.bytes) p.records (omega arith) a.records) (at_number h.event h.there) h.framed in
+        let n : number ≡ c.frame + offset = rising_one 0 p.records number (c.frame + offset) h.event.record_of (rising_of p.bytes 0 68 (length p.bytes) p.records (omega arith) a.records)
+        (at_number h.event h.there) h.framed in
         grind (arith, nat_tests)
 
 pub tells_none : (p : Parts) (c : RecordCursor) (offset : ℕ) → None ≡ option_map (λ (e : EventAt). Some e.record_of) (slice_get (events_of p) (c.event + offset)) → IsTrue false ↔ HasEventAt p c offset
@@ -222,11 +230,13 @@ pub record InRun (p : Parts) (flags : List Bool) (c : RecordCursor) : Type 0 whe
 pub in_run : (p : Parts) (flags : List Bool) (c : RecordCursor) → IsCursor p flags c → is_in_run p flags c ≡ true → InRun p flags c
 in_run p flags c i h = by_record (slice_get p.records c.frame) refl h
   where
-    by_place : (r : Framed) → slice_get p.records c.frame ≡ Some r → (x : EventAt) → slice_get (events_of p) c.event ≡ Some x → (x.record_of.at == r.at) ≡ true → is_kept_at (events_of p) flags c.event r.at ≡ true → InRun p flags c
+    by_place : (r : Framed) → slice_get p.records c.frame ≡ Some r → (x : EventAt) → slice_get (events_of p) c.event ≡ Some x → (x.record_of.at == r.at) ≡ true
+        → is_kept_at (events_of p) flags c.event r.at ≡ true → InRun p flags c
     by_place r e x t q k =
         let d : drop c.frame p.records ≡ r ∷ drop (c.frame + 1) p.records = drop_at p.records c.frame r e in
         let up = rising_at 0 p.records c.frame r (rising_of p.bytes 0 68 (length p.bytes) p.records (omega arith) i.parts.records) e in
-        let l : x ∷ drop (c.event + 1) (events_of p) ≡ filter_map (event_in p) (r ∷ drop (c.frame + 1) p.records) = sym (drop_at (events_of p) c.event x t) ∙ (i.events ∙ (events_given p (drop c.frame p.records) ∙ ap (filter_map (event_in p)) d)) in
+        let l : x ∷ drop (c.event + 1) (events_of p) ≡ filter_map (event_in p) (r ∷ drop (c.frame + 1) p.records) =
+        sym (drop_at (events_of p) c.event x t) ∙ (i.events ∙ (events_given p (drop c.frame p.records) ∙ ap (filter_map (event_in p)) d)) in
         let g = at_head event_place (event_in p) (event_stands p) r (drop (c.frame + 1) p.records) x (drop (c.event + 1) (events_of p)) up.1 l (grind (arith, nat_tests, q)) in
         record {
           frame = r;
@@ -238,11 +248,13 @@ in_run p flags c i h = by_record (slice_get p.records c.frame) refl h
           behind = ap (λ o. option_map_or (λ e. if e.record_of.at == r.at then c.event + 1 else c.event) o c.event) t ∙ ap (λ b. if b then c.event + 1 else c.event) q;
         }
 
-    by_test : (r : Framed) → slice_get p.records c.frame ≡ Some r → (x : EventAt) → slice_get (events_of p) c.event ≡ Some x → (b : Bool) → (x.record_of.at == r.at) ≡ b → is_kept_at (events_of p) flags c.event r.at ≡ true → b && unwrap_or (slice_get flags c.event) false ≡ true → InRun p flags c
+    by_test : (r : Framed) → slice_get p.records c.frame ≡ Some r → (x : EventAt) → slice_get (events_of p) c.event ≡ Some x → (b : Bool) → (x.record_of.at == r.at) ≡ b
+        → is_kept_at (events_of p) flags c.event r.at ≡ true → b && unwrap_or (slice_get flags c.event) false ≡ true → InRun p flags c
     by_test r e x t true q k h = by_place r e x t q k
     by_test r e x t false q k h = cc
 
-    by_event : (r : Framed) → slice_get p.records c.frame ≡ Some r → is_kept_at (events_of p) flags c.event r.at ≡ true → (o : Option EventAt) → slice_get (events_of p) c.event ≡ o → option_map_or (λ e. (e.record_of.at == r.at) && unwrap_or (slice_get flags c.event) false) o false ≡ true → InRun p flags c
+    by_event : (r : Framed) → slice_get p.records c.frame ≡ Some r → is_kept_at (events_of p) flags c.event r.at ≡ true → (o : Option EventAt) → slice_get (events_of p) c.event ≡ o
+        → option_map_or (λ e. (e.record_of.at == r.at) && unwrap_or (slice_get flags c.event) false) o false ≡ true → InRun p flags c
     by_event r e k None t h = cc
     by_event r e k (Some x) t h = by_test r e x t (x.record_of.at == r.at) refl k h
 

@@ -29,8 +29,10 @@ is_scrub_of g = is_output_of refusal_of (scrubbed g) (IsScrubbed g) (is_scrubbed
 
 -- An answer that the plan ends with.
 pub headline : (g : Given) (input output : List ℕ) (e : Ending) (a b : State) → (e ≡ ending.Done → Ended (over (scrubbing g output) input) Fine (without_sink a) (without_sink b))
-    → ((r : Refusal) → e ≡ ending.Refused r → Ended (over (scrubbing g output) input) (Refused r) (without_sink a) (without_sink b)) → IsByPlan e → IfKnown a.contents b.contents (Scrubs g input output)
-headline g input output = made_by_plan refusal_of (scrubbed g) input output (Scrubs g input output) (has_output refusal_of (scrubbed g) (IsScrubbed g) (is_scrubbed g) (recording_chunks g) input output)
+    → ((r : Refusal) → e ≡ ending.Refused r → Ended (over (scrubbing g output) input) (Refused r) (without_sink a) (without_sink b)) → IsByPlan e
+    → IfKnown a.contents b.contents (Scrubs g input output)
+headline g input output = made_by_plan refusal_of (scrubbed g) input output (Scrubs g input output)
+    (has_output refusal_of (scrubbed g) (IsScrubbed g) (is_scrubbed g) (recording_chunks g) input output)
 
 -- What a chunk is read as is scrubbed.
 pub made_of : (g : Given) (c b : List ℕ) (p : Parts) → read_parts c ≡ Ok p → b ≡ scrub_of (describes g) p (kept_of g p) → (refusal_of c ≡ None) × (b ≡ scrubbed g c)

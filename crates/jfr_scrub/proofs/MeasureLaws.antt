@@ -18,7 +18,8 @@ pub record Adding (es : List EntryAt) (i len : ℕ) : Type 0 where
 pub adding_none : (es : List EntryAt) → Adding es 0 0
 adding_none es = record { sum = ap capped (omega arith); fits = omega arith }
 
-pub adding_next : (es : List EntryAt) (i len next : ℕ) (d : EntryAt) → i < length es → Adding es i len → next ≡ min (len + ((get_or es i d).end - (get_or es i d).key_at)) 18446744073709551615 → Adding es (i + 1) next
+pub adding_next : (es : List EntryAt) (i len next : ℕ) (d : EntryAt) → i < length es → Adding es i len → next ≡ min (len + ((get_or es i d).end - (get_or es i d).key_at)) 18446744073709551615
+    → Adding es (i + 1) next
 adding_next es i len next d h l s =
     let z : entries_size (drop i es) ≡ ((get_or es i d).end - (get_or es i d).key_at) + entries_size (drop (i + 1) es) = ap entries_size (drop_get es i d h) in
     let k = l.sum in

@@ -44,7 +44,8 @@ are_later (c ∷ cs) flaw rest s t f h k a =
     record { flaw = later.flaw; chunks = (sym (same_front rest s t f (omega (arith, n)) (omega (arith, h, k, n)) (omega (arith, k, n))) ∙ a.0, later.chunks) }
 
 -- The chunks of the first part, then those of the second, are the chunks of both.
-of_both : (cs ds : List (List ℕ)) (flaw : Option Flaw) (x y : List ℕ) (s : ℕ) (f : Bool) → s + length x ≤ 2 ^ 40 → AreCut cs None x s f → AreCut ds flaw y (s + length x) false → AreCut (cs ++ ds) flaw (x ++ y) s f
+of_both : (cs ds : List (List ℕ)) (flaw : Option Flaw) (x y : List ℕ) (s : ℕ) (f : Bool) → s + length x ≤ 2 ^ 40 → AreCut cs None x s f → AreCut ds flaw y (s + length x) false
+    → AreCut (cs ++ ds) flaw (x ++ y) s f
 of_both [] ds flaw [] y s true h a b = let e : Bad (flaw_at 0 NoChunk) ≡ End = sym (front_none s) ∙ a in cc
 of_both [] ds flaw [] y s false h a b = subst (λ (n : ℕ). AreCut ds flaw y n false) (omega arith) b
 of_both [] ds flaw (z ∷ x) y s f h a b = let e : z ∷ x ≡ [] = subst (Begins (z ∷ x)) a (front_begins (z ∷ x) s f) in cc
@@ -94,7 +95,8 @@ two_parts g x y a h =
     ∙ joined_append (map (scrubbed g) (before_refused refusal_of cs)) (map (scrubbed g) (before_refused refusal_of ds))
 
 -- The scrub of parts, one after another, is the scrubs of the parts.
-pub all_parts : (g : Given) (parts : List (List ℕ)) → AllButLast (AllAccepted refusal_of) parts → length (joined parts) ≤ 2 ^ 40 → recording_scrubbed g (joined parts) ≡ joined (map (recording_scrubbed g) parts)
+pub all_parts : (g : Given) (parts : List (List ℕ)) → AllButLast (AllAccepted refusal_of) parts → length (joined parts) ≤ 2 ^ 40
+    → recording_scrubbed g (joined parts) ≡ joined (map (recording_scrubbed g) parts)
 unfolding front
 all_parts g [] a h = ap (λ (k : Cuts). joined (map (scrubbed g) (before_refused refusal_of k.chunks))) (cut_bad [] 0 true (flaw_at 0 NoChunk) refl)
 all_parts g (x ∷ []) a h = ap (recording_scrubbed g) (append-nil x) ∙ sym (append-nil (recording_scrubbed g x))

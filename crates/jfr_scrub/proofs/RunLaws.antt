@@ -60,7 +60,8 @@ unlinked ls n at e = by_link (slice_get ls n) e
     by_link (Some l) e = by_test l (l.frame.at == at) e
 
 -- An event is neither the metadata record nor a chained checkpoint.
-pub event_alone : (p : Parts) (a : AreParts p) (n : ℕ) (r : Framed) → slice_get p.records n ≡ Some r → is_event_class p.classes r.type_id ≡ true → ((r.at == metadata_at p.bytes) ≡ false) × (link_there p r ≡ None)
+pub event_alone : (p : Parts) (a : AreParts p) (n : ℕ) (r : Framed) → slice_get p.records n ≡ Some r → is_event_class p.classes r.type_id ≡ true
+    → ((r.at == metadata_at p.bytes) ≡ false) × (link_there p r ≡ None)
 event_alone p a n r e t = (by_test (r.at == metadata_at p.bytes) q.on_metadata, by_link (link_there p r) q.on_chained)
   where
     q : IsQuiet p a p.classes r
@@ -84,7 +85,8 @@ at_run p flags c i h =
     let w = event_alone p i.parts c.frame x.frame x.framed ((event_recorded p x.frame x.event x.given).1) in
     let l : link_after (reverse p.chain) c.link x.frame.at ≡ c.link = unlinked (reverse p.chain) c.link x.frame.at (u.2 ∙ w.1) in
     let n : (new : Option (List ℕ)) → written_anew new p x.frame ≡ None = λ new. ap (λ t. if t then new else None) w.0 in
-    let s : (new : Option (List ℕ)) → output_record_of new p (kept_by p flags) x.frame ≡ Some (Whole x.frame) = λ new j. output_record_by (w.1 j) ((sym u.1 ∙ x.keep) j || (x.frame.at == metadata_at p.bytes)) (n new j) x.frame in
+    let s : (new : Option (List ℕ)) → output_record_of new p (kept_by p flags) x.frame ≡ Some (Whole x.frame) =
+    λ new j. output_record_by (w.1 j) ((sym u.1 ∙ x.keep) j || (x.frame.at == metadata_at p.bytes)) (n new j) x.frame in
     record {
       frame = x.frame;
       there = x.framed;
@@ -96,14 +98,17 @@ at_run p flags c i h =
     }
 
 -- What is computed of a record's place.
-pub tells_run : (p : Parts) (flags : List Bool) (c : RecordCursor) (frames : List Framed) (here : Option ℕ) → frames ≡ p.records → here ≡ option_map (λ r. r.at) (slice_get frames c.frame) → option_map_or (is_kept_at (events_of p) flags c.event) here false ≡ is_in_run p flags c
-tells_run p flags c frames here f e = ap (λ o. option_map_or (is_kept_at (events_of p) flags c.event) o false) (e ∙ ap (λ rs. option_map (λ r. r.at) (slice_get rs c.frame)) f) ∙ by_record (slice_get p.records c.frame)
+pub tells_run : (p : Parts) (flags : List Bool) (c : RecordCursor) (frames : List Framed) (here : Option ℕ) → frames ≡ p.records → here ≡ option_map (λ r. r.at) (slice_get frames c.frame)
+    → option_map_or (is_kept_at (events_of p) flags c.event) here false ≡ is_in_run p flags c
+tells_run p flags c frames here f e = ap (λ o. option_map_or (is_kept_at (events_of p) flags c.event) o false) (e ∙ ap (λ rs. option_map (λ r. r.at) (slice_get rs c.frame)) f)
+    ∙ by_record (slice_get p.records c.frame)
   where
     by_record : (o : Option Framed) → option_map_or (is_kept_at (events_of p) flags c.event) (option_map (λ r. r.at) o) false ≡ option_map_or (λ r. is_kept_at (events_of p) flags c.event r.at) o false
     by_record None = refl
     by_record (Some r) = refl
 
-pub starts_there : (p : Parts) (frames : List Framed) (bytes : List ℕ) (n : ℕ) (here : Option ℕ) (at : ℕ) → frames ≡ p.records → bytes ≡ p.bytes → here ≡ option_map (λ r. r.at) (slice_get frames n) → at ≡ unwrap_or here (length bytes) → at ≡ record_start p n
+pub starts_there : (p : Parts) (frames : List Framed) (bytes : List ℕ) (n : ℕ) (here : Option ℕ) (at : ℕ) → frames ≡ p.records → bytes ≡ p.bytes → here ≡ option_map (λ r. r.at) (slice_get frames n)
+    → at ≡ unwrap_or here (length bytes) → at ≡ record_start p n
 starts_there p frames bytes n here at f b h a = a ∙ ((λ i. unwrap_or ((h ∙ ap (λ rs. option_map (λ r. r.at) (slice_get rs n)) f) i) (length (b i))) ∙ by_record (slice_get p.records n))
   where
     by_record : (o : Option Framed) → unwrap_or (option_map (λ r. r.at) o) (length p.bytes) ≡ option_map_or (λ r. r.at) o (length p.bytes)
@@ -111,7 +116,8 @@ starts_there p frames bytes n here at f b h a = a ∙ ((λ i. unwrap_or ((h ∙ 
     by_record (Some r) = refl
 
 -- A record among those that cover a range, and the offset of the next one.
-start_next : (c : List ℕ) (p q : ℕ) (rs : List Framed) (n : ℕ) (r : Framed) → Tiles c p rs q → slice_get rs n ≡ Some r → IsRecord c r × (option_map_or (λ s. s.at) (slice_get rs (suc n)) q ≡ record_end r)
+start_next : (c : List ℕ) (p q : ℕ) (rs : List Framed) (n : ℕ) (r : Framed) → Tiles c p rs q → slice_get rs n ≡ Some r
+    → IsRecord c r × (option_map_or (λ s. s.at) (slice_get rs (suc n)) q ≡ record_end r)
 start_next c p q [] n r t e = cc
 start_next c p q (x ∷ rs) zero r t e = let h : x ≡ r = cc in subst (λ z. IsRecord c z × (option_map_or (λ s. s.at) (slice_get rs 0) q ≡ record_end z)) h (t.1, first (record_end x) rs t.2)
   where
@@ -134,7 +140,8 @@ more_output_records : (rs : List Framed) (r : Framed) (ss : List OutputRecord) �
 more_output_records [] r ss = refl
 more_output_records (x ∷ rs) r ss = ap (λ z. Whole x ∷ z) (more_output_records rs r ss)
 
-pub run_next : (p : Parts) (flags : List Bool) (c d : RecordCursor) (from : ℕ) → IsRun p flags c d from (record_start p d.frame) → AtRun p flags d → IsRun p flags c (next_event d) from (record_start p (d.frame + 1))
+pub run_next : (p : Parts) (flags : List Bool) (c d : RecordCursor) (from : ℕ) → IsRun p flags c d from (record_start p d.frame) → AtRun p flags d
+    → IsRun p flags c (next_event d) from (record_start p (d.frame + 1))
 run_next p flags c d from u a =
     let s = start_next p.bytes 68 (length p.bytes) p.records d.frame a.frame a.cursor.parts.records a.there in
     let e : record_start p (d.frame + 1) ≡ record_end a.frame = ap (record_start p) (add-one d.frame) ∙ s.1 in
@@ -144,7 +151,8 @@ run_next p flags c d from u a =
       tiles = subst (Tiles p.bytes from (u.records ++ a.frame ∷ [])) (sym e) (tiles_more p.bytes from (record_start p d.frame) u.records a.frame u.tiles (sym f) s.0);
       within = start_within p a.cursor.parts (d.frame + 1);
       others = all_append (λ r. (r.at == metadata_at p.bytes) ≡ false) u.records (a.frame ∷ []) u.others (a.other, tt);
-      output_records = λ new. u.output_records new ∙ (ap (λ ss. map (λ r. Whole r) u.records ++ ss) (a.output_records new) ∙ more_output_records u.records a.frame (output_records_from new p flags (next_event d)));
+      output_records = λ new. u.output_records new
+          ∙ (ap (λ ss. map (λ r. Whole r) u.records ++ ss) (a.output_records new) ∙ more_output_records u.records a.frame (output_records_from new p flags (next_event d)));
     }
 
 -- If all events are kept, consecutive ones are a run.
@@ -159,7 +167,8 @@ pub record AllKept (p : Parts) (flags : List Bool) : Type 0 where
   pub set : list_all (λ keep. keep) flags ≡ true
   pub each : length flags ≡ length (events_of p)
 
-kept_there : (p : Parts) (flags : List Bool) (d : RecordCursor) (x : EventAt) → AllKept p flags → slice_get (events_of p) d.event ≡ Some x → slice_get p.records d.frame ≡ Some x.record_of → is_in_run p flags d ≡ true
+kept_there : (p : Parts) (flags : List Bool) (d : RecordCursor) (x : EventAt) → AllKept p flags → slice_get (events_of p) d.event ≡ Some x → slice_get p.records d.frame ≡ Some x.record_of
+    → is_in_run p flags d ≡ true
 kept_there p flags d x a t f =
     let l : d.event < length flags = omega (arith, a.each, slice_get_within (events_of p) d.event x t) in
     let k : (x.record_of.at == x.record_of.at) ≡ true = grind (arith, nat_tests) in
@@ -177,20 +186,24 @@ passes_none p flags c i = record { cursor = i; run = run_none p flags c (record_
 pub passes_next : (p : Parts) (flags : List Bool) (c d : RecordCursor) → Passes p flags c d → is_in_run p flags d ≡ true → Passes p flags c (next_event d)
 passes_next p flags c d u h = let a = at_run p flags d u.cursor h in record { cursor = a.cursor; run = run_next p flags c d (record_start p c.frame) u.run a }
 
-pub passes_events : (p : Parts) (flags : List Bool) (c : RecordCursor) → IsCursor p flags c → AllKept p flags → (n : ℕ) → ((offset : ℕ) → offset < n → HasEventAt p c offset) → Passes p flags c (behind c n)
-passes_events p flags c i a zero h = subst (Passes p flags c) (λ j. let e : (m : ℕ) → m ≡ m + 0 = λ m. omega arith in record { frame = e c.frame j; event = e c.event j; link = c.link }) (passes_none p flags c i)
+pub passes_events : (p : Parts) (flags : List Bool) (c : RecordCursor) → IsCursor p flags c → AllKept p flags → (n : ℕ) → ((offset : ℕ) → offset < n → HasEventAt p c offset)
+    → Passes p flags c (behind c n)
+passes_events p flags c i a zero h = subst (Passes p flags c) (λ j. let e : (m : ℕ) → m ≡ m + 0 = λ m. omega arith in record { frame = e c.frame j; event = e c.event j; link = c.link })
+    (passes_none p flags c i)
 passes_events p flags c i a (suc n) h =
     let u = passes_events p flags c i a n (λ k l. h k (omega (arith, l))) in
     let x = h n (omega arith) in
     let e : (m : ℕ) → (m + n) + 1 ≡ m + suc n = λ m. omega arith in
-    subst (Passes p flags c) (λ j. record { frame = e c.frame j; event = e c.event j; link = c.link }) (passes_next p flags c (behind c n) u (kept_there p flags (behind c n) x.event a x.there x.framed))
+    subst (Passes p flags c) (λ j. record { frame = e c.frame j; event = e c.event j; link = c.link })
+    (passes_next p flags c (behind c n) u (kept_there p flags (behind c n) x.event a x.there x.framed))
 
 -- The run ends if the next record isn't the next event.
 pub ends_events : (p : Parts) (flags : List Bool) (c : RecordCursor) (n : ℕ) → IsCursor p flags (behind c n) → (HasEventAt p c n → ⊥) → is_in_run p flags (behind c n) ≡ false
 ends_events p flags c n i h = by_test (is_in_run p flags (behind c n)) refl
   where
     by_test : (b : Bool) → is_in_run p flags (behind c n) ≡ b → b ≡ false
-    by_test true t = let x = in_run p flags (behind c n) i t in absurd (h (record { event = x.event; there = x.there; framed = x.framed ∙ ap (λ r. Some r) (sym ((event_recorded p x.frame x.event x.given).0)) }))
+    by_test true t = let x = in_run p flags (behind c n) i t in absurd
+        (h (record { event = x.event; there = x.there; framed = x.framed ∙ ap (λ r. Some r) (sym ((event_recorded p x.frame x.event x.given).0)) }))
     by_test false t = refl
 
 -- A run is laid out as its records are, one after another.
@@ -208,18 +221,21 @@ no_range b from to e =
     let h : b.at + (to - from) ≡ b.at = omega arith in
     λ i. record { output = record { chunk = b.output.chunk; bytes = g i }; at = h i; newest = b.newest; metadata = b.metadata }
 
-first_of_range : (b : Progress) (r : Framed) (remaining : List EntryAt) (m to : ℕ) → (r.at == m) ≡ false → IsRecord b.output.chunk r → record_end r ≤ to → with_range (body_with remaining m b (Whole r)) (record_end r) to ≡ with_range b r.at to
+first_of_range : (b : Progress) (r : Framed) (remaining : List EntryAt) (m to : ℕ) → (r.at == m) ≡ false → IsRecord b.output.chunk r → record_end r ≤ to
+    → with_range (body_with remaining m b (Whole r)) (record_end r) to ≡ with_range b r.at to
 first_of_range b r remaining m to f s h =
     let c = b.output.chunk in
     let i = some_bytes c r s in
     let l : length (record_bytes c r) ≡ record_end r - r.at = range_length c r.at (record_end r) s.within in
     let k : slice_range c r.at to ≡ record_bytes c r ++ slice_range c (record_end r) to = range_split c r.at (record_end r) to (omega arith) h in
-    let o : more (more b.output (record_bytes c r)) (slice_range c (record_end r) to) ≡ more b.output (slice_range c r.at to) = more_more b.output (record_bytes c r) (slice_range c (record_end r) to) ∙ ap (more b.output) (sym k) in
+    let o : more (more b.output (record_bytes c r)) (slice_range c (record_end r) to) ≡ more b.output (slice_range c r.at to) =
+    more_more b.output (record_bytes c r) (slice_range c (record_end r) to) ∙ ap (more b.output) (sym k) in
     let a : (b.at + length (record_bytes c r)) + (to - record_end r) ≡ b.at + (to - r.at) = omega arith in
     let d : offset_so_far b.metadata (r.at == m) b.at ≡ b.metadata = ap (λ t. offset_so_far b.metadata t b.at) f ∙ seen_before b.metadata b.at in
     λ j. record { output = o j; at = a j; newest = b.newest; metadata = d j }
 
-laid_run : (p : Parts) (remaining : List EntryAt) (all ss : List OutputRecord) (rs : List Framed) (from to : ℕ) (b : Progress) → Going p remaining all (map (λ r. Whole r) rs ++ ss) b → Tiles p.bytes from rs to →
+laid_run : (p : Parts) (remaining : List EntryAt) (all ss : List OutputRecord) (rs : List Framed) (from to : ℕ) (b : Progress) → Going p remaining all (map (λ r. Whole r) rs ++ ss) b
+    → Tiles p.bytes from rs to →
     AllByRecursion (λ r. (r.at == metadata_at p.bytes) ≡ false) rs → Going p remaining all ss (with_range b from to)
 laid_run p remaining all ss [] from to b g t o = subst (Going p remaining all ss) (sym (no_range b from to t)) g
 laid_run p remaining all ss (r ∷ rs) from to b g t o =
@@ -230,7 +246,9 @@ laid_run p remaining all ss (r ∷ rs) from to b g t o =
     subst (Going p remaining all ss) (e ∙ ap (λ n. with_range b n to) t.0) rest
 
 -- What is left to lay out after a run.
-pub going_run : (new : Option (List ℕ)) (p : Parts) (flags : List Bool) (remaining : List EntryAt) (all rest : List OutputRecord) (c d : RecordCursor) (run : Run) (b next : Progress) → IsRun p flags c d run.from run.to → Going p remaining all (output_records_from new p flags c) b → next ≡ body_with_run b run → output_records_from new p flags d ≡ rest → Going p remaining all rest next
+pub going_run : (new : Option (List ℕ)) (p : Parts) (flags : List Bool) (remaining : List EntryAt) (all rest : List OutputRecord) (c d : RecordCursor) (run : Run) (b next : Progress)
+    → IsRun p flags c d run.from run.to → Going p remaining all (output_records_from new p flags c) b → next ≡ body_with_run b run → output_records_from new p flags d ≡ rest
+    → Going p remaining all rest next
 going_run new p flags remaining all rest c d run b next u g n e =
     let laid = laid_run p remaining all (output_records_from new p flags d) u.records run.from run.to b (subst (λ ss. Going p remaining all ss b) (u.output_records new) g) u.tiles u.others in
     subst (λ ss. Going p remaining all ss next) e (subst (Going p remaining all (output_records_from new p flags d)) (sym n) laid)

@@ -25,7 +25,8 @@ module _ {X : Type 0} (f : X → Data) where
   item_group : (now c t r : List ℕ) → now ++ (c ++ (t ++ r)) ≡ ((now ++ c) ++ t) ++ r
   item_group now c t r = simp append_assoc
 
-  pub one_written : (xs : List X) (x : X) (later : Bool) (start now spaced new : List ℕ) → AreWritten xs later start now → spaced ≡ now ++ comma_if later → new ≡ spaced ++ compact_text (f x) → AreWritten (xs ++ x ∷ []) true start new
+  pub one_written : (xs : List X) (x : X) (later : Bool) (start now spaced new : List ℕ) → AreWritten xs later start now → spaced ≡ now ++ comma_if later → new ≡ spaced ++ compact_text (f x)
+      → AreWritten (xs ++ x ∷ []) true start new
   one_written xs x later start now spaced new w s n rest =
       let grown : new ≡ (now ++ comma_if later) ++ compact_text (f x) = n ∙ ap (λ z. z ++ compact_text (f x)) s in
       ap (λ z. start ++ items false z) (append_assoc xs (x ∷ []) rest)
@@ -36,8 +37,10 @@ module _ {X : Type 0} (f : X → Data) where
       n ∙ (sym (w []) ∙ (ap (λ z. start ++ items false z) (append-nil xs) ∙ (ap (λ z. z ++ items false xs) s ∙ append_assoc was (91 ∷ []) (items false xs))))
 
   -- The first items of a list, and one more; all of them.
-  pub next_written : (xs : List X) (i : ℕ) (x : X) (later : Bool) (start now spaced new : List ℕ) → slice_get xs i ≡ Some x → AreWritten (take i xs) later start now → spaced ≡ now ++ comma_if later → new ≡ spaced ++ compact_text (f x) → AreWritten (take (i + 1) xs) true start new
+  pub next_written : (xs : List X) (i : ℕ) (x : X) (later : Bool) (start now spaced new : List ℕ) → slice_get xs i ≡ Some x → AreWritten (take i xs) later start now → spaced ≡ now ++ comma_if later
+      → new ≡ spaced ++ compact_text (f x) → AreWritten (take (i + 1) xs) true start new
   next_written xs i x later start now spaced new is w s n = subst (λ ys. AreWritten ys true start new) (sym (take_next xs i x is)) (one_written (take i xs) x later start now spaced new w s n)
 
-  pub whole_written : (xs : List X) (i : ℕ) (later : Bool) (was start now new : List ℕ) → length xs ≤ i → start ≡ was ++ 91 ∷ [] → AreWritten (take i xs) later start now → new ≡ now ++ 93 ∷ [] → new ≡ was ++ compact_text (array_of xs)
+  pub whole_written : (xs : List X) (i : ℕ) (later : Bool) (was start now new : List ℕ) → length xs ≤ i → start ≡ was ++ 91 ∷ [] → AreWritten (take i xs) later start now → new ≡ now ++ 93 ∷ []
+      → new ≡ was ++ compact_text (array_of xs)
   whole_written xs i later was start now new all s w n = all_written (take i xs) later was start now new s w n ∙ ap (λ ys. was ++ compact_text (array_of ys)) (take_all i xs all)

@@ -72,7 +72,8 @@ pub sum_fits : (kept more bytes chunks size : ℕ) → chunks ≤ 17000000000 �
 sum_fits kept more bytes chunks size a b c d e = omega arith
 
 -- The totals with a chunk more stay in bounds.
-pub bounded_next : (t : Totals) (first : Option Beginning) (size duration events checkpoints constants inert : ℕ) (m : Tallies) → IsBounded t → t.chunks < 17000000000 → size < 2 ^ 30 → duration < 2 ^ 64 → events ≤ size → checkpoints ≤ size → constants ≤ size → inert ≤ size → AreBelow (t.bytes + size) m
+pub bounded_next : (t : Totals) (first : Option Beginning) (size duration events checkpoints constants inert : ℕ) (m : Tallies) → IsBounded t → t.chunks < 17000000000 → size < 2 ^ 30
+    → duration < 2 ^ 64 → events ≤ size → checkpoints ≤ size → constants ≤ size → inert ≤ size → AreBelow (t.bytes + size) m
     → IsBounded (record { first = first; chunks = t.chunks + 1; bytes = t.bytes + size; duration = t.duration + duration; events = t.events + events; checkpoints = t.checkpoints + checkpoints; constants = t.constants + constants; inert = t.inert + inert; tallies = m })
 bounded_next t first size duration events checkpoints constants inert m b few small short e c k i below =
     let u = b.bytes in

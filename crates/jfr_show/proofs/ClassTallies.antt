@@ -66,7 +66,8 @@ none_more t = tally_path _ _ (omega arith) (omega arith)
 chosen-cons : (k : Classes) (q : List ℕ) (test : Framed → Bool) (r : Framed) (rs : List Framed) → tally_of (chosen k q test (r ∷ rs)) ≡ both (one k q (test r) r) (tally_of (chosen k q test rs))
 chosen-cons k q test r rs = by_test (test r) (bytes_eq (occurrence k r).name q)
   where
-    by_test : (b d : Bool) → tally_of (of_name q (map (occurrence k) (cond b (r ∷ filter test rs) (filter test rs)))) ≡ both (cond b (cond (bytes_eq (occurrence k r).name q) (record { events = 1; bytes = r.size }) no_tally) no_tally) (tally_of (chosen k q test rs))
+    by_test : (b d : Bool)
+        → tally_of (of_name q (map (occurrence k) (cond b (r ∷ filter test rs) (filter test rs)))) ≡ both (cond b (cond (bytes_eq (occurrence k r).name q) (record { events = 1; bytes = r.size }) no_tally) no_tally) (tally_of (chosen k q test rs))
     by_test false d = none_more (tally_of (chosen k q test rs))
     by_test true d = by_name (bytes_eq (occurrence k r).name q)
       where
@@ -93,7 +94,8 @@ class_tally-cons k leaders i r rs = by_test (is_at k leaders i r)
     by_test false = none_more (class_tally k leaders rs i)
 
 -- Of the leaders before the next index, a record's is before this index or at it.
-one_by : (x y z d b : Bool) (w : Tally) → x ≡ (y || z) → (y && z) ≡ false → (z ≡ true → d ≡ b) → cond x (cond d w no_tally) no_tally ≡ both (cond y (cond d w no_tally) no_tally) (cond b (cond z w no_tally) no_tally)
+one_by : (x y z d b : Bool) (w : Tally) → x ≡ (y || z) → (y && z) ≡ false → (z ≡ true → d ≡ b)
+    → cond x (cond d w no_tally) no_tally ≡ both (cond y (cond d w no_tally) no_tally) (cond b (cond z w no_tally) no_tally)
 one_by x true true d b w e f g = cc
 one_by x true false d b w e f g = ap (λ v. cond v (cond d w no_tally) no_tally) e ∙ by_name b
   where
@@ -122,7 +124,8 @@ module _ (k : Classes) (leaders : List ℕ) (led : AreLeaders k leaders) (i : �
   one_step : (r : Framed) → one k q (is_before k leaders (i + 1) r) r ≡ both (one k q (is_before k leaders i r) r) (cond (bytes_eq name q) (single (is_at k leaders i r) r) no_tally)
   one_step r = by_leader (leader_of k leaders r.type_id) refl
     where
-      by_leader : (o : Option ℕ) → leader_of k leaders r.type_id ≡ o → one k q (option_map_or (λ n. nat_lt n (i + 1)) o false) r ≡ both (one k q (option_map_or (λ n. nat_lt n i) o false) r) (cond (bytes_eq name q) (single (option_map_or (λ n. n == i) o false) r) no_tally)
+      by_leader : (o : Option ℕ) → leader_of k leaders r.type_id ≡ o
+          → one k q (option_map_or (λ n. nat_lt n (i + 1)) o false) r ≡ both (one k q (option_map_or (λ n. nat_lt n i) o false) r) (cond (bytes_eq name q) (single (option_map_or (λ n. n == i) o false) r) no_tally)
       by_leader None e = one_by false false false (bytes_eq (occurrence k r).name q) (bytes_eq name q) (record { events = 1; bytes = r.size }) refl refl (λ f. cc)
       by_leader (Some n) e =
           let s = split n i in
@@ -130,7 +133,8 @@ module _ (k : Classes) (leaders : List ℕ) (led : AreLeaders k leaders) (i : �
           (λ f. let h : leader_of k leaders r.type_id ≡ Some i = e ∙ ap Some (eqb-true n i f) in ap (λ t. bytes_eq (encode_utf8_all t) q) (leader_name k leaders led r.type_id i c h there))
 
   -- What the next class adds.
-  class_more : (rs : List Framed) → tally_of (of_name q (before k leaders (i + 1) rs)) ≡ both (tally_of (of_name q (before k leaders i rs))) (cond (bytes_eq name q) (class_tally k leaders rs i) no_tally)
+  class_more : (rs : List Framed)
+      → tally_of (of_name q (before k leaders (i + 1) rs)) ≡ both (tally_of (of_name q (before k leaders i rs))) (cond (bytes_eq name q) (class_tally k leaders rs i) no_tally)
   class_more [] = by_name (bytes_eq name q)
     where
       by_name : (b : Bool) → no_tally ≡ both no_tally (cond b no_tally no_tally)
@@ -145,7 +149,8 @@ module _ (k : Classes) (leaders : List ℕ) (led : AreLeaders k leaders) (i : �
       ∙ (ap (both (both one_before (cond b one_at no_tally))) (class_more rs)
       ∙ (both_swap one_before (cond b one_at no_tally) (tally_of (of_name q (before k leaders i rs))) (cond b (class_tally k leaders rs i) no_tally)
       ∙ (ap (λ t. both t (both (cond b one_at no_tally) (cond b (class_tally k leaders rs i) no_tally))) (sym (chosen-cons k q (is_before k leaders i) r rs))
-      ∙ ap (both (tally_of (of_name q (before k leaders i (r ∷ rs))))) (sym (both_chosen b one_at (class_tally k leaders rs i)) ∙ ap (λ t. cond b t no_tally) (sym (class_tally-cons k leaders i r rs)))))))
+      ∙ ap (both (tally_of (of_name q (before k leaders i (r ∷ rs)))))
+      (sym (both_chosen b one_at (class_tally k leaders rs i)) ∙ ap (λ t. cond b t no_tally) (sym (class_tally-cons k leaders i r rs)))))))
 
 -- What is added under a name, by the tally of another list of the same.
 added_class : (o : Option Tally) (xs ys zs : List Occurrence) → tally_of zs ≡ both (tally_of xs) (tally_of ys) → added (added o (tally_of xs)) (tally_of ys) ≡ added o (tally_of zs)
@@ -155,24 +160,29 @@ pub both_none : (t : Tally) → both t no_tally ≡ t
 both_none t = tally_path _ _ (omega arith) (omega arith)
 
 -- One class more is added.
-pub classes_next : (k : Classes) (leaders : List ℕ) (led : AreLeaders k leaders) (i : ℕ) (c : Class) (rs : List Framed) (bytes : List ℕ) (old now new : Tallies) → slice_get k i ≡ Some c → bytes ≡ encode_utf8_all c.name → AddsEvents old (before k leaders i rs) now → AddsTally now bytes (class_tally k leaders rs i) new → AddsEvents old (before k leaders (i + 1) rs) new
-classes_next k leaders led i c rs bytes old now new there is a t = record { each = λ q. t.each q ∙ (ap (λ o. cond (bytes_eq bytes q) (added o (class_tally k leaders rs i)) o) (a.each q) ∙ by_name q (bytes_eq bytes q) refl) }
+pub classes_next : (k : Classes) (leaders : List ℕ) (led : AreLeaders k leaders) (i : ℕ) (c : Class) (rs : List Framed) (bytes : List ℕ) (old now new : Tallies) → slice_get k i ≡ Some c
+    → bytes ≡ encode_utf8_all c.name → AddsEvents old (before k leaders i rs) now → AddsTally now bytes (class_tally k leaders rs i) new → AddsEvents old (before k leaders (i + 1) rs) new
+classes_next k leaders led i c rs bytes old now new there is a t =
+    record { each = λ q. t.each q ∙ (ap (λ o. cond (bytes_eq bytes q) (added o (class_tally k leaders rs i)) o) (a.each q) ∙ by_name q (bytes_eq bytes q) refl) }
   where
-    by_name : (q : List ℕ) (b : Bool) → bytes_eq bytes q ≡ b → cond b (added (added (fin.get old q) (tally_of (of_name q (before k leaders i rs)))) (class_tally k leaders rs i)) (added (fin.get old q) (tally_of (of_name q (before k leaders i rs)))) ≡ added (fin.get old q) (tally_of (of_name q (before k leaders (i + 1) rs)))
+    by_name : (q : List ℕ) (b : Bool) → bytes_eq bytes q ≡ b
+        → cond b (added (added (fin.get old q) (tally_of (of_name q (before k leaders i rs)))) (class_tally k leaders rs i)) (added (fin.get old q) (tally_of (of_name q (before k leaders i rs)))) ≡ added (fin.get old q) (tally_of (of_name q (before k leaders (i + 1) rs)))
     by_name q true e =
         let f : bytes_eq (encode_utf8_all c.name) q ≡ true = ap (λ z. bytes_eq z q) (sym is) ∙ e in
         added_class (fin.get old q) (of_name q (before k leaders i rs)) (map (occurrence k) (filter (is_at k leaders i) rs)) (of_name q (before k leaders (i + 1) rs))
         (class_more k leaders led i c q there rs ∙ ap (λ b. both (tally_of (of_name q (before k leaders i rs))) (cond b (class_tally k leaders rs i) no_tally)) f)
     by_name q false e =
         let f : bytes_eq (encode_utf8_all c.name) q ≡ false = ap (λ z. bytes_eq z q) (sym is) ∙ e in
-        ap (added (fin.get old q)) (sym (class_more k leaders led i c q there rs ∙ (ap (λ b. both (tally_of (of_name q (before k leaders i rs))) (cond b (class_tally k leaders rs i) no_tally)) f ∙ both_none (tally_of (of_name q (before k leaders i rs))))))
+        ap (added (fin.get old q)) (sym (class_more k leaders led i c q there rs
+        ∙ (ap (λ b. both (tally_of (of_name q (before k leaders i rs))) (cond b (class_tally k leaders rs i) no_tally)) f ∙ both_none (tally_of (of_name q (before k leaders i rs))))))
 
 -- Before the first class there are no events.
 before_none : (k : Classes) (leaders : List ℕ) (rs : List Framed) → before k leaders 0 rs ≡ []
 before_none k leaders [] = refl
 before_none k leaders (r ∷ rs) = by_leader (leader_of k leaders r.type_id) (before_none k leaders rs)
   where
-    by_leader : (o : Option ℕ) → before k leaders 0 rs ≡ [] → map (occurrence k) (cond (option_map_or (λ n. nat_lt n 0) o false) (r ∷ filter (is_before k leaders 0) rs) (filter (is_before k leaders 0) rs)) ≡ []
+    by_leader : (o : Option ℕ) → before k leaders 0 rs ≡ []
+        → map (occurrence k) (cond (option_map_or (λ n. nat_lt n 0) o false) (r ∷ filter (is_before k leaders 0) rs) (filter (is_before k leaders 0) rs)) ≡ []
     by_leader None e = e
     by_leader (Some n) e = ap (λ b. map (occurrence k) (cond b (r ∷ filter (is_before k leaders 0) rs) (filter (is_before k leaders 0) rs))) (le-ltb n 0 (omega arith)) ∙ e
 
@@ -191,8 +201,10 @@ before_test k leaders led r = by_test (is_event_class k r.type_id) refl
 
 pub before_all : (k : Classes) (leaders : List ℕ) (led : AreLeaders k leaders) (rs : List Framed) → before k leaders (length k) rs ≡ map (occurrence k) (event_records k rs)
 before_all k leaders led [] = refl
-before_all k leaders led (r ∷ rs) = ap (λ b. map (occurrence k) (cond b (r ∷ filter (is_before k leaders (length k)) rs) (filter (is_before k leaders (length k)) rs))) (before_test k leaders led r) ∙ by_test (is_event_class k r.type_id) (before_all k leaders led rs)
+before_all k leaders led (r ∷ rs) = ap (λ b. map (occurrence k) (cond b (r ∷ filter (is_before k leaders (length k)) rs) (filter (is_before k leaders (length k)) rs))) (before_test k leaders led r)
+    ∙ by_test (is_event_class k r.type_id) (before_all k leaders led rs)
   where
-    by_test : (b : Bool) → before k leaders (length k) rs ≡ map (occurrence k) (event_records k rs) → map (occurrence k) (cond b (r ∷ filter (is_before k leaders (length k)) rs) (filter (is_before k leaders (length k)) rs)) ≡ map (occurrence k) (cond b (r ∷ event_records k rs) (event_records k rs))
+    by_test : (b : Bool) → before k leaders (length k) rs ≡ map (occurrence k) (event_records k rs)
+        → map (occurrence k) (cond b (r ∷ filter (is_before k leaders (length k)) rs) (filter (is_before k leaders (length k)) rs)) ≡ map (occurrence k) (cond b (r ∷ event_records k rs) (event_records k rs))
     by_test true e = ap (λ es. occurrence k r ∷ es) e
     by_test false e = e

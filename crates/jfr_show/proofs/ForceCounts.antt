@@ -59,7 +59,8 @@ module _ (es : List EntryAt) (n count : ℕ) (within : n < length es) (so : IsCo
       let l : n < length (enumerate_from 0 es) = let h = length-enumerate_from 0 es in omega arith in
       let m = so.most in
       record {
-        exact = ap (λ z. z + 1) so.exact ∙ sym (count_by_more_yes (is_in_force es) (enumerate_from 0 es) n (0, i.entry) l (ap (is_in_force es) (numbered es n i.entry i.holds) ∙ in_force_true es n i.entry i.holds i));
+        exact = ap (λ z. z + 1) so.exact ∙ sym (count_by_more_yes (is_in_force es) (enumerate_from 0 es) n (0, i.entry) l
+            (ap (is_in_force es) (numbered es n i.entry i.holds) ∙ in_force_true es n i.entry i.holds i));
         most = omega arith;
       }
 

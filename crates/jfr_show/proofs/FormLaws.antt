@@ -69,18 +69,26 @@ module _ (k : Classes) (c : List ℕ) (at to end : ℕ) (s : Shape) (l : to ≤ 
     pub worth : worth_within 8 bytes_there ≡ number
     pub value : v ≡ Single s (leaf_kinds.Base kind) bytes_there None
 
-  pub integer_form : (v : Value) (d : Class) → IsNode k c (node_at s at to) v → s.array ≡ false → s.constant ≡ false → find_class k s.class ≡ Some d → inline_form (kind_of d.name) ≡ forms.Integer → IntegerForm (kind_of d.name) v
+  pub integer_form : (v : Value) (d : Class) → IsNode k c (node_at s at to) v → s.array ≡ false → s.constant ≡ false → find_class k s.class ≡ Some d → inline_form (kind_of d.name) ≡ forms.Integer
+      → IntegerForm (kind_of d.name) v
   integer_form v d i a o q f =
       let n = base_form k c at to s v d i a o q (λ m. (let z : inline_form (kind_of d.name) ≡ forms.Fields = ap inline_form m in cc)) in
       let b = integer_base (kind_of d.name) bytes_there n.key f n.is in
-      record { number = b.0; found = spells_at bytes_there b.0 refl b.1 i.order i.within; worth = sym b.1.worth; value = n.value ∙ ap (λ z. Single s (leaf_kinds.Base (kind_of d.name)) bytes_there z) b.2 }
+      record {
+        number = b.0;
+        found = spells_at bytes_there b.0 refl b.1 i.order i.within;
+        worth = sym b.1.worth;
+        value = n.value
+            ∙ ap (λ z. Single s (leaf_kinds.Base (kind_of d.name)) bytes_there z) b.2;
+      }
 
   -- So many bytes.
   pub record RawForm (kind : Kind) (n : ℕ) (v : Value) : Type 0 where
     pub count : length bytes_there ≡ n
     pub value : v ≡ Single s (leaf_kinds.Base kind) bytes_there None
 
-  pub raw_form : (v : Value) (d : Class) (n : ℕ) → IsNode k c (node_at s at to) v → s.array ≡ false → s.constant ≡ false → find_class k s.class ≡ Some d → inline_form (kind_of d.name) ≡ forms.Raw n → RawForm (kind_of d.name) n v
+  pub raw_form : (v : Value) (d : Class) (n : ℕ) → IsNode k c (node_at s at to) v → s.array ≡ false → s.constant ≡ false → find_class k s.class ≡ Some d → inline_form (kind_of d.name) ≡ forms.Raw n
+      → RawForm (kind_of d.name) n v
   raw_form v d m i a o q f =
       let n = base_form k c at to s v d i a o q (λ m. (let z : inline_form (kind_of d.name) ≡ forms.Fields = ap inline_form m in cc)) in
       let b = raw_base (kind_of d.name) m bytes_there n.key f n.is in

@@ -37,10 +37,12 @@ use Rattle.jfr_show.proofs.LayoutForms.{is_integer, is_raw, is_reference, is_tex
 
 module _ (k : Classes) (refer : ℕ × ℕ → Data) where
   -- A composite value and an array, by their parts.
-  pub composite_json : (s : Shape) (head : List ℕ) (parts : Values) (v : Value) (d : Class) → v ≡ Group s head parts → s.array ≡ false → find_class k s.class ≡ Some d → json_of k refer v ≡ object (members_with no_members d.fields (json_of_all k refer parts))
+  pub composite_json : (s : Shape) (head : List ℕ) (parts : Values) (v : Value) (d : Class) → v ≡ Group s head parts → s.array ≡ false → find_class k s.class ≡ Some d
+      → json_of k refer v ≡ object (members_with no_members d.fields (json_of_all k refer parts))
   composite_json s head parts v d e a f =
       let ds : List Data = json_of_all k refer parts in
-      ap (json_of k refer) e ∙ (ap (λ z. if z then array (items_of ds) else option_map_or (λ c. object (members_with no_members c.fields ds)) (find_class k s.class) null) a ∙ ap (λ z. option_map_or (λ c. object (members_with no_members c.fields ds)) z null) f)
+      ap (json_of k refer) e ∙ (ap (λ z. if z then array (items_of ds) else option_map_or (λ c. object (members_with no_members c.fields ds)) (find_class k s.class) null) a
+      ∙ ap (λ z. option_map_or (λ c. object (members_with no_members c.fields ds)) z null) f)
 
   pub array_json : (s : Shape) (head : List ℕ) (parts : Values) (v : Value) → v ≡ Group s head parts → s.array ≡ true → json_of k refer v ≡ array (items_of (json_of_all k refer parts))
   array_json s head parts v e a =
@@ -54,12 +56,14 @@ module _ (k : Classes) (refer : ℕ × ℕ → Data) where
   item_group : (made c t r : List ℕ) → made ++ (c ++ (t ++ r)) ≡ ((made ++ c) ++ t) ++ r
   item_group made c t r = simp append_assoc
 
-  pub one_item : (later : Bool) (made spaced new : List ℕ) (v : Value) (vs : Values) → spaced ≡ made ++ comma_if later → new ≡ spaced ++ compact_text (json_of k refer v) → onto_items later made (Cons v vs) ≡ onto_items true new vs
+  pub one_item : (later : Bool) (made spaced new : List ℕ) (v : Value) (vs : Values) → spaced ≡ made ++ comma_if later → new ≡ spaced ++ compact_text (json_of k refer v)
+      → onto_items later made (Cons v vs) ≡ onto_items true new vs
   one_item later made spaced new v vs s n =
       let rest = items_text true (items_of (json_of_all k refer vs)) in
       item_group made (comma_if later) (compact_text (json_of k refer v)) rest ∙ ap (λ z. z ++ rest) (sym (n ∙ ap (λ z. z ++ compact_text (json_of k refer v)) s))
 
-  pub items_between : (vs : Values) (was begun all new : List ℕ) → begun ≡ was ++ 91 ∷ [] → all ++ 93 ∷ [] ≡ begun ++ items_text false (items_of (json_of_all k refer vs)) → new ≡ all ++ 93 ∷ [] → new ≡ was ++ compact_text (array (items_of (json_of_all k refer vs)))
+  pub items_between : (vs : Values) (was begun all new : List ℕ) → begun ≡ was ++ 91 ∷ [] → all ++ 93 ∷ [] ≡ begun ++ items_text false (items_of (json_of_all k refer vs)) → new ≡ all ++ 93 ∷ []
+      → new ≡ was ++ compact_text (array (items_of (json_of_all k refer vs)))
   items_between vs was begun all new b a n =
       let text = items_text false (items_of (json_of_all k refer vs)) in
       n ∙ (a ∙ (ap (λ z. z ++ text) b ∙ append_assoc was (91 ∷ []) text))
@@ -73,7 +77,8 @@ module _ (k : Classes) (refer : ℕ × ℕ → Data) (c : List ℕ) (at to : ℕ
   as_text : (d : Data) → json_of k refer v ≡ d → new ≡ was ++ compact_text d → new ≡ was ++ compact_text (json_of k refer v)
   as_text d e h = h ∙ ap (λ z. was ++ compact_text z) (sym e)
 
-  pub integer_made : s.form ≡ forms.Integer → (n : Var) → int_at c at (length c) ≡ Some n → ((bytes : List ℕ) → worth_within 8 bytes ≡ n.value → new ≡ was ++ compact_text (base_json s.kind bytes)) → IsMade n.end
+  pub integer_made : s.form ≡ forms.Integer → (n : Var) → int_at c at (length c) ≡ Some n → ((bytes : List ℕ) → worth_within 8 bytes ≡ n.value → new ≡ was ++ compact_text (base_json s.kind bytes))
+      → IsMade n.end
   integer_made e n r h =
       let f = is_integer k c at to s is v i e n r in
       (f.ends, as_text (base_json s.kind (slice_range c at to)) (ap (json_of k refer) f.value) (h (slice_range c at to) f.worth))
@@ -89,29 +94,41 @@ module _ (k : Classes) (refer : ℕ × ℕ → Data) (c : List ℕ) (at to : ℕ
       let f = is_reference k c at to s is v i e n r in
       (f.ends, as_text (refer (s.shape.class, n.value)) (ap (json_of k refer) f.value) h)
 
-  pub key_made : s.form ≡ forms.Text → (span : StringSpan) → run (string_format true) c (length c) at ≡ Ok (record { value = content_of span; place = span.end }) → span.kind ≡ span_kinds.Key → new ≡ was ++ compact_text (refer (s.shape.class, span.key)) → IsMade span.end
+  pub key_made : s.form ≡ forms.Text → (span : StringSpan) → run (string_format true) c (length c) at ≡ Ok (record { value = content_of span; place = span.end }) → span.kind ≡ span_kinds.Key
+      → new ≡ was ++ compact_text (refer (s.shape.class, span.key)) → IsMade span.end
   key_made e span r q h =
-      let f = is_text k c at to s is v i e (content_of span) span.end r in
-      (f.ends, as_text (refer (s.shape.class, span.key)) (ap (json_of k refer) f.value ∙ ap (λ z. json_of k refer (Single s.shape (leaf_kinds.Base kinds.Text) (slice_range c at to) z)) (key_in span q)) h)
+      let f = is_text k c at to s is v i e (content_of span) span.end r in (
+        f.ends,
+        as_text (refer (s.shape.class, span.key))
+            (ap (json_of k refer) f.value ∙ ap (λ z. json_of k refer (Single s.shape (leaf_kinds.Base kinds.Text) (slice_range c at to) z)) (key_in span q)) h,
+      )
 
-  pub string_made : s.form ≡ forms.Text → (span : StringSpan) → run (string_format true) c (length c) at ≡ Ok (record { value = content_of span; place = span.end }) → span.kind ≢ span_kinds.Key → new ≡ was ++ compact_text (option_map_or text_json (strings.text_of (content_of span)) null) → IsMade span.end
+  pub string_made : s.form ≡ forms.Text → (span : StringSpan) → run (string_format true) c (length c) at ≡ Ok (record { value = content_of span; place = span.end }) → span.kind ≢ span_kinds.Key
+      → new ≡ was ++ compact_text (option_map_or text_json (strings.text_of (content_of span)) null) → IsMade span.end
   string_made e span r q h =
-      let f = is_text k c at to s is v i e (content_of span) span.end r in
-      (f.ends, as_text (option_map_or text_json (strings.text_of (content_of span)) null) (ap (json_of k refer) f.value ∙ (ap (λ z. json_of k refer (Single s.shape (leaf_kinds.Base kinds.Text) (slice_range c at to) z)) (no_key span q) ∙ ap (λ z. option_map_or text_json z null) f.text)) h)
+      let f = is_text k c at to s is v i e (content_of span) span.end r in (
+        f.ends,
+        as_text (option_map_or text_json (strings.text_of (content_of span)) null)
+            (ap (json_of k refer) f.value ∙ (ap (λ z. json_of k refer (Single s.shape (leaf_kinds.Base kinds.Text) (slice_range c at to) z)) (no_key span q)
+            ∙ ap (λ z. option_map_or text_json z null) f.text)) h,
+      )
 
 -- Two values between literals.
 parts_group : (was h a m b e : List ℕ) → ((((was ++ h) ++ a) ++ m) ++ b) ++ e ≡ was ++ (h ++ (a ++ (m ++ (b ++ e))))
 parts_group was h a m b e = simp append_assoc
 
-pub parts_added : (was one two three four new h a m b e : List ℕ) → one ≡ was ++ h → two ≡ one ++ a → three ≡ two ++ m → four ≡ three ++ b → new ≡ four ++ e → new ≡ was ++ (h ++ (a ++ (m ++ (b ++ e))))
+pub parts_added : (was one two three four new h a m b e : List ℕ) → one ≡ was ++ h → two ≡ one ++ a → three ≡ two ++ m → four ≡ three ++ b → new ≡ four ++ e
+    → new ≡ was ++ (h ++ (a ++ (m ++ (b ++ e))))
 parts_added was one two three four new h a m b e p q r s t =
     t ∙ (ap (λ z. z ++ e) (s ∙ ap (λ z. z ++ b) (r ∙ ap (λ z. z ++ m) (q ∙ ap (λ z. z ++ a) p))) ∙ parts_group was h a m b e)
 
-pub reference_text : (k : Classes) (t : ℕ × ℕ) → codes "{\"class\":" ++ (compact_text (text_json (class_name k t.0)) ++ (codes ",\"key\":" ++ (decimal t.1 ++ codes "}"))) ≡ compact_text (reference_json k t)
+pub reference_text : (k : Classes) (t : ℕ × ℕ)
+    → codes "{\"class\":" ++ (compact_text (text_json (class_name k t.0)) ++ (codes ",\"key\":" ++ (decimal t.1 ++ codes "}"))) ≡ compact_text (reference_json k t)
 unfolding serde_json_on_literals
 reference_text k t = refl
 
-pub missing_text : (k : Classes) (t : ℕ × ℕ) → codes "{\"class\":" ++ (compact_text (text_json (class_name k t.0)) ++ (codes ",\"key\":" ++ (decimal t.1 ++ codes ",\"missing\":true}"))) ≡ compact_text (missing_json k t)
+pub missing_text : (k : Classes) (t : ℕ × ℕ)
+    → codes "{\"class\":" ++ (compact_text (text_json (class_name k t.0)) ++ (codes ",\"key\":" ++ (decimal t.1 ++ codes ",\"missing\":true}"))) ≡ compact_text (missing_json k t)
 unfolding serde_json_on_literals
 missing_text k t = refl
 
@@ -134,7 +151,8 @@ module _ (p : Parts) where
   pub node_json_is : Sound p.classes → (refer : ℕ × ℕ → Data) (n : NodeAt) (v : Value) → IsNode p.classes p.bytes n v → node_json p refer n ≡ json_of p.classes refer v
   node_json_is sound refer n v i = ap (λ o. option_map_or (json_of p.classes refer) o null) (value_is p.classes p.bytes n v sound i)
 
-  pub event_text : (depth : ℕ) (n : NodeAt) → codes "{\"type\":" ++ (compact_text (text_json (class_name p.classes n.shape.class)) ++ (codes ",\"values\":" ++ (compact_text (node_json p (referred_json p depth) n) ++ codes "}"))) ≡ compact_text (event_data p depth n)
+  pub event_text : (depth : ℕ) (n : NodeAt)
+      → codes "{\"type\":" ++ (compact_text (text_json (class_name p.classes n.shape.class)) ++ (codes ",\"values\":" ++ (compact_text (node_json p (referred_json p depth) n) ++ codes "}"))) ≡ compact_text (event_data p depth n)
   unfolding serde_json_on_literals event_data
   event_text depth n = refl
 

@@ -56,7 +56,8 @@ module _ (k : Classes) (c : List ℕ) (at to : ℕ) (s : FieldLayout) (is : IsLa
   integer e =
       let m = inline forms.Integer e tt in
       let d = inline_layout forms.Integer e tt in
-      subst (λ z. IntegerForm k c at to end s.shape l w z v) (sym d.kind_is) (integer_form k c at to end s.shape l w v d.class i m.array m.constant d.found (ap inline_form (sym d.kind_is) ∙ sym m.form))
+      subst (λ z. IntegerForm k c at to end s.shape l w z v) (sym d.kind_is)
+      (integer_form k c at to end s.shape l w v d.class i m.array m.constant d.found (ap inline_form (sym d.kind_is) ∙ sym m.form))
 
   pub integer_stands : s.form ≡ forms.Integer → IsSome (int_at c at end)
   integer_stands e = subst IsSome (sym (integer e).found) refl
@@ -107,7 +108,13 @@ module _ (k : Classes) (c : List ℕ) (at to : ℕ) (s : FieldLayout) (is : IsLa
       let m = key_there s is.form e in
       let f = key_form k c at to s.shape end l w v i m.0 m.1 in
       let q : record { value = f.key; end = to } ≡ n = (let x : int_at c at end ≡ Some (record { value = f.key; end = to }) = f.found in cc) in
-      record { ends = ap (λ (z : Var). z.end) (sym q); kind = leaf_kinds.Key f.key; bytes = bytes_there; value = f.value ∙ ap (λ (z : Var). Single s.shape (leaf_kinds.Key f.key) bytes_there (Some z.value)) q }
+      record {
+        ends = ap (λ (z : Var). z.end) (sym q);
+        kind = leaf_kinds.Key f.key;
+        bytes = bytes_there;
+        value = f.value
+            ∙ ap (λ (z : Var). Single s.shape (leaf_kinds.Key f.key) bytes_there (Some z.value)) q;
+      }
 
   -- A string.
   text : s.form ≡ forms.Text → TextForm k c at to end s.shape l w v
@@ -131,7 +138,12 @@ module _ (k : Classes) (c : List ℕ) (at to : ℕ) (s : FieldLayout) (is : IsLa
       let h : Got Content = record { value = content; place = ended } in
       let q : g ≡ h = (let x : run (string_format true) c end at ≡ Ok g = f.reads in cc) in
       let same : f.content ≡ content = ap (λ (z : Got Content). z.value) q in
-      record { ends = ap (λ (z : Got Content). z.place) (sym q); value = f.value ∙ ap (λ z. Single s.shape (leaf_kinds.Base kinds.Text) bytes_there (key_of z)) same; text = f.text ∙ ap strings.text_of same }
+      record {
+        ends = ap (λ (z : Got Content). z.place) (sym q);
+        value = f.value ∙ ap (λ z. Single s.shape (leaf_kinds.Base kinds.Text) bytes_there (key_of z)) same;
+        text = f.text
+            ∙ ap strings.text_of same;
+      }
 
   -- A composite value: the class, and its fields.
   pub record IsComposite : Type 0 where
@@ -186,4 +198,5 @@ module _ (k : Classes) (c : List ℕ) (at to : ℕ) (s : FieldLayout) (is : IsLa
 
 -- The layout of an array's items is known if the array's is.
 pub item_known : (k : Classes) (s t : FieldLayout) → IsLayoutIfKnown k s → t ≡ layout_with (item_of s.shape) s.class_index s.kind → IsLayoutIfKnown k t
-item_known k s t is e = subst (λ (z : FieldLayout). IsLayoutIfKnown k z) (sym e) (record { form = refl; of_class = λ o h. (let q = is.of_class o h in record { class_index = q.class_index; kind = q.kind; form = refl }) })
+item_known k s t is e = subst (λ (z : FieldLayout). IsLayoutIfKnown k z) (sym e)
+    (record { form = refl; of_class = λ o h. (let q = is.of_class o h in record { class_index = q.class_index; kind = q.kind; form = refl }) })

@@ -108,7 +108,8 @@ module _ (k : Classes) (texts : List (List ℕ)) where
       ap (option_map (λ (c : Class). c.name)) own.1 ∙ ap Some (sym own.2.name)
 
   -- The leaders so far, and that of one class more.
-  pub leaders_next : (names : List ClassNames) (index leader : ℕ) (n : ClassNames) (leaders : List ℕ) → AllZip (IsNamedBy texts) k names → slice_get names index ≡ Some n → HasName k (text_at texts n.name) leader
+  pub leaders_next : (names : List ClassNames) (index leader : ℕ) (n : ClassNames) (leaders : List ℕ) → AllZip (IsNamedBy texts) k names → slice_get names index ≡ Some n
+      → HasName k (text_at texts n.name) leader
       → AllZip (IsLed k) (take index k) leaders → AllZip (IsLed k) (take (index + 1) k) (leaders ++ leader ∷ [])
   leaders_next names index leader n leaders z e is a =
       let own = zip_back (IsNamedBy texts) k names index n z e in

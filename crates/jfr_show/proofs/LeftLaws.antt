@@ -43,7 +43,12 @@ module _ {A : Type 0} (k : Classes) (c : List ℕ) (to : ℕ) (whole : A) where
   pub left_there : (onto : A → Values → A) (s : Shape) (ss us : List Shape) (from : ℕ) (made : A) → StillToShow k c to whole onto us from made → us ≡ s ∷ ss → FirstRemaining s from
   left_there onto s ss us from made f e =
       let g = first_of k c from to s ss f.others (subst (λ z. AreValues k c from to z f.others) e f.row) in
-      record { place = from + length (bytes_of g.value); value = g.value; node = record { shape = sym g.shape; order = g.holds.order; within = g.holds.within; bytes = g.holds.bytes; fits = g.fits }; within = g.row.order }
+      record {
+        place = from + length (bytes_of g.value);
+        value = g.value;
+        node = record { shape = sym g.shape; order = g.holds.order; within = g.holds.within; bytes = g.holds.bytes; fits = g.fits };
+        within = g.row.order;
+      }
 
   -- What is left after this value is added to the result.
   pub left_goes : (onto next : A → Values → A) (s : Shape) (ss us : List Shape) (from : ℕ) (made : A) (end : ℕ) (new : A)

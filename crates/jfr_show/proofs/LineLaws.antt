@@ -35,7 +35,8 @@ module _ (k : Classes) (refer : ℕ → ℕ × ℕ → List ℕ) (level : ℕ) w
   item_group made i t n r = simp append_assoc
 
   -- A line of an item: its indentation, the item, and the end of the line.
-  pub item_line : (made before after new : List ℕ) (v : Value) (vs : Values) → before ≡ made ++ indent level → after ≡ before ++ shown k refer level v → new ≡ after ++ newline → onto_items made (Cons v vs) ≡ onto_items new vs
+  pub item_line : (made before after new : List ℕ) (v : Value) (vs : Values) → before ≡ made ++ indent level → after ≡ before ++ shown k refer level v → new ≡ after ++ newline
+      → onto_items made (Cons v vs) ≡ onto_items new vs
   item_line made before after new v vs b a n =
       let rest = item_lines level (shown_all k refer level vs) in
       let e : new ≡ ((made ++ indent level) ++ shown k refer level v) ++ newline = n ∙ ap (λ z. z ++ newline) (a ∙ ap (λ z. z ++ shown k refer level v) b) in
@@ -60,15 +61,18 @@ module _ (k : Classes) (refer : ℕ → ℕ × ℕ → List ℕ) (level : ℕ) w
 close_group : (was a l i b : List ℕ) → (((was ++ a) ++ l) ++ i) ++ b ≡ was ++ (((a ++ l) ++ i) ++ b)
 close_group was a l i b = simp append_assoc
 
-pub items_close : (level : ℕ) (texts : List (List ℕ)) (was begun all spaced new : List ℕ) → begun ≡ was ++ codes "[\n" → all ≡ begun ++ item_lines (level + 1) texts → spaced ≡ all ++ indent level → new ≡ spaced ++ codes "]" → new ≡ was ++ items_shown level texts
+pub items_close : (level : ℕ) (texts : List (List ℕ)) (was begun all spaced new : List ℕ) → begun ≡ was ++ codes "[\n" → all ≡ begun ++ item_lines (level + 1) texts → spaced ≡ all ++ indent level
+    → new ≡ spaced ++ codes "]" → new ≡ was ++ items_shown level texts
 items_close level texts was begun all spaced new b a s n =
     let q : List ℕ = codes "[\n" in
     let e : spaced ≡ ((was ++ q) ++ item_lines (level + 1) texts) ++ indent level = s ∙ ap (λ z. z ++ indent level) (a ∙ ap (λ z. z ++ item_lines (level + 1) texts) b) in
     n ∙ (ap (λ z. z ++ codes "]") e ∙ close_group was q (item_lines (level + 1) texts) (indent level) (codes "]"))
 
-pub fields_close : (level : ℕ) (c : Class) (texts : List (List ℕ)) (was named begun all spaced new : List ℕ) → named ≡ was ++ c.name → begun ≡ named ++ codes " {\n" → all ≡ begun ++ field_lines (level + 1) c.fields texts → spaced ≡ all ++ indent level → new ≡ spaced ++ codes "}" → new ≡ was ++ fields_shown level c texts
+pub fields_close : (level : ℕ) (c : Class) (texts : List (List ℕ)) (was named begun all spaced new : List ℕ) → named ≡ was ++ c.name → begun ≡ named ++ codes " {\n"
+    → all ≡ begun ++ field_lines (level + 1) c.fields texts → spaced ≡ all ++ indent level → new ≡ spaced ++ codes "}" → new ≡ was ++ fields_shown level c texts
 fields_close level c texts was named begun all spaced new m b a s n =
     let q : List ℕ = codes " {" ++ newline in
     let d : begun ≡ was ++ ((c.name ++ codes " {") ++ newline) = b ∙ (ap (λ z. z ++ q) m ∙ (append_assoc was c.name q ∙ ap (λ z. was ++ z) (sym (append_assoc c.name (codes " {") newline)))) in
-    let e : spaced ≡ ((was ++ ((c.name ++ codes " {") ++ newline)) ++ field_lines (level + 1) c.fields texts) ++ indent level = s ∙ ap (λ z. z ++ indent level) (a ∙ ap (λ z. z ++ field_lines (level + 1) c.fields texts) d) in
+    let e : spaced ≡ ((was ++ ((c.name ++ codes " {") ++ newline)) ++ field_lines (level + 1) c.fields texts) ++ indent level =
+    s ∙ ap (λ z. z ++ indent level) (a ∙ ap (λ z. z ++ field_lines (level + 1) c.fields texts) d) in
     n ∙ (ap (λ z. z ++ codes "}") e ∙ close_group was ((c.name ++ codes " {") ++ newline) (field_lines (level + 1) c.fields texts) (indent level) (codes "}"))

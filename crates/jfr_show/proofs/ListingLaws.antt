@@ -20,14 +20,16 @@ pub take_next : {X : Type 0} (xs : List X) (i : ℕ) (x : X) → slice_get xs i 
 take_next xs i x is = take_more xs i x (slice_get_within xs i x is) ∙ ap (λ y. take i xs ++ y ∷ []) (get_or_from_slice_get xs i x x is)
 
 -- The piece of one member more.
-pub pieces_more : {X : Type 0} (f : X → List ℕ) (xs : List X) (i : ℕ) (x : X) (start now new : List ℕ) → slice_get xs i ≡ Some x → now ≡ start ++ flat_map f (take i xs) → new ≡ now ++ f x → new ≡ start ++ flat_map f (take (i + 1) xs)
+pub pieces_more : {X : Type 0} (f : X → List ℕ) (xs : List X) (i : ℕ) (x : X) (start now new : List ℕ) → slice_get xs i ≡ Some x → now ≡ start ++ flat_map f (take i xs) → new ≡ now ++ f x
+    → new ≡ start ++ flat_map f (take (i + 1) xs)
 pieces_more f xs i x start now new is so next = next ∙ (ap (λ z. z ++ f x) so ∙ (flat_map_more f start (take i xs) x ∙ ap (λ z. start ++ flat_map f z) (sym (take_next xs i x is))))
 
 joined : (a b c d e : List ℕ) → (((a ++ b) ++ c) ++ d) ++ e ≡ a ++ ((b ++ (c ++ d)) ++ e)
 joined a b c d e = simp append_assoc refl
 
 -- The line of categories, from its parts.
-pub categories_shown : (cs others : List (List ℕ)) (first : List ℕ) (n : ℕ) (was a b now : List ℕ) → cs ≡ first ∷ others → length others ≤ n → a ≡ was ++ codes "  category " → b ≡ a ++ quoted first → now ≡ b ++ flat_map (λ c. codes ", " ++ quoted c) (take n others) → now ++ newline ≡ was ++ categories_line cs
+pub categories_shown : (cs others : List (List ℕ)) (first : List ℕ) (n : ℕ) (was a b now : List ℕ) → cs ≡ first ∷ others → length others ≤ n → a ≡ was ++ codes "  category " → b ≡ a ++ quoted first
+    → now ≡ b ++ flat_map (λ c. codes ", " ++ quoted c) (take n others) → now ++ newline ≡ was ++ categories_line cs
 categories_shown cs others first n was a b now is all p q r =
     let word : List ℕ = codes "  category " in
     let rest : List ℕ = flat_map (λ c. codes ", " ++ quoted c) others in
@@ -36,12 +38,14 @@ categories_shown cs others first n was a b now is all p q r =
     e ∙ (joined was word (quoted first) rest newline ∙ ap (λ z. was ++ categories_line z) (sym is))
 
 -- The lines of a chunk's classes, from their parts.
-pub metadata_is : (p : Parts) (k : Classes) (number n : ℕ) (was a b d now : List ℕ) → k ≡ p.classes → length k ≤ n → a ≡ was ++ codes "chunk " → b ≡ a ++ decimal number → d ≡ b ++ newline → now ≡ d ++ flat_map (class_lines k) (take n k) → now ≡ was ++ metadata_shown p number
+pub metadata_is : (p : Parts) (k : Classes) (number n : ℕ) (was a b d now : List ℕ) → k ≡ p.classes → length k ≤ n → a ≡ was ++ codes "chunk " → b ≡ a ++ decimal number → d ≡ b ++ newline
+    → now ≡ d ++ flat_map (class_lines k) (take n k) → now ≡ was ++ metadata_shown p number
 unfolding metadata_shown
 metadata_is p k number n was a b d now same all e f g h =
     let word : List ℕ = codes "chunk " in
     let rest : List ℕ = flat_map (class_lines p.classes) p.classes in
-    h ∙ (ap (λ z. d ++ flat_map (class_lines k) z) (take_all n k all) ∙ (ap (λ z. d ++ flat_map (class_lines z) z) same ∙ ap (λ z. z ++ rest) (g ∙ (ap (λ z. z ++ newline) (f ∙ ap (λ z. z ++ decimal number) e))) ∙ simp append_assoc refl))
+    h ∙ (ap (λ z. d ++ flat_map (class_lines k) z) (take_all n k all)
+    ∙ (ap (λ z. d ++ flat_map (class_lines z) z) same ∙ ap (λ z. z ++ rest) (g ∙ (ap (λ z. z ++ newline) (f ∙ ap (λ z. z ++ decimal number) e))) ∙ simp append_assoc refl))
 
 -- One line with a number more.
 pub line_more : (was now new lines word : List ℕ) (n m : ℕ) → now ≡ was ++ lines → new ≡ now ++ number_line word n → n ≡ m → new ≡ was ++ (lines ++ number_line word m)

@@ -32,7 +32,8 @@ pub line_added : (was new text : List ℕ) (d : Data) → text ≡ compact_text 
 line_added was new text d e h = h ∙ ap (λ z. was ++ (chars z ++ newline)) e
 
 -- The objects.
-pub tally_text : (name : List ℕ) (t : Tally) → codes "{\"name\":" ++ (compact_text (string name) ++ ((codes ",\"events\":" ++ decimal t.events) ++ ((codes ",\"bytes\":" ++ decimal t.bytes) ++ codes "}"))) ≡ compact_text (tally_json (name, t))
+pub tally_text : (name : List ℕ) (t : Tally)
+    → codes "{\"name\":" ++ (compact_text (string name) ++ ((codes ",\"events\":" ++ decimal t.events) ++ ((codes ",\"bytes\":" ++ decimal t.bytes) ++ codes "}"))) ≡ compact_text (tally_json (name, t))
 unfolding serde_json_on_literals
 tally_text name t = refl
 
@@ -73,7 +74,8 @@ unfolding serde_json_on_literals
 class_text number k c = refl
 
 -- The lines of a chunk's classes.
-pub lines_are : (p : Parts) (number n : ℕ) (was now : List ℕ) → length p.classes ≤ n → now ≡ was ++ flat_map (λ c. json_line (class_json number p.classes c)) (take n p.classes) → now ≡ was ++ metadata_json p number
+pub lines_are : (p : Parts) (number n : ℕ) (was now : List ℕ) → length p.classes ≤ n → now ≡ was ++ flat_map (λ c. json_line (class_json number p.classes c)) (take n p.classes)
+    → now ≡ was ++ metadata_json p number
 unfolding metadata_json
 lines_are p number n was now all h =
     h ∙ ap (λ z. was ++ flat_map (λ c. json_line (class_json number p.classes c)) z) (take_all n p.classes all)

@@ -73,7 +73,8 @@ below_put n key d (member l e ms) x b = by_order (slice_cmp nat_cmp key l) (belo
 
 below_with : (n m : ℕ) (ms : Members) (fs : List Field) → m + length fs ≤ n → Below n ms → Below n (members_with ms fs (numbers m fs))
 below_with n m ms [] l b = b
-below_with n m ms (f ∷ fs) l b = below_with n (suc m) (put (encode_utf8_all f.name) (number (unsigned m)) ms) fs (omega (arith, l)) (below_put n (encode_utf8_all f.name) (number (unsigned m)) ms (omega (arith, l)) b)
+below_with n m ms (f ∷ fs) l b = below_with n (suc m) (put (encode_utf8_all f.name) (number (unsigned m)) ms) fs (omega (arith, l))
+    (below_put n (encode_utf8_all f.name) (number (unsigned m)) ms (omega (arith, l)) b)
 
 below_leads : (n : ℕ) (later : Bool) (ms : Members) → Below n ms → AllByRecursion (λ m. m.1 < n) (leads later ms)
 below_leads n later no_members b = tt
@@ -90,7 +91,8 @@ order_is fs ms e = subst (λ z. IsOrder fs (leads false z)) (sym e) (record {
 })
 
 -- The fields from a number on, with their numbers.
-pub one_number : (fs gs : List Field) (f : Field) (n : ℕ) (key : List ℕ) (d : Data) (made new : Members) → fs ≡ f ∷ gs → key ≡ encode_utf8_all f.name → d ≡ number (unsigned n) → new ≡ put key d made → members_with made fs (numbers n fs) ≡ members_with new gs (numbers (n + 1) gs)
+pub one_number : (fs gs : List Field) (f : Field) (n : ℕ) (key : List ℕ) (d : Data) (made new : Members) → fs ≡ f ∷ gs → key ≡ encode_utf8_all f.name → d ≡ number (unsigned n) → new ≡ put key d made
+    → members_with made fs (numbers n fs) ≡ members_with new gs (numbers (n + 1) gs)
 one_number fs gs f n key d made new e q x h =
     let more : suc n ≡ n + 1 = omega arith in
     ap (λ z. members_with made z (numbers n z)) e

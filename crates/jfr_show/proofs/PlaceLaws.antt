@@ -11,7 +11,8 @@ use Rattle.jfr_layout.specs.Events.{event_index}
 use Rattle.jfr_show.specs.Names.{class_name}
 
 -- The member that is found is at its position.
-stands_by : {X : Type 0} (p : X → Bool) (xs : List X) (n : ℕ) (b : Bool) → nat_lt (position_or_len p xs) (length xs) ≡ b → cond b (Some (position_or_len p xs)) None ≡ Some n → find p xs ≡ slice_get xs n
+stands_by : {X : Type 0} (p : X → Bool) (xs : List X) (n : ℕ) (b : Bool) → nat_lt (position_or_len p xs) (length xs) ≡ b → cond b (Some (position_or_len p xs)) None ≡ Some n
+    → find p xs ≡ slice_get xs n
 stands_by p xs n true e q = let s : position_or_len p xs ≡ n = cc in find_at p xs ∙ ap (slice_get xs) s
 stands_by p xs n false e q = cc
 

@@ -29,7 +29,8 @@ module _ (k : Classes) (c : List ℕ) where
   pub no_starts : (from : ℕ) (made : List ℕ) → onto_starts from made Nil ≡ made
   no_starts from made = append-nil made
 
-  pub one_start : (s : Shape) (from p end : ℕ) (made new : List ℕ) (v : Value) (vs : Values) → IsNode k c (node_at s from p) v → end ≡ p → new ≡ made ++ from ∷ [] → onto_starts from made (Cons v vs) ≡ onto_starts end new vs
+  pub one_start : (s : Shape) (from p end : ℕ) (made new : List ℕ) (v : Value) (vs : Values) → IsNode k c (node_at s from p) v → end ≡ p → new ≡ made ++ from ∷ []
+      → onto_starts from made (Cons v vs) ≡ onto_starts end new vs
   one_start s from p end made new v vs i e n =
       let there : from + length (bytes_of v) ≡ end = (let l = range_length c from p i.within in let b = ap length i.bytes in let o = i.order in omega arith) in
       sym (append_assoc made (from ∷ []) (starts (from + length (bytes_of v)) vs)) ∙ (ap (λ z. (made ++ from ∷ []) ++ starts z vs) there ∙ ap (λ z. z ++ starts end vs) (sym n))
@@ -92,13 +93,15 @@ lay_group : (a b c d : List ℕ) → a ++ (b ++ (c ++ d)) ≡ ((a ++ b) ++ c) ++
 lay_group a b c d = simp append_assoc
 
 -- A value more is laid out.
-pub lay_one : (m : List ℕ × ℕ) (ms all : List (List ℕ × ℕ)) (ds : List Data) (d : Data) (was led new : List ℕ) → all ≡ m ∷ ms → led ≡ was ++ m.0 → nth ds m.1 ≡ d → new ≡ led ++ compact_text d → was ++ laid_out all ds ≡ new ++ laid_out ms ds
+pub lay_one : (m : List ℕ × ℕ) (ms all : List (List ℕ × ℕ)) (ds : List Data) (d : Data) (was led new : List ℕ) → all ≡ m ∷ ms → led ≡ was ++ m.0 → nth ds m.1 ≡ d → new ≡ led ++ compact_text d
+    → was ++ laid_out all ds ≡ new ++ laid_out ms ds
 lay_one m ms all ds d was led new a l e n =
     let value : new ≡ (was ++ m.0) ++ compact_text (nth ds m.1) = n ∙ (ap (λ z. z ++ compact_text d) l ∙ ap (λ z. (was ++ m.0) ++ compact_text z) (sym e)) in
     ap (λ z. was ++ laid_out z ds) a ∙ (lay_group was m.0 (compact_text (nth ds m.1)) (laid_out ms ds) ∙ ap (λ z. z ++ laid_out ms ds) (sym value))
 
 -- All are, between braces.
-pub lay_all : (fs : List Field) (ms : List (List ℕ × ℕ)) (ds : List Data) (was begun all new : List ℕ) → IsOrder fs ms → length ds ≡ length fs → begun ≡ was ++ 123 ∷ [] → all ++ laid_out [] ds ≡ begun ++ laid_out ms ds → new ≡ all ++ 125 ∷ [] → new ≡ was ++ compact_text (object (members_with no_members fs ds))
+pub lay_all : (fs : List Field) (ms : List (List ℕ × ℕ)) (ds : List Data) (was begun all new : List ℕ) → IsOrder fs ms → length ds ≡ length fs → begun ≡ was ++ 123 ∷ []
+    → all ++ laid_out [] ds ≡ begun ++ laid_out ms ds → new ≡ all ++ 125 ∷ [] → new ≡ was ++ compact_text (object (members_with no_members fs ds))
 lay_all fs ms ds was begun all new o l b a n =
     n ∙ (a ∙ (ap (λ z. z ++ laid_out ms ds) b ∙ (append_assoc was (123 ∷ []) (laid_out ms ds) ∙ ap (λ z. was ++ 123 ∷ z) (sym (o.exact ds l)))))
 
@@ -149,7 +152,8 @@ ordered k place o ls a l q =
 pub below_fields : (k : Classes) (place : ℕ) (ls : List Lead) (i : ℕ) (x : Lead) (o : Ordered k place ls) → slice_get ls i ≡ Some x → x.field < length o.class.fields
 below_fields k place ls i x o g = all_at (λ m. m.1 < length o.class.fields) (map lead_of ls) i (lead_of x) o.order.within (leads_at ls i x g)
 
-pub below_layouts : (k : Classes) (place : ℕ) (ls : List Lead) (i : ℕ) (x : Lead) (ss : List FieldLayout) → Ordered k place ls → place < length k → IfSome (slice_get k place) (λ c. AreFieldLayouts k c.fields ss) → slice_get ls i ≡ Some x → x.field < length ss
+pub below_layouts : (k : Classes) (place : ℕ) (ls : List Lead) (i : ℕ) (x : Lead) (ss : List FieldLayout) → Ordered k place ls → place < length k
+    → IfSome (slice_get k place) (λ c. AreFieldLayouts k c.fields ss) → slice_get ls i ≡ Some x → x.field < length ss
 below_layouts k place ls i x ss o l a g =
     let s = layouts_of k place ss l a in
     let same : s.class ≡ o.class = (let z : Some s.class ≡ Some o.class = sym s.there ∙ o.there in cc) in

@@ -20,7 +20,8 @@ turned : (s : Tally) → both s no_tally ≡ both no_tally s
 turned s = tally_path _ _ (omega arith) (omega arith)
 
 -- The tally of a class, with a record more.
-class_tally-push : (k : Classes) (leaders : List ℕ) (i : ℕ) (rs : List Framed) (r : Framed) → class_tally k leaders (rs ++ r ∷ []) i ≡ both (class_tally k leaders rs i) (single (is_at k leaders i r) r)
+class_tally-push : (k : Classes) (leaders : List ℕ) (i : ℕ) (rs : List Framed) (r : Framed)
+    → class_tally k leaders (rs ++ r ∷ []) i ≡ both (class_tally k leaders rs i) (single (is_at k leaders i r) r)
 class_tally-push k leaders i [] r = class_tally-cons k leaders i r [] ∙ turned (single (is_at k leaders i r) r)
 class_tally-push k leaders i (x ∷ xs) r =
     class_tally-cons k leaders i x (xs ++ r ∷ [])
@@ -32,27 +33,35 @@ both_none : (s : Tally) → both s no_tally ≡ s
 both_none s = tally_path _ _ (omega arith) (omega arith)
 
 -- A record that is no event leaves the tallies as they are.
-pub other_counted : (k : Classes) (leaders : List ℕ) (rs : List Framed) (r : Framed) (ts : List Tally) → is_event_class k r.type_id ≡ false → AreTallies k leaders rs ts → AreTallies k leaders (rs ++ r ∷ []) ts
+pub other_counted : (k : Classes) (leaders : List ℕ) (rs : List Framed) (r : Framed) (ts : List Tally) → is_event_class k r.type_id ≡ false → AreTallies k leaders rs ts
+    → AreTallies k leaders (rs ++ r ∷ []) ts
 other_counted k leaders rs r ts no_event a = record {
   count = a.count;
-  each = λ i h. a.each i h ∙ ap Some (sym (class_tally-push k leaders i rs r ∙ (ap (λ b. both (class_tally k leaders rs i) (single (option_map_or (λ n. n == i) (option_and_then (slice_get leaders) (cond b (class_index k r.type_id) None)) false) r)) no_event ∙ both_none (class_tally k leaders rs i))));
+  each = λ i h. a.each i h ∙ ap Some (sym (class_tally-push k leaders i rs r
+      ∙ (ap (λ b. both (class_tally k leaders rs i) (single (option_map_or (λ n. n == i) (option_and_then (slice_get leaders) (cond b (class_index k r.type_id) None)) false) r)) no_event
+      ∙ both_none (class_tally k leaders rs i))));
 }
 
 -- An event is counted at the leader of its class.
-at_leader : (k : Classes) (leaders : List ℕ) (rs : List Framed) (r : Framed) (ts : List Tally) (leader : ℕ) (v none : Tally) → leader_of k leaders r.type_id ≡ Some leader → AreTallies k leaders rs ts → v ≡ both (get_or ts leader none) (record { events = 1; bytes = r.size })
+at_leader : (k : Classes) (leaders : List ℕ) (rs : List Framed) (r : Framed) (ts : List Tally) (leader : ℕ) (v none : Tally) → leader_of k leaders r.type_id ≡ Some leader → AreTallies k leaders rs ts
+    → v ≡ both (get_or ts leader none) (record { events = 1; bytes = r.size })
     → (i : ℕ) → i < length k → (b : Bool) → (leader == i) ≡ b → slice_get (slice_set ts leader v) i ≡ Some (both (class_tally k leaders rs i) (single b r))
 at_leader k leaders rs r ts leader v none is a e i h true q =
     let same : leader ≡ i = eqb-true leader i q in
     let w : i < length ts = let c = a.count in omega arith in
     let l : i < length (slice_set ts leader v) = let c = length-set ts leader v in omega arith in
     slice_get-get_or (slice_set ts leader v) i v l
-    ∙ ap Some (ap (λ n. get_or (slice_set ts n v) i v) same ∙ (get_or-set_same ts i v v w ∙ (e ∙ ap (λ t. both t (record { events = 1; bytes = r.size })) (ap (λ n. get_or ts n none) same ∙ get_or_from_slice_get ts i (class_tally k leaders rs i) none (a.each i h)))))
+    ∙ ap Some (ap (λ n. get_or (slice_set ts n v) i v) same
+    ∙ (get_or-set_same ts i v v w ∙ (e ∙ ap (λ t. both t (record { events = 1; bytes = r.size }))
+    (ap (λ n. get_or ts n none) same ∙ get_or_from_slice_get ts i (class_tally k leaders rs i) none (a.each i h)))))
 at_leader k leaders rs r ts leader v none is a e i h false q =
     let l : i < length (slice_set ts leader v) = let c = length-set ts leader v in let d = a.count in omega arith in
     slice_get-get_or (slice_set ts leader v) i none l
-    ∙ ap Some (get_or-set_other ts leader i v none (λ f. (let g : (leader == i) ≡ true = grind (arith, nat_tests) in cc)) ∙ (get_or_from_slice_get ts i (class_tally k leaders rs i) none (a.each i h) ∙ sym (both_none (class_tally k leaders rs i))))
+    ∙ ap Some (get_or-set_other ts leader i v none (λ f. (let g : (leader == i) ≡ true = grind (arith, nat_tests) in cc))
+    ∙ (get_or_from_slice_get ts i (class_tally k leaders rs i) none (a.each i h) ∙ sym (both_none (class_tally k leaders rs i))))
 
-pub event_counted : (k : Classes) (leaders : List ℕ) (rs : List Framed) (r : Framed) (ts : List Tally) (leader : ℕ) (v none : Tally) → leader_of k leaders r.type_id ≡ Some leader → v ≡ both (get_or ts leader none) (record { events = 1; bytes = r.size }) → AreTallies k leaders rs ts → AreTallies k leaders (rs ++ r ∷ []) (slice_set ts leader v)
+pub event_counted : (k : Classes) (leaders : List ℕ) (rs : List Framed) (r : Framed) (ts : List Tally) (leader : ℕ) (v none : Tally) → leader_of k leaders r.type_id ≡ Some leader
+    → v ≡ both (get_or ts leader none) (record { events = 1; bytes = r.size }) → AreTallies k leaders rs ts → AreTallies k leaders (rs ++ r ∷ []) (slice_set ts leader v)
 event_counted k leaders rs r ts leader v none is e a = record {
   count = length-set ts leader v ∙ a.count;
   each = λ i h.
@@ -80,7 +89,9 @@ counted_small k leaders rs n i ts w small a = record {
 }
 
 -- One record more is counted; the tallies are at the front of their vector.
-pub next_counted : (k : Classes) (leaders : List ℕ) (rs : List Framed) (i n : ℕ) (r : Framed) (old new rest : List Tally) → slice_get rs i ≡ Some r → length new ≡ n → AreTallies k leaders (take i rs) old → ((xs : List Framed) → AreTallies k leaders xs old → AreTallies k leaders (xs ++ r ∷ []) new) → AreTallies k leaders (take (i + 1) rs) (take n (new ++ rest))
+pub next_counted : (k : Classes) (leaders : List ℕ) (rs : List Framed) (i n : ℕ) (r : Framed) (old new rest : List Tally) → slice_get rs i ≡ Some r → length new ≡ n
+    → AreTallies k leaders (take i rs) old → ((xs : List Framed) → AreTallies k leaders xs old → AreTallies k leaders (xs ++ r ∷ []) new)
+    → AreTallies k leaders (take (i + 1) rs) (take n (new ++ rest))
 next_counted k leaders rs i n r old new rest there l a step =
     let front : take n (new ++ rest) ≡ new = ap (λ m. take m (new ++ rest)) (sym l) ∙ take-append_seam new rest in
     subst (λ xs. AreTallies k leaders xs (take n (new ++ rest))) (sym (take_next rs i r there)) (subst (AreTallies k leaders (take i rs ++ r ∷ [])) (sym front) (step (take i rs) a))

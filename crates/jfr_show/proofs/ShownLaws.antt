@@ -42,10 +42,12 @@ no_key s n = by_kind s.kind n
 
 -- A composite value and an array, by their parts.
 module _ (k : Classes) (refer : ℕ → ℕ × ℕ → List ℕ) (level : ℕ) where
-  pub composite_shown : (s : Shape) (head : List ℕ) (parts : Values) (v : Value) (d : Class) → v ≡ Group s head parts → s.array ≡ false → find_class k s.class ≡ Some d → shown k refer level v ≡ fields_shown level d (shown_all k refer (level + 1) parts)
+  pub composite_shown : (s : Shape) (head : List ℕ) (parts : Values) (v : Value) (d : Class) → v ≡ Group s head parts → s.array ≡ false → find_class k s.class ≡ Some d
+      → shown k refer level v ≡ fields_shown level d (shown_all k refer (level + 1) parts)
   composite_shown s head parts v d e a f =
       let texts : List (List ℕ) = shown_all k refer (level + 1) parts in
-      ap (shown k refer level) e ∙ (ap (λ z. if z then items_shown level texts else option_map_or (λ c. fields_shown level c texts) (find_class k s.class) []) a ∙ ap (λ z. option_map_or (λ c. fields_shown level c texts) z []) f)
+      ap (shown k refer level) e ∙ (ap (λ z. if z then items_shown level texts else option_map_or (λ c. fields_shown level c texts) (find_class k s.class) []) a
+      ∙ ap (λ z. option_map_or (λ c. fields_shown level c texts) z []) f)
 
   pub array_shown : (s : Shape) (head : List ℕ) (parts : Values) (v : Value) → v ≡ Group s head parts → s.array ≡ true → shown k refer level v ≡ items_shown level (shown_all k refer (level + 1) parts)
   array_shown s head parts v e a =
@@ -77,12 +79,21 @@ module _ (k : Classes) (refer : ℕ → ℕ × ℕ → List ℕ) (level : ℕ) (
       let f = is_reference k c at to s is v i e n r in
       (f.ends, as_text (refer level (s.shape.class, n.value)) (ap (shown k refer level) f.value) h)
 
-  pub key_shown : s.form ≡ forms.Text → (span : StringSpan) → run (string_format true) c (length c) at ≡ Ok (record { value = content_of span; place = span.end }) → span.kind ≡ span_kinds.Key → new ≡ was ++ refer level (s.shape.class, span.key) → IsShown span.end
+  pub key_shown : s.form ≡ forms.Text → (span : StringSpan) → run (string_format true) c (length c) at ≡ Ok (record { value = content_of span; place = span.end }) → span.kind ≡ span_kinds.Key
+      → new ≡ was ++ refer level (s.shape.class, span.key) → IsShown span.end
   key_shown e span r q h =
-      let f = is_text k c at to s is v i e (content_of span) span.end r in
-      (f.ends, as_text (refer level (s.shape.class, span.key)) (ap (shown k refer level) f.value ∙ ap (λ z. shown k refer level (Single s.shape (leaf_kinds.Base kinds.Text) (slice_range c at to) z)) (key_in span q)) h)
+      let f = is_text k c at to s is v i e (content_of span) span.end r in (
+        f.ends,
+        as_text (refer level (s.shape.class, span.key))
+            (ap (shown k refer level) f.value ∙ ap (λ z. shown k refer level (Single s.shape (leaf_kinds.Base kinds.Text) (slice_range c at to) z)) (key_in span q)) h,
+      )
 
-  pub string_shown : s.form ≡ forms.Text → (span : StringSpan) → run (string_format true) c (length c) at ≡ Ok (record { value = content_of span; place = span.end }) → span.kind ≢ span_kinds.Key → new ≡ was ++ option_map_or quoted (strings.text_of (content_of span)) (codes "null") → IsShown span.end
+  pub string_shown : s.form ≡ forms.Text → (span : StringSpan) → run (string_format true) c (length c) at ≡ Ok (record { value = content_of span; place = span.end }) → span.kind ≢ span_kinds.Key
+      → new ≡ was ++ option_map_or quoted (strings.text_of (content_of span)) (codes "null") → IsShown span.end
   string_shown e span r q h =
-      let f = is_text k c at to s is v i e (content_of span) span.end r in
-      (f.ends, as_text (option_map_or quoted (strings.text_of (content_of span)) (codes "null")) (ap (shown k refer level) f.value ∙ (ap (λ z. shown k refer level (Single s.shape (leaf_kinds.Base kinds.Text) (slice_range c at to) z)) (no_key span q) ∙ ap (λ z. option_map_or quoted z (codes "null")) f.text)) h)
+      let f = is_text k c at to s is v i e (content_of span) span.end r in (
+        f.ends,
+        as_text (option_map_or quoted (strings.text_of (content_of span)) (codes "null"))
+            (ap (shown k refer level) f.value ∙ (ap (λ z. shown k refer level (Single s.shape (leaf_kinds.Base kinds.Text) (slice_range c at to) z)) (no_key span q)
+            ∙ ap (λ z. option_map_or quoted z (codes "null")) f.text)) h,
+      )

@@ -49,7 +49,8 @@ records_within c rs t = let i = tiles_within c 68 (length c) rs t in record { co
 -- Each of the records is as small.
 pub record_within : (rs : List Framed) (n i : ℕ) (r : Framed) → AreWithin rs n → slice_get rs i ≡ Some r → r.size ≤ n
 record_within rs n i r w g =
-    let a : r.size ≤ sum_by (λ (r : Framed). r.size) rs = subst (λ (x : Framed). x.size ≤ sum_by (λ (r : Framed). r.size) rs) (get_or_from_slice_get rs i r r g) (get_or-le-sum_by (λ (r : Framed). r.size) rs i r (slice_get_within rs i r g)) in
+    let a : r.size ≤ sum_by (λ (r : Framed). r.size) rs =
+    subst (λ (x : Framed). x.size ≤ sum_by (λ (r : Framed). r.size) rs) (get_or_from_slice_get rs i r r g) (get_or-le-sum_by (λ (r : Framed). r.size) rs i r (slice_get_within rs i r g)) in
     let b = w.bytes in
     omega arith
 
@@ -58,7 +59,8 @@ pub front_within : (rs : List Framed) (n i : ℕ) → AreWithin rs n → AreWith
 front_within rs n i w = let a = w.count in let b = w.bytes in let c = sum_by-take-le (λ (r : Framed). r.size) rs i in let d = length-take i rs in record { count = omega arith; bytes = omega arith }
 
 -- Those records that pass a test, as events.
-chosen_most : (k : Classes) (test : Framed → Bool) (rs : List Framed) → (length (map (occurrence k) (filter test rs)) ≤ length rs) × (sum_by (λ e. e.size) (map (occurrence k) (filter test rs)) ≤ sum_by (λ r. r.size) rs)
+chosen_most : (k : Classes) (test : Framed → Bool) (rs : List Framed)
+    → (length (map (occurrence k) (filter test rs)) ≤ length rs) × (sum_by (λ e. e.size) (map (occurrence k) (filter test rs)) ≤ sum_by (λ r. r.size) rs)
 chosen_most k test [] = (omega arith, omega arith)
 chosen_most k test (r ∷ rs) = by_test (test r) (chosen_most k test rs)
   where
@@ -102,7 +104,8 @@ named_within : (q : List ℕ) (es : List Occurrence) (n : ℕ) → IsWithin (tal
 named_within q es n w = let i = named_most q es in let a = i.0 in let b = i.1 in let c = w.events in let d = w.bytes in record { events = omega arith; bytes = omega arith }
 
 -- What is added stays as far below as it adds.
-added_within : (o : Option Tally) (s t : Tally) (most n : ℕ) → ((kept : Tally) → o ≡ Some kept → (kept.events ≤ most) × (kept.bytes ≤ most)) → IsWithin s n → added o s ≡ Some t → (t.events ≤ most + n) × (t.bytes ≤ most + n)
+added_within : (o : Option Tally) (s t : Tally) (most n : ℕ) → ((kept : Tally) → o ≡ Some kept → (kept.events ≤ most) × (kept.bytes ≤ most)) → IsWithin s n → added o s ≡ Some t
+    → (t.events ≤ most + n) × (t.bytes ≤ most + n)
 added_within o s t most n h w e = by_events (s.events == 0) o h e
   where
     by_kept : (o : Option Tally) → ((kept : Tally) → o ≡ Some kept → (kept.events ≤ most) × (kept.bytes ≤ most)) → both (unwrap_or o no_tally) s ≡ t → (t.events ≤ most + n) × (t.bytes ≤ most + n)
@@ -125,7 +128,8 @@ added_within o s t most n h w e = by_events (s.events == 0) o h e
         let d = w.bytes in
         (omega arith, omega arith)
 
-    by_events : (b : Bool) (o : Option Tally) → ((kept : Tally) → o ≡ Some kept → (kept.events ≤ most) × (kept.bytes ≤ most)) → cond b o (Some (both (unwrap_or o no_tally) s)) ≡ Some t → (t.events ≤ most + n) × (t.bytes ≤ most + n)
+    by_events : (b : Bool) (o : Option Tally) → ((kept : Tally) → o ≡ Some kept → (kept.events ≤ most) × (kept.bytes ≤ most)) → cond b o (Some (both (unwrap_or o no_tally) s)) ≡ Some t
+        → (t.events ≤ most + n) × (t.bytes ≤ most + n)
     by_events true o h e = let k = h t e in let f = k.0 in let g = k.1 in (omega arith, omega arith)
     by_events false o h e = by_kept o h (ap (λ z. unwrap_or z t) e)
 
@@ -137,14 +141,17 @@ pub below_fits : (m : Tallies) (q : List ℕ) (t : Tally) (most n : ℕ) → Are
 below_fits m q t most n b w h = record { each = λ kept e. (let k = b.each q kept e in let f = k.0 in let g = k.1 in let c = w.events in let d = w.bytes in (omega arith, omega arith)) }
 
 -- The events of a chunk are its records of event classes.
-named_events : (c : List ℕ) (k : Classes) (rs : List Framed) → AllByRecursion (IsRecord c) rs → AllByRecursion (HasFields c k) rs → map (λ e. occurrence k e.record_of) (filter_map (event_of c k) rs) ≡ map (occurrence k) rs
+named_events : (c : List ℕ) (k : Classes) (rs : List Framed) → AllByRecursion (IsRecord c) rs → AllByRecursion (HasFields c k) rs
+    → map (λ e. occurrence k e.record_of) (filter_map (event_of c k) rs) ≡ map (occurrence k) rs
 named_events c k [] a h = refl
 named_events c k (r ∷ rs) a h =
-    ap (λ z. map (λ e. occurrence k e.record_of) (cons_option (event_by r z) (filter_map (event_of c k) rs))) (reads_computed c (record_end r) a.0.within (value_format k (inline r.type_id)) r.body h.0.0 h.0.1 a.0.covers h.0.2)
+    ap (λ z. map (λ e. occurrence k e.record_of) (cons_option (event_by r z) (filter_map (event_of c k) rs)))
+    (reads_computed c (record_end r) a.0.within (value_format k (inline r.type_id)) r.body h.0.0 h.0.1 a.0.covers h.0.2)
     ∙ ap (λ es. occurrence k r ∷ es) (named_events c k rs a.1 h.1)
 
 pub occurrences_are : (p : Parts) → AreParts p → occurrences p ≡ map (occurrence p.classes) (event_records p.classes p.records)
 unfolding events_of
 occurrences_are p a =
     let rs = event_records p.classes p.records in
-    named_events p.bytes p.classes rs (filter_all (IsRecord p.bytes) (λ r. is_event_class p.classes r.type_id) p.records (tiles_each p.bytes 68 (length p.bytes) p.records a.records)) (recursion_from_All (HasFields p.bytes p.classes) rs a.events)
+    named_events p.bytes p.classes rs (filter_all (IsRecord p.bytes) (λ r. is_event_class p.classes r.type_id) p.records (tiles_each p.bytes 68 (length p.bytes) p.records a.records))
+    (recursion_from_All (HasFields p.bytes p.classes) rs a.events)

@@ -36,7 +36,8 @@ under : (b : Bool) (kept o : Option Tally) (t : Tally) → (t.events == 0) ≡ f
 under true kept o t h same = ap (λ k. Some (both (unwrap_or k no_tally) t)) (sym (same refl)) ∙ sym (ap (λ z. cond z o (Some (both (unwrap_or o no_tally) t))) h)
 under false kept o t h same = refl
 
-adds_by : (m n : TallyMap) (name : List ℕ) (kept : Option Tally) (t v : Tally) → (t.events == 0) ≡ false → get_by_text m name ≡ kept → v ≡ both (unwrap_or kept no_tally) t → UpdatesBy string_cmp (λ k. slice_cmp nat_cmp name (string_bytes k)) m n (Some v) → AddsTally (tallies_in m) name t (tallies_in n)
+adds_by : (m n : TallyMap) (name : List ℕ) (kept : Option Tally) (t v : Tally) → (t.events == 0) ≡ false → get_by_text m name ≡ kept → v ≡ both (unwrap_or kept no_tally) t
+    → UpdatesBy string_cmp (λ k. slice_cmp nat_cmp name (string_bytes k)) m n (Some v) → AddsTally (tallies_in m) name t (tallies_in n)
 adds_by m n name kept t v h is e u = record {
   each = λ q.
       changed Tally m n name v u q
@@ -45,14 +46,17 @@ adds_by m n name kept t v h is e u = record {
 }
 
 -- The tally under a name is replaced by that and another.
-pub adds_kept : (m n : TallyMap) (name : List ℕ) (kept t v : Tally) → (t.events == 0) ≡ false → Some kept ≡ get_by_text m name → v ≡ both kept t → UpdatesBy string_cmp (λ k. slice_cmp nat_cmp name (string_bytes k)) m n (Some v) → AddsTally (tallies_in m) name t (tallies_in n)
+pub adds_kept : (m n : TallyMap) (name : List ℕ) (kept t v : Tally) → (t.events == 0) ≡ false → Some kept ≡ get_by_text m name → v ≡ both kept t
+    → UpdatesBy string_cmp (λ k. slice_cmp nat_cmp name (string_bytes k)) m n (Some v) → AddsTally (tallies_in m) name t (tallies_in n)
 adds_kept m n name kept t v h is e u = adds_by m n name (Some kept) t v h (sym is) e u
 
 -- A tally is put under a name that had none.
-pub adds_new : (m looked n : TallyMap) (key : String Global) (name : List ℕ) (t : Tally) → looked ≡ m → (t.events == 0) ≡ false → string_bytes key ≡ name → None ≡ get_by_text m name → UpdatesBy string_cmp (string_cmp key) looked n (Some t) → AddsTally (tallies_in m) name t (tallies_in n)
+pub adds_new : (m looked n : TallyMap) (key : String Global) (name : List ℕ) (t : Tally) → looked ≡ m → (t.events == 0) ≡ false → string_bytes key ≡ name → None ≡ get_by_text m name
+    → UpdatesBy string_cmp (string_cmp key) looked n (Some t) → AddsTally (tallies_in m) name t (tallies_in n)
 adds_new m looked n key name t same h k is u =
     let alone : t ≡ both no_tally t = tally_path t (both no_tally t) (omega arith) (omega arith) in
-    let at : AddsTally (tallies_in m) (string_bytes key) t (tallies_in n) = adds_by m n (string_bytes key) None t t h (ap (get_by_text m) k ∙ sym is) alone (subst (λ z. UpdatesBy string_cmp (string_cmp key) z n (Some t)) same u) in
+    let at : AddsTally (tallies_in m) (string_bytes key) t (tallies_in n) =
+    adds_by m n (string_bytes key) None t t h (ap (get_by_text m) k ∙ sym is) alone (subst (λ z. UpdatesBy string_cmp (string_cmp key) z n (Some t)) same u) in
     subst (λ z. AddsTally (tallies_in m) z t (tallies_in n)) k at
 
 -- The entries of the map, in order.

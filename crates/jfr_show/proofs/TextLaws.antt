@@ -38,7 +38,8 @@ two_more zero = refl
 two_more (suc m) = ap (λ (z : List ℕ). 32 ∷ z) (two_more m)
 
 pub indent_more : (start now : List ℕ) (n : ℕ) → now ≡ start ++ replicate (2 * n) 32 → now ++ 32 ∷ 32 ∷ [] ≡ start ++ replicate (2 * (n + 1)) 32
-indent_more start now n e = ap (λ z. z ++ two) e ∙ (append_assoc start (spaces (2 * n)) two ∙ ap (λ z. start ++ z) (two_more (2 * n) ∙ (let q : suc (suc (2 * n)) ≡ 2 * (n + 1) = omega arith in ap spaces q)))
+indent_more start now n e = ap (λ z. z ++ two) e
+    ∙ (append_assoc start (spaces (2 * n)) two ∙ ap (λ z. start ++ z) (two_more (2 * n) ∙ (let q : suc (suc (2 * n)) ≡ 2 * (n + 1) = omega arith in ap spaces q)))
 
 pub indent_part : (start now : List ℕ) (n level : ℕ) → n < level → now ≡ start ++ replicate (2 * n) 32 → (k : ℕ) × (now ≡ start ++ take k (replicate (2 * level) 32))
 indent_part start now n level less e =

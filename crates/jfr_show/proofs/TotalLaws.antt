@@ -77,7 +77,8 @@ tallies_next ds es now a =
     ∙ (ap (λ xs. added None (tally_of xs)) (sym (of_name-append q ds es))
     ∙ sym (get-tallies_of (ds ++ es) q)))))
 
-first_next : (ps : List Parts) (p : Parts) → option_or (option_map (λ p. beginning_of (header_in p)) (slice_get ps 0)) (Some (beginning_of (header_in p))) ≡ option_map (λ p. beginning_of (header_in p)) (slice_get (ps ++ p ∷ []) 0)
+first_next : (ps : List Parts) (p : Parts)
+    → option_or (option_map (λ p. beginning_of (header_in p)) (slice_get ps 0)) (Some (beginning_of (header_in p))) ≡ option_map (λ p. beginning_of (header_in p)) (slice_get (ps ++ p ∷ []) 0)
 first_next [] p = refl
 first_next (x ∷ xs) p = refl
 
@@ -93,7 +94,8 @@ pub record AreNumbers (p : Parts) (n0 n1 n2 n3 n4 n5 : ℕ) : Type 0 where
   pub constants : n4 ≡ count_in_force p.entries
   pub inert : n5 ≡ length (filter (is_inert p) p.records)
 
-totals_next : (ps : List Parts) (p : Parts) (first : Option Beginning) (size duration events checkpoints constants inert : ℕ) (m : Tallies) → first ≡ option_or (totals_of ps).first (Some (beginning_of (header_in p))) → AreNumbers p size duration events checkpoints constants inert → AddsEvents (totals_of ps).tallies (occurrences p) m
+totals_next : (ps : List Parts) (p : Parts) (first : Option Beginning) (size duration events checkpoints constants inert : ℕ) (m : Tallies)
+    → first ≡ option_or (totals_of ps).first (Some (beginning_of (header_in p))) → AreNumbers p size duration events checkpoints constants inert → AddsEvents (totals_of ps).tallies (occurrences p) m
     → record { first = first; chunks = (totals_of ps).chunks + 1; bytes = (totals_of ps).bytes + size; duration = (totals_of ps).duration + duration; events = (totals_of ps).events + events; checkpoints = (totals_of ps).checkpoints + checkpoints; constants = (totals_of ps).constants + constants; inert = (totals_of ps).inert + inert; tallies = m } ≡ totals_of (ps ++ p ∷ [])
 unfolding totals_of
 totals_next ps p first size duration events checkpoints constants inert m f n a =
@@ -110,8 +112,21 @@ totals_next ps p first size duration events checkpoints constants inert m f n a 
 
 -- Totals with these numbers more.
 abbrev pub more : Totals → Option Beginning → (n0 n1 n2 n3 n4 n5 : ℕ) → Tallies → Totals
-more t first n0 n1 n2 n3 n4 n5 m = record { first = first; chunks = t.chunks + 1; bytes = t.bytes + n0; duration = t.duration + n1; events = t.events + n2; checkpoints = t.checkpoints + n3; constants = t.constants + n4; inert = t.inert + n5; tallies = m }
+more t first n0 n1 n2 n3 n4 n5 m = record {
+  first = first;
+  chunks = t.chunks + 1;
+  bytes = t.bytes + n0;
+  duration = t.duration + n1;
+  events = t.events + n2;
+  checkpoints = t.checkpoints + n3;
+  constants = t.constants + n4;
+  inert = t.inert + n5;
+  tallies = m;
+}
 
-pub totals_added : (t : Totals) (ps : List Parts) (p : Parts) (first : Option Beginning) (n0 n1 n2 n3 n4 n5 : ℕ) (m : Tallies) → t ≡ totals_of ps → first ≡ option_or t.first (Some (beginning_of (header_in p))) → AreNumbers p n0 n1 n2 n3 n4 n5 → AddsEvents t.tallies (occurrences p) m → more t first n0 n1 n2 n3 n4 n5 m ≡ totals_of (ps ++ p ∷ [])
+pub totals_added : (t : Totals) (ps : List Parts) (p : Parts) (first : Option Beginning) (n0 n1 n2 n3 n4 n5 : ℕ) (m : Tallies) → t ≡ totals_of ps
+    → first ≡ option_or t.first (Some (beginning_of (header_in p))) → AreNumbers p n0 n1 n2 n3 n4 n5 → AddsEvents t.tallies (occurrences p) m
+    → more t first n0 n1 n2 n3 n4 n5 m ≡ totals_of (ps ++ p ∷ [])
 totals_added t ps p first n0 n1 n2 n3 n4 n5 m e f n a =
-    subst (λ (t : Totals). first ≡ option_or t.first (Some (beginning_of (header_in p))) → AddsEvents t.tallies (occurrences p) m → more t first n0 n1 n2 n3 n4 n5 m ≡ totals_of (ps ++ p ∷ [])) (sym e) (λ f a. totals_next ps p first n0 n1 n2 n3 n4 n5 m f n a) f a
+    subst (λ (t : Totals). first ≡ option_or t.first (Some (beginning_of (header_in p))) → AddsEvents t.tallies (occurrences p) m → more t first n0 n1 n2 n3 n4 n5 m ≡ totals_of (ps ++ p ∷ [])) (sym e)
+    (λ f a. totals_next ps p first n0 n1 n2 n3 n4 n5 m f n a) f a

@@ -29,7 +29,8 @@ apart_less Less b e h = ap is_eq e
 apart_less Equal b e h = absurd h
 apart_less Greater b e h = absurd h
 
-own_later : (e : List ℕ × List ℕ) (all es : Entries) → T (below_all order e.0 es) → AllByRecursion (λ x. find order x.0 all ≡ Some x.1) es → AllByRecursion (λ x. find order x.0 (e ∷ all) ≡ Some x.1) es
+own_later : (e : List ℕ × List ℕ) (all es : Entries) → T (below_all order e.0 es) → AllByRecursion (λ x. find order x.0 all ≡ Some x.1) es
+    → AllByRecursion (λ x. find order x.0 (e ∷ all) ≡ Some x.1) es
 own_later e all [] l h = tt
 own_later e all (x ∷ es) l h =
     let apart : is x.0 e.0 ≡ false = apart_less (order e.0 x.0) (order x.0 e.0) (nat_list_cmp_total.antisymm x.0 e.0) (first_holds (is_lt (order e.0 x.0)) (below_all order e.0 es) l) in
@@ -37,8 +38,11 @@ own_later e all (x ∷ es) l h =
 
 own_entries : (es : Entries) → T (is_sorted order es) → AllByRecursion (λ x. find order x.0 es ≡ Some x.1) es
 own_entries [] s = tt
-own_entries (e ∷ es) s =
-    (ap (λ (b : Bool). cond b (Some e.1) (find order e.0 es)) (is_self e.0), own_later e es es (first_holds (below_all order e.0 es) (is_sorted order es) s) (own_entries es (second_holds (below_all order e.0 es) (is_sorted order es) s)))
+own_entries (e ∷ es) s = (
+  ap (λ (b : Bool). cond b (Some e.1) (find order e.0 es)) (is_self e.0),
+  own_later e es es (first_holds (below_all order e.0 es) (is_sorted order es) s)
+      (own_entries es (second_holds (below_all order e.0 es) (is_sorted order es) s)),
+)
 
 -- The files that are joined are files.
 pub kept_at : (folder : List ℕ) (files : Files) (q : List ℕ) → fin.get (files_in folder files) q ≡ cond (is_joined folder q) (fin.get files q) None
@@ -66,7 +70,8 @@ no_tie : (b : Bool) (q out : List ℕ) → is q out ≡ b → (q ≡ out → ⊥
 no_tie true q out e n = absurd (n (same_name q out e))
 no_tie false q out e n = refl
 
-held_all : (es : Entries) (out : List ℕ) (files : Files) → fin.get files out ≡ None → AllByRecursion (λ e. fin.get files e.0 ≡ Some e.1) es → map (λ q. fin.get (fin.insert files out []) q) (map (λ e. e.0) es) ≡ map (λ x. Some x) (map (λ e. e.1) es)
+held_all : (es : Entries) (out : List ℕ) (files : Files) → fin.get files out ≡ None → AllByRecursion (λ e. fin.get files e.0 ≡ Some e.1) es
+    → map (λ q. fin.get (fin.insert files out []) q) (map (λ e. e.0) es) ≡ map (λ x. Some x) (map (λ e. e.1) es)
 held_all [] out files n h = refl
 held_all (e ∷ es) out files n h =
     let apart : is e.0 out ≡ false = no_tie (is e.0 out) e.0 out refl (some_other e.0 out e.1 files h.0 n) in
@@ -78,7 +83,8 @@ was_new None p e = refl
 was_new (Some x) p e = cc
 
 -- The output is there beside the files that are joined.
-can_join : (folder out : List ℕ) (names : List (List ℕ)) (w v : World) → names ≡ fin.keys (files_in folder w.files) → snapshot v None ≡ done (Create out ∷ []) (snapshot w None) → CanJoin out names (fin.values (files_in folder w.files)) v
+can_join : (folder out : List ℕ) (names : List (List ℕ)) (w v : World) → names ≡ fin.keys (files_in folder w.files) → snapshot v None ≡ done (Create out ∷ []) (snapshot w None)
+    → CanJoin out names (fin.values (files_in folder w.files)) v
 can_join folder out names w v are s =
     let es = fin.entries (files_in folder w.files) in
     let new : fin.get w.files out ≡ None = was_new (fin.get w.files out) w.output (ap (λ (x : Snapshot). x.sound) s) in
@@ -91,7 +97,8 @@ can_join folder out names w v are s =
     }
 
 -- The output was created, and then the files were joined.
-pub assembled : (steady : Bool) (folder out : List ℕ) (names : List (List ℕ)) (ended : CommandEnd) (o : Unit {0}) (b a e : Option World) → IfSome b (λ w. names ≡ fin.keys (files_in folder w.files)) → IfKnown b a (PartWorld steady (Goes (Create out ∷ [])) (Ok o) None None)
+pub assembled : (steady : Bool) (folder out : List ℕ) (names : List (List ℕ)) (ended : CommandEnd) (o : Unit {0}) (b a e : Option World) → IfSome b (λ w. names ≡ fin.keys (files_in folder w.files))
+    → IfKnown b a (PartWorld steady (Goes (Create out ∷ [])) (Ok o) None None)
     → ((contents : List (List ℕ)) → IfSome a (CanJoin out names contents) → IfKnown a e (λ v u. FilesOutcome steady (joining_all contents) ended (snapshot v None) (snapshot u None)))
     → IfKnown b e (λ w u. FilesOutcome steady (assembling folder out w.files) ended (snapshot w None) (snapshot u None))
 assembled steady folder out names ended o None a e are c f = tt
@@ -99,13 +106,17 @@ assembled steady folder out names ended o (Some w) None e are c f = absurd c
 assembled steady folder out names ended o (Some w) (Some v) None are c f = f (fin.values (files_in folder w.files)) (can_join folder out names w v are c.1.1)
 assembled steady folder out names ended o (Some w) (Some v) (Some u) are c f =
     let contents = fin.values (files_in folder w.files) in
-    outcome_after steady (Create out ∷ []) (assembling folder out w.files) (joining_all contents) ended (snapshot w None) (snapshot v None) (snapshot u None) refl refl refl c.1.1 (f contents (can_join folder out names w v are c.1.1))
+    outcome_after steady (Create out ∷ []) (assembling folder out w.files) (joining_all contents) ended (snapshot w None) (snapshot v None) (snapshot u None) refl refl refl c.1.1
+    (f contents (can_join folder out names w v are c.1.1))
 
 -- The output could not be created.
-pub not_created : (steady : Bool) (folder out : List ℕ) (ending : Ending) (b a : Option World) → IfKnown b a (PartWorld steady (Goes (Create out ∷ [])) (Err ending) None None) → IfKnown b a (λ w v. FilesOutcome steady (assembling folder out w.files) (command_end ending) (snapshot w None) (snapshot v None))
+pub not_created : (steady : Bool) (folder out : List ℕ) (ending : Ending) (b a : Option World) → IfKnown b a (PartWorld steady (Goes (Create out ∷ [])) (Err ending) None None)
+    → IfKnown b a (λ w v. FilesOutcome steady (assembling folder out w.files) (command_end ending) (snapshot w None) (snapshot v None))
 not_created steady folder out ending b a h =
-    map_known b a (PartWorld steady (Goes (Create out ∷ [])) (Err ending) None None) (λ w v. FilesOutcome steady (assembling folder out w.files) (command_end ending) (snapshot w None) (snapshot v None)) h
-    (λ w v k. part_ended steady (Create out ∷ []) (effects (joining_all (fin.values (files_in folder w.files))).steps) (assembling folder out w.files) (command_end ending) (snapshot w None) (snapshot v None) refl k.1)
+    map_known b a (PartWorld steady (Goes (Create out ∷ [])) (Err ending) None None)
+    (λ w v. FilesOutcome steady (assembling folder out w.files) (command_end ending) (snapshot w None) (snapshot v None)) h
+    (λ w v k. part_ended steady (Create out ∷ []) (effects (joining_all (fin.values (files_in folder w.files))).steps) (assembling folder out w.files) (command_end ending) (snapshot w None)
+    (snapshot v None) refl k.1)
 
 -- What holds for a place holds for another with the same known files.
 pub told_same : (P : Bool → World → World → Type 0) (st st' : Bool) (b b' a : Option World) → st' ≡ st → b' ≡ b → IfKnown b' a (P st') → IfKnown b a (P st)

@@ -34,7 +34,8 @@ unfinished_after steady a b s t u n e h = record {
 }
 
 -- A state after one plan, when the effects of another were done before, is a state after the plan of both.
-pub outcome_after : (steady : Bool) (a : List Effect) (all later : Plan) (ended : CommandEnd) (s t u : Snapshot) → effects all.steps ≡ a ++ effects later.steps → all.end ≡ later.end → list_any is_finish a ≡ false → t ≡ done a s → FilesOutcome steady later ended t u → FilesOutcome steady all ended s u
+pub outcome_after : (steady : Bool) (a : List Effect) (all later : Plan) (ended : CommandEnd) (s t u : Snapshot) → effects all.steps ≡ a ++ effects later.steps → all.end ≡ later.end
+    → list_any is_finish a ≡ false → t ≡ done a s → FilesOutcome steady later ended t u → FilesOutcome steady all ended s u
 outcome_after steady a all later (Ends e) s t u c d n k h = record {
   end = d ∙ h.end;
   holds = h.holds ∙ ap (done (effects later.steps)) k ∙ sym (done_append a (effects later.steps) s) ∙ ap (λ (x : List Effect). done x s) (sym c);
@@ -59,7 +60,8 @@ goes_on : (p later : Plan) → GoesOn p (plan_then p later)
 goes_on p later = goes_by p.steps p.end later
 
 -- A plan that doesn't end well ends there.
-ends_by : (ss : List Step) (o : Option End) (e : End) (later : Plan) (s t : Snapshot) → (e ≡ Fine → ⊥) → AllDone (record { steps = ss; end = o }) e s t → AllDone (then_by o (record { steps = ss; end = o }) later) e s t
+ends_by : (ss : List Step) (o : Option End) (e : End) (later : Plan) (s t : Snapshot) → (e ≡ Fine → ⊥) → AllDone (record { steps = ss; end = o }) e s t
+    → AllDone (then_by o (record { steps = ss; end = o }) later) e s t
 ends_by ss (Some Fine) e later s t n h = absurd (n (sym (same_end Fine e h.end)))
 ends_by ss (Some (Refused r)) e later s t n h = h
 ends_by ss (Some TooMany) e later s t n h = h
@@ -67,7 +69,8 @@ ends_by ss (Some (TooLong k)) e later s t n h = h
 ends_by ss None e later s t n h = h
 
 -- The first plan did not end well.
-pub outcome_stops : (steady : Bool) (p later : Plan) (ended : CommandEnd) (s t : Snapshot) → (ended ≡ Ends Fine → ⊥) → FilesOutcome steady p ended s t → FilesOutcome steady (plan_then p later) ended s t
+pub outcome_stops : (steady : Bool) (p later : Plan) (ended : CommandEnd) (s t : Snapshot) → (ended ≡ Ends Fine → ⊥) → FilesOutcome steady p ended s t
+    → FilesOutcome steady (plan_then p later) ended s t
 outcome_stops steady p later (Ends e) s t n h = ends_by p.steps p.end e later s t (λ k. n (ap (λ (x : End). Ends x) k)) h
 outcome_stops steady p later NotRead s t n h = let g = goes_on p later in unfinished_more steady (effects p.steps) g.later (effects (plan_then p later).steps) s t g.is h
 outcome_stops steady p later NotWritten s t n h = let g = goes_on p later in breaks_more steady (effects p.steps) g.later (effects (plan_then p later).steps) s t g.is h

@@ -39,7 +39,8 @@ walked_on : (a : Asked) (n : ℕ) (later : Walk) → effects (walk_on a n later)
 walked_on (Stops e) n later = refl
 walked_on (Goes es) n later = effects_append (needing (Chunks n) es) later.steps ∙ ap (λ (x : List Effect). x ++ effects later.steps) (effects_needing (Chunks n) es)
 
-walked : (rule : SplitRule) (name : ℕ → List ℕ) (before cs : List (List ℕ)) (flaw : Option Flaw) → effects (walk (splitting_as rule name) before cs flaw).steps ≡ parted rule name (part_of rule before) cs flaw
+walked : (rule : SplitRule) (name : ℕ → List ℕ) (before cs : List (List ℕ)) (flaw : Option Flaw)
+    → effects (walk (splitting_as rule name) before cs flaw).steps ≡ parted rule name (part_of rule before) cs flaw
 walked rule name before [] None = effects_needing AtEnd (closing (part_of rule before))
 walked rule name before [] (Some f) = refl
 walked rule name before (c ∷ cs) flaw =
@@ -77,7 +78,8 @@ later_new false rule name p c later e h =
     let n = p.number in
     let room : n < rule.max_parts = leb-false rule.max_parts n e in
     let next : IsLater name n rule.max_parts (name (n + 1)) = (n + 1, omega arith, omega (arith, room), refl) in
-    subst (λ (x : List (List ℕ)). AllByRecursion (IsLater name n rule.max_parts) x) (sym (creates_new (n == 0) (name (n + 1)) c later)) (next, still_later name n (n + 1) rule.max_parts later (omega arith) h)
+    subst (λ (x : List (List ℕ)). AllByRecursion (IsLater name n rule.max_parts) x) (sym (creates_new (n == 0) (name (n + 1)) c later))
+    (next, still_later name n (n + 1) rule.max_parts later (omega arith) h)
 
 later_by : (b : Bool) (rule : SplitRule) (name : ℕ → List ℕ) (p : Part) (c : List ℕ) (later : List Effect) → AllLater name (part_by b p c).number rule.max_parts later
     → AllLater name p.number rule.max_parts (on (asks_part rule name b p c) later)
@@ -132,29 +134,35 @@ open_next name n = open_by (n + 1 == 0) refl
 abbrev CanFollow : (ℕ → List ℕ) → ℕ → List Effect → Type 0
 CanFollow name n es = (s : Snapshot) → s.output ≡ open_name name n → AllNew s.files es → Cans es s
 
-grown_new : (name : ℕ → List ℕ) (n top : ℕ) (files : Files) (o : Option (List ℕ)) (c : List ℕ) (es : List Effect) → o ≡ Some (name n) → Rises name top → AllLater name n top es → AllNew files es → AllNew (grown o c files) es
+grown_new : (name : ℕ → List ℕ) (n top : ℕ) (files : Files) (o : Option (List ℕ)) (c : List ℕ) (es : List Effect) → o ≡ Some (name n) → Rises name top → AllLater name n top es → AllNew files es
+    → AllNew (grown o c files) es
 grown_new name n top files o c es e r later new =
     subst (λ (y : Option (List ℕ)). AllNew (grown y c files) es) (sym e) (new_after name n top files (unwrap_or (fin.get files (name n)) [] ++ c) es r later new)
 
 -- The chunk goes to the open part.
-more_can : (name : ℕ → List ℕ) (n top : ℕ) (c : List ℕ) (later : List Effect) (s : Snapshot) → Rises name top → AllLater name n top later → CanFollow name n later → s.output ≡ Some (name n) → open_name name n ≡ Some (name n) → AllNew s.files later → Cans (Append c ∷ later) s
+more_can : (name : ℕ → List ℕ) (n top : ℕ) (c : List ℕ) (later : List Effect) (s : Snapshot) → Rises name top → AllLater name n top later → CanFollow name n later → s.output ≡ Some (name n)
+    → open_name name n ≡ Some (name n) → AllNew s.files later → Cans (Append c ∷ later) s
 more_can name n top c later s r l f o here new = (some_none s.output (name n) o, f (apply (Append c) s) (o ∙ sym here) (grown_new name n top s.files s.output c later o r l new))
 
 -- A part is created, with no part open.
-create_can : (name : ℕ → List ℕ) (n top : ℕ) (c : List ℕ) (later : List Effect) (s : Snapshot) → Rises name top → AllLater name n top later → CanFollow name n later → s.output ≡ None → open_name name n ≡ Some (name n) → fin.get s.files (name n) ≡ None → AllNew s.files later → Cans (Create (name n) ∷ Append c ∷ later) s
+create_can : (name : ℕ → List ℕ) (n top : ℕ) (c : List ℕ) (later : List Effect) (s : Snapshot) → Rises name top → AllLater name n top later → CanFollow name n later → s.output ≡ None
+    → open_name name n ≡ Some (name n) → fin.get s.files (name n) ≡ None → AllNew s.files later → Cans (Create (name n) ∷ Append c ∷ later) s
 create_can name n top c later s r l f o here free new =
     (λ can. none_is s.output o (can free), more_can name n top c later (apply (Create (name n)) s) r l f refl here (new_after name n top s.files [] later r l new))
 
-next_can : (z : Bool) (name : ℕ → List ℕ) (n top : ℕ) (c : List ℕ) (later : List Effect) (s : Snapshot) → Rises name top → AllLater name (n + 1) top later → CanFollow name (n + 1) later → s.output ≡ (if z then None else Some (name n)) → AllNew s.files (new_by z (name (n + 1)) c later) → Cans (new_by z (name (n + 1)) c later) s
+next_can : (z : Bool) (name : ℕ → List ℕ) (n top : ℕ) (c : List ℕ) (later : List Effect) (s : Snapshot) → Rises name top → AllLater name (n + 1) top later → CanFollow name (n + 1) later
+    → s.output ≡ (if z then None else Some (name n)) → AllNew s.files (new_by z (name (n + 1)) c later) → Cans (new_by z (name (n + 1)) c later) s
 next_can true name n top c later s r l f o new = create_can name (n + 1) top c later s r l f o (sym (open_next name n)) new.0 new.1
 next_can false name n top c later s r l f o new = (some_none s.output (name n) o, create_can name (n + 1) top c later (apply Finish s) r l f refl (sym (open_next name n)) new.0 new.1)
 
-new_can : (t : Bool) (rule : SplitRule) (name : ℕ → List ℕ) (p : Part) (c : List ℕ) (later : List Effect) → Rises name rule.max_parts → AllLater name (p.number + 1) rule.max_parts later → CanFollow name (p.number + 1) later
+new_can : (t : Bool) (rule : SplitRule) (name : ℕ → List ℕ) (p : Part) (c : List ℕ) (later : List Effect) → Rises name rule.max_parts → AllLater name (p.number + 1) rule.max_parts later
+    → CanFollow name (p.number + 1) later
     → CanFollow name p.number (new_on t (closing p ++ Create (name (p.number + 1)) ∷ Append c ∷ []) later)
 new_can true rule name p c later r l f s o new = tt
 new_can false rule name p c later r l f s o new = next_can (p.number == 0) name p.number rule.max_parts c later s r l f o new
 
-part_can : (b : Bool) (rule : SplitRule) (name : ℕ → List ℕ) (p : Part) (c : List ℕ) (later : List Effect) → begins rule p c ≡ b → Rises name rule.max_parts → AllLater name (part_by b p c).number rule.max_parts later → CanFollow name (part_by b p c).number later
+part_can : (b : Bool) (rule : SplitRule) (name : ℕ → List ℕ) (p : Part) (c : List ℕ) (later : List Effect) → begins rule p c ≡ b → Rises name rule.max_parts
+    → AllLater name (part_by b p c).number rule.max_parts later → CanFollow name (part_by b p c).number later
     → CanFollow name p.number (on (asks_part rule name b p c) later)
 part_can true rule name p c later e r l f s o new = new_can (nat_le rule.max_parts p.number) rule name p c later r l f s o new
 part_can false rule name p c later e r l f s o new =
@@ -173,13 +181,15 @@ follow : (rule : SplitRule) (name : ℕ → List ℕ) (p : Part) (cs : List (Lis
 follow rule name p [] None r s o new = end_can (p.number == 0) (name p.number) s o
 follow rule name p [] (Some f) r s o new = tt
 follow rule name p (c ∷ cs) flaw r s o new =
-    part_can (begins rule p c) rule name p c (parted rule name (part_with rule p c) cs flaw) refl r (all_later rule name (part_with rule p c) cs flaw) (follow rule name (part_with rule p c) cs flaw r) s o new
+    part_can (begins rule p c) rule name p c (parted rule name (part_with rule p c) cs flaw) refl r (all_later rule name (part_with rule p c) cs flaw)
+    (follow rule name (part_with rule p c) cs flaw r) s o new
 
 -- The names of the parts rise.
 pub rises : (rule : SplitRule) (folder : Option (List ℕ)) (file : List ℕ) → IsUsable rule → Rises (part_name folder file) rule.max_parts
 rises rule folder file u a b h k = names_rise folder file a b h (omega (arith, k, u.numbered))
 
-plan_can : (rule : SplitRule) (file : List ℕ) (x : Option (List ℕ)) (s : Snapshot) → IsUsable rule → s.output ≡ None → AllNew s.files (effects (plan_after (splitting rule file) [] x).steps) → Cans (effects (plan_after (splitting rule file) [] x).steps) s
+plan_can : (rule : SplitRule) (file : List ℕ) (x : Option (List ℕ)) (s : Snapshot) → IsUsable rule → s.output ≡ None → AllNew s.files (effects (plan_after (splitting rule file) [] x).steps)
+    → Cans (effects (plan_after (splitting rule file) [] x).steps) s
 plan_can rule file None s u o new = tt
 plan_can rule file (Some x) s u o new =
     let name = part_name (folder_of rule) file in
@@ -188,18 +198,21 @@ plan_can rule file (Some x) s u o new =
     let e : effects (walk (splitting_as rule name) [] cs flaw).steps ≡ parted rule name no_part cs flaw = walked rule name [] cs flaw ∙ ap (λ (p : Part). parted rule name p cs flaw) (of_none rule) in
     subst (λ (es : List Effect). Cans es s) (sym e) (follow rule name no_part cs flaw (rises rule (folder_of rule) file u) s o (subst (λ (es : List Effect). AllNew s.files es) e new))
 
-no_write_fault : (rule : SplitRule) (file : List ℕ) (e : Ending) (a b : Outside) → IsUsable rule → CanCreateAll (splitting rule file) file a.place → After (splitting rule file) [] file (command_end e) a b → e ≡ WriteFault → ⊥
+no_write_fault : (rule : SplitRule) (file : List ℕ) (e : Ending) (a b : Outside) → IsUsable rule → CanCreateAll (splitting rule file) file a.place
+    → After (splitting rule file) [] file (command_end e) a b → e ≡ WriteFault → ⊥
 no_write_fault rule file e a b u c t is =
     let r = splitting rule file in
     let h : After r [] file NotWritten a b = subst (λ (y : Ending). After r [] file (command_end y) a b) is t in
     let F : World → Type 0 = λ w. AllNew w.files (effects (plan_in r file w).steps) → w.output ≡ None → ⊥ in
     told_at a.place.contents c.world F c.contents
     (told_before a.place.contents b.place.contents (λ w v. Breaks a.place.steady (effects (plan_in r file w).steps) (snapshot w a.sink.written) (snapshot v b.sink.written)) F h
-    (λ w v z new closed. none_breaks (effects (plan_in r file w).steps) z.first z.rest z.failed (snapshot w a.sink.written) (plan_can rule file (file_of w file) (snapshot w a.sink.written) u closed new) z.parts (z.cause c.steady)))
+    (λ w v z new closed. none_breaks (effects (plan_in r file w).steps) z.first z.rest z.failed (snapshot w a.sink.written)
+    (plan_can rule file (file_of w file) (snapshot w a.sink.written) u closed new) z.parts (z.cause c.steady)))
     c.new c.closed
 
 -- A steady place without an open output gives no write fault where the names of the parts are new.
-pub can_create : (rule : SplitRule) (file : List ℕ) (e : Ending) (a b : Outside) → IsUsable rule → After (splitting rule file) [] file (command_end e) a b → Tallied Parts (command_end e) a b → CanCreateAll (splitting rule file) file a.place → (e ≢ WriteFault) × (b.place.write_faults ≡ a.place.write_faults)
+pub can_create : (rule : SplitRule) (file : List ℕ) (e : Ending) (a b : Outside) → IsUsable rule → After (splitting rule file) [] file (command_end e) a b → Tallied Parts (command_end e) a b
+    → CanCreateAll (splitting rule file) file a.place → (e ≢ WriteFault) × (b.place.write_faults ≡ a.place.write_faults)
 can_create rule file e a b u t c can =
     let no = no_write_fault rule file e a b u can t in
     (no, writes_clause Parts e a b c no)

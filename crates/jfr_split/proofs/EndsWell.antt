@@ -65,7 +65,11 @@ cutting_well rule file x =
           let g = plan.0 e in
           let fit : AllFit rule name no_part cs = subst (λ (p : Part). AllFit rule name p cs) (of_none rule) (all_fit rule name [] cs g.1) in
           record { flawless = g.0; few = subst (λ (p : Part). p.number ≤ rule.max_parts) (sym is) (few_after rule name no_part cs fit (omega arith)) },
-      λ f. plan.1 (f.flawless, all_go rule name [] cs (subst (λ (p : Part). (part_after rule p cs).number ≤ rule.max_parts) (sym (of_none rule)) (subst (λ (p : Part). p.number ≤ rule.max_parts) is f.few))),
+      λ f. plan.1 (
+        f.flawless,
+        all_go rule name [] cs
+            (subst (λ (p : Part). (part_after rule p cs).number ≤ rule.max_parts) (sym (of_none rule)) (subst (λ (p : Part). p.number ≤ rule.max_parts) is f.few)),
+      ),
     )
 
 -- Each chunk of a file is appended.

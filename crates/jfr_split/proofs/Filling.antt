@@ -32,8 +32,10 @@ abbrev pub holds : Files → Option (List ℕ) → Option (List ℕ) → Bool �
 holds files output text sound = record { files = files; output = output; text = text; sound = sound }
 
 -- The output grows.
-pub grown_at : (s : Snapshot) (n b c : List ℕ) → s.output ≡ Some n → fin.get s.files n ≡ Some b → apply (Append c) s ≡ holds (fin.insert s.files n (b ++ c)) (Some n) s.text (s.sound && is_some s.output)
-grown_at s n b c o h = ap (λ (y : Option (List ℕ)). holds (grown y c s.files) y s.text (s.sound && is_some s.output)) o ∙ ap (λ (z : Option (List ℕ)). holds (fin.insert s.files n (unwrap_or z [] ++ c)) (Some n) s.text (s.sound && is_some s.output)) h
+pub grown_at : (s : Snapshot) (n b c : List ℕ) → s.output ≡ Some n → fin.get s.files n ≡ Some b
+    → apply (Append c) s ≡ holds (fin.insert s.files n (b ++ c)) (Some n) s.text (s.sound && is_some s.output)
+grown_at s n b c o h = ap (λ (y : Option (List ℕ)). holds (grown y c s.files) y s.text (s.sound && is_some s.output)) o
+    ∙ ap (λ (z : Option (List ℕ)). holds (fin.insert s.files n (unwrap_or z [] ++ c)) (Some n) s.text (s.sound && is_some s.output)) h
 
 pub fills_more : (name : ℕ → List ℕ) (n : ℕ) (c : List ℕ) (g : Groups) (es : List Effect) → Fills name n g es → Fills name n (grouped false c g) (Append c ∷ es)
 fills_more name n c g es f s b o h q =
@@ -58,12 +60,14 @@ fills_first name n c g es f s q =
     ∙ hides (numbered name (n + 1) g.later) k (c ++ joined g.here) q (Some []) (fin.get s.files q)
 
 -- The part before is finished.
-pub fills_next : (name : ℕ → List ℕ) (top n : ℕ) (c : List ℕ) (g : Groups) (es : List Effect) → Rises name top → n + 1 + length g.later ≤ top → Fills name (n + 1) g es → Fills name n (grouped true c g) (Finish ∷ Create (name (n + 1)) ∷ Append c ∷ es)
+pub fills_next : (name : ℕ → List ℕ) (top n : ℕ) (c : List ℕ) (g : Groups) (es : List Effect) → Rises name top → n + 1 + length g.later ≤ top → Fills name (n + 1) g es
+    → Fills name n (grouped true c g) (Finish ∷ Create (name (n + 1)) ∷ Append c ∷ es)
 fills_next name top n c g es r l f s b o h q =
     let later = numbered name (n + 1) ((c ∷ g.here) ∷ g.later) in
     fills_first name (n + 1) c g es f (apply Finish s) q
     ∙ same_by (is q (name n)) q (name n) (b ++ []) (over later q (fin.get s.files q)) refl
-    (λ e. ap (λ (x : List ℕ). over later x (fin.get s.files x)) e ∙ over_numbered name top n (n + 1) ((c ∷ g.here) ∷ g.later) (fin.get s.files (name n)) r (omega arith) (omega (arith, l)) ∙ h ∙ ap (λ (x : List ℕ). Some x) (sym (append-nil b)))
+    (λ e. ap (λ (x : List ℕ). over later x (fin.get s.files x)) e ∙ over_numbered name top n (n + 1) ((c ∷ g.here) ∷ g.later) (fin.get s.files (name n)) r (omega arith) (omega (arith, l)) ∙ h
+    ∙ ap (λ (x : List ℕ). Some x) (sym (append-nil b)))
 
 -- The effects of chunks that come after a part, and that none of them is the end.
 abbrev pub filling : SplitRule → (ℕ → List ℕ) → Part → List (List ℕ) → List Effect
@@ -93,12 +97,15 @@ pub may_begin : (rule : SplitRule) (name : ℕ → List ℕ) (p : Part) (c : Lis
 may_begin rule name p c g = new_by rule name p c rule.max_parts (nat_le rule.max_parts p.number) refl (closing p ++ Create (name (p.number + 1)) ∷ Append c ∷ []) g
 
 -- There may be one part more.
-pub asks_some : (rule : SplitRule) (name : ℕ → List ℕ) (p : Part) (c : List ℕ) → p.number < rule.max_parts → asks_new rule name p c ≡ Goes ((closing p ++ Create (name (p.number + 1)) ∷ []) ++ Append c ∷ [])
+pub asks_some : (rule : SplitRule) (name : ℕ → List ℕ) (p : Part) (c : List ℕ) → p.number < rule.max_parts
+    → asks_new rule name p c ≡ Goes ((closing p ++ Create (name (p.number + 1)) ∷ []) ++ Append c ∷ [])
 asks_some rule name p c h =
     let es = closing p ++ Create (name (p.number + 1)) ∷ Append c ∷ [] in
-    ap (λ (b : Bool). if b then Stops TooMany else Goes es) (lt-leb rule.max_parts p.number h) ∙ ap (λ (x : List Effect). Goes x) (sym (append_assoc (closing p) (Create (name (p.number + 1)) ∷ []) (Append c ∷ [])))
+    ap (λ (b : Bool). if b then Stops TooMany else Goes es) (lt-leb rule.max_parts p.number h)
+    ∙ ap (λ (x : List Effect). Goes x) (sym (append_assoc (closing p) (Create (name (p.number + 1)) ∷ []) (Append c ∷ [])))
 
-pub new_asks : (rule : SplitRule) (name : ℕ → List ℕ) (p : Part) (c : List ℕ) → IsGoing (asks_new rule name p c) → asked (asks_new rule name p c) ≡ closing p ++ Create (name (p.number + 1)) ∷ Append c ∷ []
+pub new_asks : (rule : SplitRule) (name : ℕ → List ℕ) (p : Part) (c : List ℕ) → IsGoing (asks_new rule name p c)
+    → asked (asks_new rule name p c) ≡ closing p ++ Create (name (p.number + 1)) ∷ Append c ∷ []
 new_asks rule name p c g = by (nat_le rule.max_parts p.number) (closing p ++ Create (name (p.number + 1)) ∷ Append c ∷ []) g
   where
     by : (b : Bool) (es : List Effect) → IsGoing (if b then Stops TooMany else Goes es) → asked (if b then Stops TooMany else Goes es) ≡ es
@@ -110,17 +117,21 @@ closed zero h = absurd (omega (arith, h))
 closed (suc n) h = grind (arith, common_steps)
 
 -- There are no more parts than may be.
-within_by : (b : Bool) (rule : SplitRule) (name : ℕ → List ℕ) (p : Part) (c : List ℕ) (g : Groups) → IsGoing (asks_part rule name b p c) → p.number ≤ rule.max_parts → ((part_by b p c).number ≤ rule.max_parts → (part_by b p c).number + length g.later ≤ rule.max_parts) → p.number + length (grouped b c g).later ≤ rule.max_parts
+within_by : (b : Bool) (rule : SplitRule) (name : ℕ → List ℕ) (p : Part) (c : List ℕ) (g : Groups) → IsGoing (asks_part rule name b p c) → p.number ≤ rule.max_parts
+    → ((part_by b p c).number ≤ rule.max_parts → (part_by b p c).number + length g.later ≤ rule.max_parts) → p.number + length (grouped b c g).later ≤ rule.max_parts
 within_by true rule name p c g f h i = let k = may_begin rule name p c f in let m = i (omega (arith, k)) in omega (arith, m)
 within_by false rule name p c g f h i = i h
 
-pub all_within : (rule : SplitRule) (name : ℕ → List ℕ) (p : Part) (cs : List (List ℕ)) → AllFit rule name p cs → p.number ≤ rule.max_parts → p.number + length (groups_after rule p cs).later ≤ rule.max_parts
+pub all_within : (rule : SplitRule) (name : ℕ → List ℕ) (p : Part) (cs : List (List ℕ)) → AllFit rule name p cs → p.number ≤ rule.max_parts
+    → p.number + length (groups_after rule p cs).later ≤ rule.max_parts
 all_within rule name p [] f h = omega (arith, h)
 all_within rule name p (c ∷ cs) f h = within_by (begins rule p c) rule name p c (groups_after rule (part_with rule p c) cs) f.0 h (all_within rule name (part_with rule p c) cs f.1)
 
-fill_by : (b : Bool) (rule : SplitRule) (name : ℕ → List ℕ) (top : ℕ) (p : Part) (c : List ℕ) (g : Groups) (es : List Effect) → Rises name top → IsGoing (asks_part rule name b p c) → 1 ≤ p.number → (part_by b p c).number + length g.later ≤ top → Fills name (part_by b p c).number g es → Fills name p.number (grouped b c g) (asked (asks_part rule name b p c) ++ es)
+fill_by : (b : Bool) (rule : SplitRule) (name : ℕ → List ℕ) (top : ℕ) (p : Part) (c : List ℕ) (g : Groups) (es : List Effect) → Rises name top → IsGoing (asks_part rule name b p c) → 1 ≤ p.number
+    → (part_by b p c).number + length g.later ≤ top → Fills name (part_by b p c).number g es → Fills name p.number (grouped b c g) (asked (asks_part rule name b p c) ++ es)
 fill_by true rule name top p c g es r f h k i =
-    let e : asked (asks_new rule name p c) ≡ Finish ∷ Create (name (p.number + 1)) ∷ Append c ∷ [] = new_asks rule name p c f ∙ ap (λ (x : List Effect). x ++ Create (name (p.number + 1)) ∷ Append c ∷ []) (closed p.number h) in
+    let e : asked (asks_new rule name p c) ≡ Finish ∷ Create (name (p.number + 1)) ∷ Append c ∷ [] =
+    new_asks rule name p c f ∙ ap (λ (x : List Effect). x ++ Create (name (p.number + 1)) ∷ Append c ∷ []) (closed p.number h) in
     subst (λ (x : List Effect). Fills name p.number (grouped true c g) (x ++ es)) (sym e) (fills_next name top p.number c g es r k i)
 fill_by false rule name top p c g es r f h k i = fills_more name p.number c g es i
 
@@ -132,7 +143,8 @@ number_by : (b : Bool) (rule : SplitRule) (name : ℕ → List ℕ) (p : Part) (
 number_by true rule name p c f h = let k = may_begin rule name p c f in omega (arith, k)
 number_by false rule name p c f h = h
 
-fills : (rule : SplitRule) (name : ℕ → List ℕ) (p : Part) (cs : List (List ℕ)) → Rises name rule.max_parts → AllFit rule name p cs → 1 ≤ p.number → p.number ≤ rule.max_parts → Fills name p.number (groups_after rule p cs) (filling rule name p cs)
+fills : (rule : SplitRule) (name : ℕ → List ℕ) (p : Part) (cs : List (List ℕ)) → Rises name rule.max_parts → AllFit rule name p cs → 1 ≤ p.number → p.number ≤ rule.max_parts
+    → Fills name p.number (groups_after rule p cs) (filling rule name p cs)
 fills rule name p [] r f h m = fills_none name p.number
 fills rule name p (c ∷ cs) r f h m =
     let b = begins rule p c in
@@ -141,7 +153,8 @@ fills rule name p (c ∷ cs) r f h m =
     (fills rule name (part_with rule p c) cs r f.1 (some_number b p c h) n)
 
 -- The files of the parts, in place of those there before.
-pub filled : (rule : SplitRule) (name : ℕ → List ℕ) (cs : List (List ℕ)) → Rises name rule.max_parts → AllFit rule name no_part cs → (s : Snapshot) (q : List ℕ) → fin.get (done (filling rule name no_part cs) s).files q ≡ over (numbered name 1 (groups rule cs)) q (fin.get s.files q)
+pub filled : (rule : SplitRule) (name : ℕ → List ℕ) (cs : List (List ℕ)) → Rises name rule.max_parts → AllFit rule name no_part cs → (s : Snapshot) (q : List ℕ)
+    → fin.get (done (filling rule name no_part cs) s).files q ≡ over (numbered name 1 (groups rule cs)) q (fin.get s.files q)
 filled rule name [] r f s q = refl
 filled rule name (c ∷ cs) r f s q =
     let k = may_begin rule name no_part c f.0 in

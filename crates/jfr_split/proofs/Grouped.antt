@@ -39,7 +39,8 @@ counts_more : (p : Part) (group : List (List ℕ)) (c : List ℕ) → Counts p g
 counts_more p group c h = record {
   some = h.some;
   chunks = ap (λ (n : ℕ). n + 1) h.chunks ∙ sym (length-append group (c ∷ []));
-  bytes = ap (λ (n : ℕ). n + length c) h.bytes ∙ sym (length-append (joined group) c) ∙ ap (λ (x : List ℕ). length (joined group ++ x)) (sym (append-nil c)) ∙ ap length (sym (joined_append group (c ∷ [])));
+  bytes = ap (λ (n : ℕ). n + length c) h.bytes ∙ sym (length-append (joined group) c) ∙ ap (λ (x : List ℕ). length (joined group ++ x)) (sym (append-nil c))
+      ∙ ap length (sym (joined_append group (c ∷ [])));
 }
 
 -- The groups that follow a part, which has this group so far.
@@ -48,7 +49,8 @@ record Follow (rule : SplitRule) (group : List (List ℕ)) (g : Groups) : Type 0
   pub full : WasFull rule (group ++ g.here) g.later
   pub are : AreParts rule g.later
 
-follow_by : (b : Bool) (rule : SplitRule) (p : Part) (group : List (List ℕ)) (c : List ℕ) (g : Groups) → is_full_for rule group c ≡ b → Counts p group → ((group' : List (List ℕ)) → Counts (part_by b p c) group' → Follow rule group' g) → Follow rule group (grouped b c g)
+follow_by : (b : Bool) (rule : SplitRule) (p : Part) (group : List (List ℕ)) (c : List ℕ) (g : Groups) → is_full_for rule group c ≡ b → Counts p group
+    → ((group' : List (List ℕ)) → Counts (part_by b p c) group' → Follow rule group' g) → Follow rule group (grouped b c g)
 follow_by true rule p group c g e h f =
     let k = f (c ∷ []) (counts_first p c) in
     record { fit = tt; full = ap (λ (x : List (List ℕ)). is_full_for rule x c) (append-nil group) ∙ e; are = (k.fit, k.full, k.are) }
@@ -58,7 +60,8 @@ follow_by false rule p group c g e h f =
 
 follow : (rule : SplitRule) (p : Part) (group cs : List (List ℕ)) → Counts p group → Follow rule group (groups_after rule p cs)
 follow rule p group [] h = record { fit = tt; full = tt; are = tt }
-follow rule p group (c ∷ cs) h = follow_by (begins rule p c) rule p group c (groups_after rule (part_with rule p c) cs) (sym (full_for rule p group c h)) h (λ group' k. follow rule (part_with rule p c) group' cs k)
+follow rule p group (c ∷ cs) h = follow_by (begins rule p c) rule p group c (groups_after rule (part_with rule p c) cs) (sym (full_for rule p group c h)) h
+    (λ group' k. follow rule (part_with rule p c) group' cs k)
 
 -- The groups are parts.
 are_parts : (rule : SplitRule) (cs : List (List ℕ)) → AreParts rule (groups rule cs)
@@ -72,7 +75,8 @@ parted rule name p cs = filling rule name p cs ++ closing (part_after rule p cs)
 abbrev Writes : (ℕ → List ℕ) → ℕ → Groups → List Effect → Type 0
 Writes name n g es = es ≡ appends g.here ++ Finish ∷ written name (n + 1) g.later
 
-writes_by : (b : Bool) (rule : SplitRule) (name : ℕ → List ℕ) (p : Part) (c : List ℕ) (g : Groups) (es : List Effect) → 1 ≤ p.number → IsGoing (asks_part rule name b p c) → Writes name (part_by b p c).number g es → Writes name p.number (grouped b c g) (asked (asks_part rule name b p c) ++ es)
+writes_by : (b : Bool) (rule : SplitRule) (name : ℕ → List ℕ) (p : Part) (c : List ℕ) (g : Groups) (es : List Effect) → 1 ≤ p.number → IsGoing (asks_part rule name b p c)
+    → Writes name (part_by b p c).number g es → Writes name p.number (grouped b c g) (asked (asks_part rule name b p c) ++ es)
 writes_by true rule name p c g es h go w =
     let n = p.number in
     ap (λ (x : List Effect). x ++ es) (new_asks rule name p c go)

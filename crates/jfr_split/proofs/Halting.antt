@@ -35,7 +35,8 @@ no_more : (n : ℕ) (cs : List (List ℕ)) → whole_in n cs ≤ length cs
 no_more n [] = omega arith
 no_more n (c ∷ cs) = let k = no_more_by (nat_le (length c) n) (whole_in (n - length c) cs) (length cs) (no_more (n - length c) cs) in omega (arith, k)
 
-met_first : (steady : Bool) (earlier : List (List ℕ)) (x left : List ℕ) (s t : Snapshot) → (IsTrue steady → ⊥) → NeedsMet adding earlier x left s t → Unfinished steady (effects (plan_after adding earlier (Some x)).steps) s t
+met_first : (steady : Bool) (earlier : List (List ℕ)) (x left : List ℕ) (s t : Snapshot) → (IsTrue steady → ⊥) → NeedsMet adding earlier x left s t
+    → Unfinished steady (effects (plan_after adding earlier (Some x)).steps) s t
 met_first steady earlier x left s t never m =
     let cs = (cut_after earlier x).chunks in
     let flaw = (cut_after earlier x).flaw in
@@ -51,30 +52,37 @@ met_first steady earlier x left s t never m =
       parts = ap (λ (l : List (List ℕ)). effects (walk adding earlier l flaw).steps) (sym parts) ∙ (past adding earlier q later flaw (all_go earlier q)).steps;
       unfinished = none_finishes earlier q;
       holds = m.holds ∙ ap (λ (es : List Effect). done es s)
-          (ap (λ (l : List (List ℕ)). effects (keep_met (Some (length earlier + k)) (walk adding earlier l flaw).steps)) (sym parts) ∙ kept_past adding (length earlier + k) earlier q later flaw (all_go earlier q) n);
+          (ap (λ (l : List (List ℕ)). effects (keep_met (Some (length earlier + k)) (walk adding earlier l flaw).steps)) (sym parts)
+          ∙ kept_past adding (length earlier + k) earlier q later flaw (all_go earlier q) n);
       cause = never;
     }
 
 -- With no input open nothing is done.
-halted_first : (steady : Bool) (earlier : List (List ℕ)) (x : List ℕ) (left : Option (List ℕ)) (s t : Snapshot) → (IsTrue steady → ⊥) → MetIn adding earlier (Some x) left s t → Unfinished steady (effects (plan_after adding earlier (Some x)).steps) s t
+halted_first : (steady : Bool) (earlier : List (List ℕ)) (x : List ℕ) (left : Option (List ℕ)) (s t : Snapshot) → (IsTrue steady → ⊥) → MetIn adding earlier (Some x) left s t
+    → Unfinished steady (effects (plan_after adding earlier (Some x)).steps) s t
 halted_first steady earlier x None s t never h = record { first = []; rest = effects (plan_after adding earlier (Some x)).steps; parts = refl; unfinished = refl; holds = h; cause = never }
 halted_first steady earlier x (Some left) s t never h = met_first steady earlier x left s t never h
 
 -- The state after one of the files, which exists.
-pub file_outcome : (steady : Bool) (earlier : List (List ℕ)) (x : List ℕ) (left : Option (List ℕ)) (ended : CommandEnd) (s t : Snapshot) → OutcomeIn steady adding earlier (Some x) left ended s t → FilesOutcome steady (plan_after adding earlier (Some x)) ended s t
+pub file_outcome : (steady : Bool) (earlier : List (List ℕ)) (x : List ℕ) (left : Option (List ℕ)) (ended : CommandEnd) (s t : Snapshot) → OutcomeIn steady adding earlier (Some x) left ended s t
+    → FilesOutcome steady (plan_after adding earlier (Some x)) ended s t
 file_outcome steady earlier x left (Ends e) s t h = h
 file_outcome steady earlier x left NotRead s t h = halted_first steady earlier x left s t (λ y. some_none (Some x) x refl (h.1 y)) h.0
 file_outcome steady earlier x left NotWritten s t h = h
 file_outcome steady earlier x left RanOut s t h = h
 
 -- The folder could not be listed, and nothing is done.
-pub not_listed : (T : Type 0) (steady : Bool) (plan : Files → Plan) (fault : Fault) (y : Ending) (o : Option (List ℕ)) (b a : Option World) → y ≡ after_read fault → IsAfterCall {T = T} (Err fault) b a (λ _. unchanged) unchanged → (IsTrue steady → IsErrOf {T = T} (Err fault) faults.Failed → ⊥) → IfKnown b a (λ w v. FilesOutcome steady (plan w.files) (command_end y) (snapshot w o) (snapshot v o))
+pub not_listed : (T : Type 0) (steady : Bool) (plan : Files → Plan) (fault : Fault) (y : Ending) (o : Option (List ℕ)) (b a : Option World) → y ≡ after_read fault
+    → IsAfterCall {T = T} (Err fault) b a (λ _. unchanged) unchanged → (IsTrue steady → IsErrOf {T = T} (Err fault) faults.Failed → ⊥)
+    → IfKnown b a (λ w v. FilesOutcome steady (plan w.files) (command_end y) (snapshot w o) (snapshot v o))
 not_listed T steady plan fault y o None a is t never = tt
-not_listed T steady plan faults.Failed y o (Some w) a is t never = rw is (rw t (record { first = []; rest = effects (plan w.files).steps; parts = refl; unfinished = refl; holds = refl; cause = λ k. never k refl }))
+not_listed T steady plan faults.Failed y o (Some w) a is t never =
+    rw is (rw t (record { first = []; rest = effects (plan w.files).steps; parts = refl; unfinished = refl; holds = refl; cause = λ k. never k refl }))
 not_listed T steady plan faults.Memory y o (Some w) a is t never = rw is (rw t (record { first = []; rest = effects (plan w.files).steps; parts = refl; holds = refl }))
 
 -- A read that failed is known from how the command ends.
-pub gave_up : {T : Type 0} (r : Result T Fault) (z : Result T Ending) (y : Ending) → MatchResult r (λ x. z ≡ Ok x) (λ e. IsErrAnd z (λ k. k ≡ after_read e)) → z ≡ Err y → (fault : Fault) × (r ≡ Err fault) × (y ≡ after_read fault)
+pub gave_up : {T : Type 0} (r : Result T Fault) (z : Result T Ending) (y : Ending) → MatchResult r (λ x. z ≡ Ok x) (λ e. IsErrAnd z (λ k. k ≡ after_read e)) → z ≡ Err y
+    → (fault : Fault) × (r ≡ Err fault) × (y ≡ after_read fault)
 gave_up (Ok x) z y h is = cc
 gave_up (Err fault) (Ok x) y h is = cc
 gave_up (Err fault) (Err k) y h is = (fault, refl, subst (λ z. IsErrAnd z (λ k. k ≡ after_read fault)) is h)

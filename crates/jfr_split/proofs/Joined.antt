@@ -45,7 +45,8 @@ record Found (f : List ℕ → Option (List ℕ)) (name : List ℕ) (contents : 
 next_place : (x : List ℕ) (xs : List (List ℕ)) (i : ℕ) → drop (suc i + 1) (x ∷ xs) ≡ drop (i + 1) xs
 next_place x xs i = let e : suc i + 1 ≡ suc (i + 1) = omega arith in ap (λ (k : ℕ). drop k (x ∷ xs)) e
 
-found : (f : List ℕ → Option (List ℕ)) (ss : List (String Global)) (xs : List (List ℕ)) (i : ℕ) (d : String Global) → map f (bytes_of ss) ≡ map (λ x. Some x) xs → i < length ss → Found f (string_bytes (get_or ss i d)) xs i
+found : (f : List ℕ → Option (List ℕ)) (ss : List (String Global)) (xs : List (List ℕ)) (i : ℕ) (d : String Global) → map f (bytes_of ss) ≡ map (λ x. Some x) xs → i < length ss
+    → Found f (string_bytes (get_or ss i d)) xs i
 found f [] xs i d e l = absurd (omega (arith, l))
 found f (s ∷ ss) [] i d e l = cc
 found f (s ∷ ss) (x ∷ xs) zero d e l = record { x = x; is = cc; rest = refl }
@@ -73,7 +74,8 @@ apart_by true q out e n = absurd (n (same_name q out e))
 apart_by false q out e n = refl
 
 -- A file that isn't the output is as it was.
-still_there : (out q x : List ℕ) (cs : List (List ℕ)) (w v : World) → w.output ≡ Some out → (q ≡ out → ⊥) → file w q ≡ Some x → snapshot v None ≡ done (appends cs) (snapshot w None) → file v q ≡ Some x
+still_there : (out q x : List ℕ) (cs : List (List ℕ)) (w v : World) → w.output ≡ Some out → (q ≡ out → ⊥) → file w q ≡ Some x → snapshot v None ≡ done (appends cs) (snapshot w None)
+    → file v q ≡ Some x
 still_there out q x cs w v o n e k = ap (λ (s : Snapshot). fin.get s.files q) k ∙ other_files cs out q (snapshot w None) o (apart_by (is q out) q out refl n) ∙ e
 
 appends_finish : (cs : List (List ℕ)) → list_any is_finish (appends cs) ≡ false
@@ -94,7 +96,8 @@ added : (earlier cs : List (List ℕ)) (x : List ℕ) → cut_after earlier x �
 added earlier cs x e = ap (λ (y : Cuts). effects (plan_by adding (walk adding earlier y.chunks y.flaw)).steps) e ∙ (adds earlier cs).steps
 
 -- One file more was joined.
-next_file : (contents : List (List ℕ)) (i start number start' number' : ℕ) (x : List ℕ) (s t u : Snapshot) → (j : Joined contents i start number s t) → drop i contents ≡ x ∷ drop (i + 1) contents → AllDone (plan_after adding j.earlier (Some x)) Fine t u → IsAt (j.earlier ++ (cut_after j.earlier x).chunks) start' number' → Joined contents (i + 1) start' number' s u
+next_file : (contents : List (List ℕ)) (i start number start' number' : ℕ) (x : List ℕ) (s t u : Snapshot) → (j : Joined contents i start number s t) → drop i contents ≡ x ∷ drop (i + 1) contents
+    → AllDone (plan_after adding j.earlier (Some x)) Fine t u → IsAt (j.earlier ++ (cut_after j.earlier x).chunks) start' number' → Joined contents (i + 1) start' number' s u
 next_file contents i start number start' number' x s t u j rest d at =
     let cs = (cut_after j.earlier x).chunks in
     let later = joining (j.earlier ++ cs) (drop (i + 1) contents) in
@@ -104,13 +107,16 @@ next_file contents i start number start' number' x s t u j rest d at =
     record {
       earlier = j.earlier ++ cs;
       at = at;
-      holds = d.holds ∙ ap (λ (es : List Effect). done es t) e ∙ ap (done (appends cs)) j.holds ∙ sym (done_append (appends j.earlier) (appends cs) s) ∙ ap (λ (es : List Effect). done es s) (sym (appends_append j.earlier cs));
-      steps = j.steps ∙ ap (λ (xs : List (List ℕ)). appends j.earlier ++ effects (joining j.earlier xs).steps) rest ∙ ap (λ (es : List Effect). appends j.earlier ++ es) f.steps ∙ sym (append_assoc (appends j.earlier) (appends cs) (effects later.steps)) ∙ ap (λ (es : List Effect). es ++ effects later.steps) (sym (appends_append j.earlier cs));
+      holds = d.holds ∙ ap (λ (es : List Effect). done es t) e ∙ ap (done (appends cs)) j.holds ∙ sym (done_append (appends j.earlier) (appends cs) s)
+          ∙ ap (λ (es : List Effect). done es s) (sym (appends_append j.earlier cs));
+      steps = j.steps ∙ ap (λ (xs : List (List ℕ)). appends j.earlier ++ effects (joining j.earlier xs).steps) rest ∙ ap (λ (es : List Effect). appends j.earlier ++ es) f.steps
+          ∙ sym (append_assoc (appends j.earlier) (appends cs) (effects later.steps)) ∙ ap (λ (es : List Effect). es ++ effects later.steps) (sym (appends_append j.earlier cs));
       end = j.end ∙ ap (λ (xs : List (List ℕ)). (joining j.earlier xs).end) rest ∙ f.end;
     }
 
 -- A file that ended the run.
-last_file : (steady : Bool) (contents : List (List ℕ)) (i start number : ℕ) (x : List ℕ) (ended : CommandEnd) (s t u : Snapshot) → (j : Joined contents i start number s t) → drop i contents ≡ x ∷ drop (i + 1) contents → (ended ≡ Ends Fine → ⊥) → FilesOutcome steady (plan_after adding j.earlier (Some x)) ended t u → FilesOutcome steady (joining [] contents) ended s u
+last_file : (steady : Bool) (contents : List (List ℕ)) (i start number : ℕ) (x : List ℕ) (ended : CommandEnd) (s t u : Snapshot) → (j : Joined contents i start number s t)
+    → drop i contents ≡ x ∷ drop (i + 1) contents → (ended ≡ Ends Fine → ⊥) → FilesOutcome steady (plan_after adding j.earlier (Some x)) ended t u → FilesOutcome steady (joining [] contents) ended s u
 last_file steady contents i start number x ended s t u j rest n h =
     let later = joining (j.earlier ++ (cut_after j.earlier x).chunks) (drop (i + 1) contents) in
     outcome_after steady (appends j.earlier) (joining [] contents) (plan_then (plan_after adding j.earlier (Some x)) later) ended s t u
@@ -133,7 +139,8 @@ JoinedSo steady contents ended b a = IfKnown b a (λ w v. FilesOutcome steady (j
 
 module _ (out : List ℕ) (ss : List (String Global)) (contents : List (List ℕ)) (i start number : ℕ) (d : String Global) where
   -- One file more, if it was joined well.
-  pub file_joined : (steady : Bool) (b a e : Option World) (start' number' : ℕ) (name : List ℕ) → i < length ss → name ≡ string_bytes (get_or ss i d) → IfSome b (CanJoin out (bytes_of ss) contents) → JoinedFrom contents i start number b a
+  pub file_joined : (steady : Bool) (b a e : Option World) (start' number' : ℕ) (name : List ℕ) → i < length ss → name ≡ string_bytes (get_or ss i d) → IfSome b (CanJoin out (bytes_of ss) contents)
+      → JoinedFrom contents i start number b a
       → ((earlier : List (List ℕ)) → IsAt earlier start number → IfKnown a e (OutcomeOf steady adding earlier name None None (Ends Fine)))
       → ((earlier : List (List ℕ)) → IsAt earlier start number → IfSome a (IsPast (λ _. Unit {0}) earlier name start' number'))
       → JoinedFrom contents (i + 1) start' number' b e
@@ -144,12 +151,15 @@ module _ (out : List ℕ) (ss : List (String Global)) (contents : List (List ℕ
       let h = found (file w) ss contents i d can.held l in
       let apart : string_bytes (get_or ss i d) ≡ out → ⊥ = each_at (λ x. x ≡ out → ⊥) ss i d can.apart l in
       let is : file v name ≡ Some h.x = ap (file v) n ∙ still_there out (string_bytes (get_or ss i d)) h.x j.earlier w v can.opened apart h.is j.holds in
-      let all : OutcomeIn steady adding j.earlier (Some h.x) u.input (Ends Fine) (snapshot v None) (snapshot u None) = subst (λ (o : Option (List ℕ)). OutcomeIn steady adding j.earlier o u.input (Ends Fine) (snapshot v None) (snapshot u None)) is (f j.earlier j.at) in
-      let past : IfSome (Some h.x) (λ x. Unit {0} × IsAt (j.earlier ++ (cut_after j.earlier x).chunks) start' number') = subst (λ (o : Option (List ℕ)). IfSome o (λ x. Unit {0} × IsAt (j.earlier ++ (cut_after j.earlier x).chunks) start' number')) is (g j.earlier j.at) in
+      let all : OutcomeIn steady adding j.earlier (Some h.x) u.input (Ends Fine) (snapshot v None) (snapshot u None) =
+      subst (λ (o : Option (List ℕ)). OutcomeIn steady adding j.earlier o u.input (Ends Fine) (snapshot v None) (snapshot u None)) is (f j.earlier j.at) in
+      let past : IfSome (Some h.x) (λ x. Unit {0} × IsAt (j.earlier ++ (cut_after j.earlier x).chunks) start' number') =
+      subst (λ (o : Option (List ℕ)). IfSome o (λ x. Unit {0} × IsAt (j.earlier ++ (cut_after j.earlier x).chunks) start' number')) is (g j.earlier j.at) in
       next_file contents i start number start' number' h.x (snapshot w None) (snapshot v None) (snapshot u None) j h.rest all past.1
 
   -- The run ended with this file.
-  pub file_ended : (steady : Bool) (b a e : Option World) (ended : CommandEnd) (name : List ℕ) → i < length ss → name ≡ string_bytes (get_or ss i d) → (ended ≡ Ends Fine → ⊥) → IfSome b (CanJoin out (bytes_of ss) contents) → JoinedFrom contents i start number b a
+  pub file_ended : (steady : Bool) (b a e : Option World) (ended : CommandEnd) (name : List ℕ) → i < length ss → name ≡ string_bytes (get_or ss i d) → (ended ≡ Ends Fine → ⊥)
+      → IfSome b (CanJoin out (bytes_of ss) contents) → JoinedFrom contents i start number b a
       → ((earlier : List (List ℕ)) → IsAt earlier start number → IfKnown a e (OutcomeOf steady adding earlier name None None ended))
       → JoinedSo steady contents ended b e
   file_ended steady None a e ended name l n other can j f = tt
@@ -159,11 +169,14 @@ module _ (out : List ℕ) (ss : List (String Global)) (contents : List (List ℕ
       let h = found (file w) ss contents i d can.held l in
       let apart : string_bytes (get_or ss i d) ≡ out → ⊥ = each_at (λ x. x ≡ out → ⊥) ss i d can.apart l in
       let is : file v name ≡ Some h.x = ap (file v) n ∙ still_there out (string_bytes (get_or ss i d)) h.x j.earlier w v can.opened apart h.is j.holds in
-      let all : OutcomeIn steady adding j.earlier (Some h.x) u.input ended (snapshot v None) (snapshot u None) = subst (λ (o : Option (List ℕ)). OutcomeIn steady adding j.earlier o u.input ended (snapshot v None) (snapshot u None)) is (f j.earlier j.at) in
-      last_file steady contents i start number h.x ended (snapshot w None) (snapshot v None) (snapshot u None) j h.rest other (file_outcome steady j.earlier h.x u.input ended (snapshot v None) (snapshot u None) all)
+      let all : OutcomeIn steady adding j.earlier (Some h.x) u.input ended (snapshot v None) (snapshot u None) =
+      subst (λ (o : Option (List ℕ)). OutcomeIn steady adding j.earlier o u.input ended (snapshot v None) (snapshot u None)) is (f j.earlier j.at) in
+      last_file steady contents i start number h.x ended (snapshot w None) (snapshot v None) (snapshot u None) j h.rest other
+      (file_outcome steady j.earlier h.x u.input ended (snapshot v None) (snapshot u None) all)
 
 -- A part of the plan that ended the run.
-pub part_ended : (steady : Bool) (es later : List Effect) (all : Plan) (ended : CommandEnd) (s t : Snapshot) → effects all.steps ≡ es ++ later → PartEnded steady (Goes es) ended s t → FilesOutcome steady all ended s t
+pub part_ended : (steady : Bool) (es later : List Effect) (all : Plan) (ended : CommandEnd) (s t : Snapshot) → effects all.steps ≡ es ++ later → PartEnded steady (Goes es) ended s t
+    → FilesOutcome steady all ended s t
 part_ended steady es later all (Ends Fine) s t e h = absurd h
 part_ended steady es later all (Ends (Refused r)) s t e h = absurd (goes_stops es (Refused r) h.0)
 part_ended steady es later all (Ends TooMany) s t e h = absurd (goes_stops es TooMany h.0)
@@ -188,7 +201,8 @@ finished_so : (steady : Bool) (result : Result (Unit {0}) Ending) (s t : Snapsho
 finished_so steady (Ok o) s t h = record { end = refl; holds = h.1 }
 finished_so steady (Err e) s t h = part_ended steady (Finish ∷ []) [] (joining [] []) (command_end e) s t refl h
 
-finish_all : (steady : Bool) (contents : List (List ℕ)) (i start number : ℕ) (result : Result (Unit {0}) Ending) (s t u : Snapshot) → Joined contents i start number s t → drop i contents ≡ [] → PartOutcome steady (Goes (Finish ∷ [])) result t u → FilesOutcome steady (joining [] contents) (way_at_end result) s u
+finish_all : (steady : Bool) (contents : List (List ℕ)) (i start number : ℕ) (result : Result (Unit {0}) Ending) (s t u : Snapshot) → Joined contents i start number s t → drop i contents ≡ []
+    → PartOutcome steady (Goes (Finish ∷ [])) result t u → FilesOutcome steady (joining [] contents) (way_at_end result) s u
 finish_all steady contents i start number result s t u j none h =
     outcome_after steady (appends j.earlier) (joining [] contents) (joining j.earlier []) (way_at_end result) s t u
     (j.steps ∙ ap (λ (xs : List (List ℕ)). appends j.earlier ++ effects (joining j.earlier xs).steps) none)
@@ -196,7 +210,9 @@ finish_all steady contents i start number result s t u j none h =
     (appends_finish j.earlier) j.holds (finished_so steady result t u h)
 
 -- All files were joined, and the output was to be finished.
-pub files_ended : (steady : Bool) (out : List ℕ) (ss : List (String Global)) (contents : List (List ℕ)) (i start number : ℕ) (result : Result (Unit {0}) Ending) (b a e : Option World) → length ss ≤ i → IfSome b (CanJoin out (bytes_of ss) contents) → JoinedFrom contents i start number b a → IfKnown a e (PartWorld steady (Goes (Finish ∷ [])) result None None) → JoinedSo steady contents (way_at_end result) b e
+pub files_ended : (steady : Bool) (out : List ℕ) (ss : List (String Global)) (contents : List (List ℕ)) (i start number : ℕ) (result : Result (Unit {0}) Ending) (b a e : Option World) → length ss ≤ i
+    → IfSome b (CanJoin out (bytes_of ss) contents) → JoinedFrom contents i start number b a → IfKnown a e (PartWorld steady (Goes (Finish ∷ [])) result None None)
+    → JoinedSo steady contents (way_at_end result) b e
 files_ended steady out ss contents i start number result None a e l can j f = tt
 files_ended steady out ss contents i start number result (Some w) None e l can j f = absurd j
 files_ended steady out ss contents i start number result (Some w) (Some v) None l can j f = absurd f

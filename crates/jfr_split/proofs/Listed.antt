@@ -34,13 +34,15 @@ joined_one folder name = by (is_recording name)
     by true = refl
     by false = refl
 
-pub joined_more : (folder : List ℕ) (names : List (List ℕ)) (name : List ℕ) → joined_in folder (names ++ name ∷ []) ≡ joined_in folder names ++ (if is_recording name then in_folder folder name ∷ [] else [])
+pub joined_more : (folder : List ℕ) (names : List (List ℕ)) (name : List ℕ)
+    → joined_in folder (names ++ name ∷ []) ≡ joined_in folder names ++ (if is_recording name then in_folder folder name ∷ [] else [])
 joined_more folder names name =
     ap (map (in_folder folder)) (filter-append is_recording names (name ∷ []))
     ∙ map-append (in_folder folder) (filter is_recording names) (filter is_recording (name ∷ []))
     ∙ ap (λ (x : List (List ℕ)). joined_in folder names ++ x) (joined_one folder name)
 
-split_name : (b : Bool) (folder name : List ℕ) (p : Bool) (rest : List ℕ) → bytes_eq (take (length folder + 1) name) (in_folder folder []) ≡ b → (if b && p then Some (drop (length folder + 1) name) else None) ≡ Some rest → name ≡ in_folder folder rest
+split_name : (b : Bool) (folder name : List ℕ) (p : Bool) (rest : List ℕ) → bytes_eq (take (length folder + 1) name) (in_folder folder []) ≡ b
+    → (if b && p then Some (drop (length folder + 1) name) else None) ≡ Some rest → name ≡ in_folder folder rest
 split_name false folder name p rest e h = cc
 split_name true folder name false rest e h = cc
 split_name true folder name true rest e h =
@@ -53,7 +55,8 @@ split_name true folder name true rest e h =
 name_is : (folder name rest : List ℕ) → rest_in folder name ≡ Some rest → name ≡ in_folder folder rest
 name_is folder name rest h = split_name (bytes_eq (take (length folder + 1) name) (in_folder folder [])) folder name (is_plain (drop (length folder + 1) name)) rest refl h
 
-keep_by : (o : Option (List ℕ)) (folder name : List ℕ) (kept : List (List ℕ)) (later : List (List ℕ)) → rest_in folder name ≡ o → kept ≡ joined_in folder later → (if option_map_or is_recording o false then name ∷ kept else kept) ≡ joined_in folder (cons_option o later)
+keep_by : (o : Option (List ℕ)) (folder name : List ℕ) (kept : List (List ℕ)) (later : List (List ℕ)) → rest_in folder name ≡ o → kept ≡ joined_in folder later
+    → (if option_map_or is_recording o false then name ∷ kept else kept) ≡ joined_in folder (cons_option o later)
 keep_by None folder name kept later e h = h
 keep_by (Some rest) folder name kept later e h = keep (is_recording rest)
   where
@@ -84,8 +87,10 @@ kept_entries folder files =
     let kept = where_key order p es in
     let alike : (q x : List ℕ) → order q x ≡ Equal → p x ≡ p q = λ q x e. ap p (sym (slice_cmp-IsAntisymmetric nat_cmp-IsAntisymmetric q x e)) in
     let at : (q : List ℕ) → fin.get (files_in folder files) q ≡ fin.get (fin.from_sorted {R = order} kept) q = λ q.
-    get-retain_keys files p q (alike q) ∙ ap (λ (o : Option (List ℕ)). cond (p q) o None) (get-entries files q) ∙ sym (find-where_key order p q (alike q) es) ∙ sym (get-from_sorted order kept q sorted) in
-    ap (λ (m : Files). fin.entries m) (same_map nat_list_cmp_total (slice_cmp-IsAntisymmetric nat_cmp-IsAntisymmetric) (files_in folder files) (fin.from_sorted kept) at) ∙ entries-from_sorted order kept sorted
+    get-retain_keys files p q (alike q) ∙ ap (λ (o : Option (List ℕ)). cond (p q) o None) (get-entries files q) ∙ sym (find-where_key order p q (alike q) es)
+    ∙ sym (get-from_sorted order kept q sorted) in
+    ap (λ (m : Files). fin.entries m) (same_map nat_list_cmp_total (slice_cmp-IsAntisymmetric nat_cmp-IsAntisymmetric) (files_in folder files) (fin.from_sorted kept) at)
+    ∙ entries-from_sorted order kept sorted
 
 keys_joined : (folder : List ℕ) (files : Files) → fin.keys (files_in folder files) ≡ joined_in folder (names_in folder files)
 keys_joined folder files =
@@ -108,7 +113,8 @@ same_sums folder ns ms h = λ f.
     sum_joined f folder ms ∙ sum_by-IsPermutation (λ n. cond (is_recording n) (f (in_folder folder n)) 0) ns ms h ∙ sym (sum_joined f folder ns)
 
 -- The listed names that end in `.jfr`, sorted, are the names of the files that are joined.
-pub sorted_files : (folder : List ℕ) (files : Files) (words : List (List ℕ)) (found sorted : List (String Global)) → IsListing folder files words → bytes_of found ≡ joined_in folder (map encode_utf8_all words) → IsPermutation found sorted → IsSorted string_cmp sorted → bytes_of sorted ≡ fin.keys (files_in folder files)
+pub sorted_files : (folder : List ℕ) (files : Files) (words : List (List ℕ)) (found sorted : List (String Global)) → IsListing folder files words
+    → bytes_of found ≡ joined_in folder (map encode_utf8_all words) → IsPermutation found sorted → IsSorted string_cmp sorted → bytes_of sorted ≡ fin.keys (files_in folder files)
 sorted_files folder files words found sorted listing are moved up =
     same_sorted (bytes_of sorted) (fin.keys (files_in folder files)) (up_sorted sorted up) (up_keys (fin.entries (files_in folder files)) (entries_sorted (files_in folder files)))
     (λ f.
@@ -118,11 +124,13 @@ sorted_files folder files words found sorted listing are moved up =
     ∙ ap (λ (x : List (List ℕ)). sum_by f x) (sym (keys_joined folder files)))
 
 -- One listed name more was looked at.
-pub listed_more : (folder : List ℕ) (words : List (List ℕ)) (at : ℕ) (name : List ℕ) (found found' : List (String Global)) → at < length words → slice_get words at ≡ Some (chars name) → IsUtf8 name → bytes_of found ≡ joined_in folder (map encode_utf8_all (take at words))
+pub listed_more : (folder : List ℕ) (words : List (List ℕ)) (at : ℕ) (name : List ℕ) (found found' : List (String Global)) → at < length words → slice_get words at ≡ Some (chars name) → IsUtf8 name
+    → bytes_of found ≡ joined_in folder (map encode_utf8_all (take at words))
     → bytes_of found' ≡ bytes_of found ++ (if is_recording name then in_folder folder name ∷ [] else []) → bytes_of found' ≡ joined_in folder (map encode_utf8_all (take (at + 1) words))
 listed_more folder words at name found found' l e u h k =
     let before = map encode_utf8_all (take at words) in
     let word : get_or words at (chars name) ≡ chars name = get_or_from_slice_get words at (chars name) (chars name) e in
     let more : map encode_utf8_all (take (at + 1) words) ≡ before ++ name ∷ [] =
-    ap (map encode_utf8_all) (take_more words at (chars name) l) ∙ map-append encode_utf8_all (take at words) (get_or words at (chars name) ∷ []) ∙ ap (λ (w : List ℕ). before ++ encode_utf8_all w ∷ []) word ∙ ap (λ (w : List ℕ). before ++ w ∷ []) (encodes-chars name u) in
+    ap (map encode_utf8_all) (take_more words at (chars name) l) ∙ map-append encode_utf8_all (take at words) (get_or words at (chars name) ∷ [])
+    ∙ ap (λ (w : List ℕ). before ++ encode_utf8_all w ∷ []) word ∙ ap (λ (w : List ℕ). before ++ w ∷ []) (encodes-chars name u) in
     k ∙ ap (λ (x : List (List ℕ)). x ++ (if is_recording name then in_folder folder name ∷ [] else [])) h ∙ sym (joined_more folder before name) ∙ ap (joined_in folder) (sym more)

@@ -69,7 +69,8 @@ pub appends_append : (a b : List (List ℕ)) → appends (a ++ b) ≡ appends a 
 appends_append [] b = refl
 appends_append (c ∷ a) b = ap (λ (x : List Effect). Append c ∷ x) (appends_append a b)
 
-pub one_part : (earlier : List (List ℕ)) (x : List ℕ) (g : List (List ℕ)) (later : Plan) → cut_after earlier x ≡ record { chunks = g; flaw = None } → Follows (plan_after adding earlier (Some x)) later (appends g)
+pub one_part : (earlier : List (List ℕ)) (x : List ℕ) (g : List (List ℕ)) (later : Plan) → cut_after earlier x ≡ record { chunks = g; flaw = None }
+    → Follows (plan_after adding earlier (Some x)) later (appends g)
 one_part earlier x g later e =
     let h = adds earlier g in
     subst (λ (y : Cuts). Follows (plan_by adding (walk adding earlier y.chunks y.flaw)) later (appends g)) (sym e)
@@ -81,11 +82,14 @@ rejoins earlier ([] ∷ gs) f h = absurd f
 rejoins earlier ((c ∷ g) ∷ gs) f h =
     let k = early_split (length (joined earlier)) (c ∷ g) (flat gs) h in
     let e = part_cut earlier c g k.0 in
-    let n : length (joined earlier) + length (joined (c ∷ g)) ≡ length (joined (earlier ++ c ∷ g)) = sym (ap length (joined_append earlier (c ∷ g)) ∙ length-append (joined earlier) (joined (c ∷ g))) in
+    let n : length (joined earlier) + length (joined (c ∷ g)) ≡ length (joined (earlier ++ c ∷ g)) =
+    sym (ap length (joined_append earlier (c ∷ g)) ∙ length-append (joined earlier) (joined (c ∷ g))) in
     let i = rejoins (earlier ++ c ∷ g) gs f (subst (λ (m : ℕ). Early m (flat gs)) n k.1) in
-    let at : joining (earlier ++ (cut_after earlier (joined (c ∷ g))).chunks) (map joined gs) ≡ joining (earlier ++ c ∷ g) (map joined gs) = ap (λ (y : Cuts). joining (earlier ++ y.chunks) (map joined gs)) e in
+    let at : joining (earlier ++ (cut_after earlier (joined (c ∷ g))).chunks) (map joined gs) ≡ joining (earlier ++ c ∷ g) (map joined gs) =
+    ap (λ (y : Cuts). joining (earlier ++ y.chunks) (map joined gs)) e in
     let b = one_part earlier (joined (c ∷ g)) (c ∷ g) (joining (earlier ++ (cut_after earlier (joined (c ∷ g))).chunks) (map joined gs)) e in
     record {
-      steps = b.steps ∙ ap (λ (p : Plan). appends (c ∷ g) ++ effects p.steps) at ∙ ap (λ (x : List Effect). appends (c ∷ g) ++ x) i.steps ∙ sym (append_assoc (appends (c ∷ g)) (appends (flat gs)) (Finish ∷ [])) ∙ ap (λ (x : List Effect). x ++ Finish ∷ []) (sym (appends_append (c ∷ g) (flat gs)));
+      steps = b.steps ∙ ap (λ (p : Plan). appends (c ∷ g) ++ effects p.steps) at ∙ ap (λ (x : List Effect). appends (c ∷ g) ++ x) i.steps
+          ∙ sym (append_assoc (appends (c ∷ g)) (appends (flat gs)) (Finish ∷ [])) ∙ ap (λ (x : List Effect). x ++ Finish ∷ []) (sym (appends_append (c ∷ g) (flat gs)));
       end = b.end ∙ ap (λ (p : Plan). p.end) at ∙ i.end;
     }

@@ -92,11 +92,13 @@ early [] x s f a w = tt
 early (c ∷ cs) x s f a w = (w.0, starts_by (nat_le (2 ^ 40) s) x c s f refl a.0, early cs _ (s + length c) false a.1 w.1)
 
 -- Entries under names that all pass, over what has none.
-seen_by : (p : List ℕ → Bool) (es : Entries) (q k v : List ℕ) (o : Option (List ℕ)) (b : Bool) → is q k ≡ b → p k ≡ true → cond (p q) (over es q o) None ≡ find order q es → cond (p q) (cond b (Some v) (over es q o)) None ≡ cond b (Some v) (find order q es)
+seen_by : (p : List ℕ → Bool) (es : Entries) (q k v : List ℕ) (o : Option (List ℕ)) (b : Bool) → is q k ≡ b → p k ≡ true → cond (p q) (over es q o) None ≡ find order q es
+    → cond (p q) (cond b (Some v) (over es q o)) None ≡ cond b (Some v) (find order q es)
 seen_by p es q k v o true e h i = ap (λ (y : Bool). cond y (Some v) None) (ap p (same_name q k e) ∙ h)
 seen_by p es q k v o false e h i = i
 
-seen : (p : List ℕ → Bool) (name : ℕ → List ℕ) (n : ℕ) (gs : List (List (List ℕ))) (q : List ℕ) (o : Option (List ℕ)) → ((m : ℕ) → p (name m) ≡ true) → cond (p q) o None ≡ None → cond (p q) (over (numbered name n gs) q o) None ≡ find order q (numbered name n gs)
+seen : (p : List ℕ → Bool) (name : ℕ → List ℕ) (n : ℕ) (gs : List (List (List ℕ))) (q : List ℕ) (o : Option (List ℕ)) → ((m : ℕ) → p (name m) ≡ true) → cond (p q) o None ≡ None
+    → cond (p q) (over (numbered name n gs) q o) None ≡ find order q (numbered name n gs)
 seen p name n [] q o h e = e
 seen p name n (g ∷ gs) q o h e = seen_by p (numbered name (n + 1) gs) q (name n) (joined g) o (is q (name n)) refl (h n) (seen p name (n + 1) gs q o h e)
 
@@ -105,7 +107,9 @@ held name n [] = refl
 held name n (g ∷ gs) = ap (λ (l : List (List ℕ)). joined g ∷ l) (held name (n + 1) gs)
 
 -- The folder then has the parts.
-values_are : (rule : SplitRule) (folder file : List ℕ) (cs : List (List ℕ)) (s : Snapshot) (files : Files) → IsUsable rule → files_in folder s.files ≡ fin.empty → AllFit rule (part_name (Some folder) file) no_part cs → files ≡ (done (filling rule (part_name (Some folder) file) no_part cs) s).files → fin.values (files_in folder files) ≡ map joined (groups rule cs)
+values_are : (rule : SplitRule) (folder file : List ℕ) (cs : List (List ℕ)) (s : Snapshot) (files : Files) → IsUsable rule → files_in folder s.files ≡ fin.empty
+    → AllFit rule (part_name (Some folder) file) no_part cs → files ≡ (done (filling rule (part_name (Some folder) file) no_part cs) s).files
+    → fin.values (files_in folder files) ≡ map joined (groups rule cs)
 values_are rule folder file cs s files m h f e =
     let name = part_name (Some folder) file in
     let rise = rises rule (Some folder) file m in
@@ -114,17 +118,20 @@ values_are rule folder file cs s files m h f e =
     let sorted = sorted_numbered name rule.max_parts 1 (groups rule cs) rise (omega (arith, k)) in
     let none : (q : List ℕ) → cond (is_joined folder q) (fin.get s.files q) None ≡ None = λ q. sym (kept_at folder s.files q) ∙ ap (λ (x : Files). fin.get x q) h ∙ get-empty order q in
     let at : (q : List ℕ) → fin.get (files_in folder files) q ≡ fin.get (fin.from_sorted {R = order} es) q = λ q.
-    kept_at folder files q ∙ ap (λ (x : Files). cond (is_joined folder q) (fin.get x q) None) e ∙ ap (λ (o : Option (List ℕ)). cond (is_joined folder q) o None) (filled rule name cs rise f s q) ∙ seen (is_joined folder) name 1 (groups rule cs) q (fin.get s.files q) (part_joined folder file) (none q) ∙ sym (get-from_sorted order es q sorted) in
+    kept_at folder files q ∙ ap (λ (x : Files). cond (is_joined folder q) (fin.get x q) None) e ∙ ap (λ (o : Option (List ℕ)). cond (is_joined folder q) o None) (filled rule name cs rise f s q)
+    ∙ seen (is_joined folder) name 1 (groups rule cs) q (fin.get s.files q) (part_joined folder file) (none q) ∙ sym (get-from_sorted order es q sorted) in
     let same : files_in folder files ≡ fin.from_sorted es = same_map nat_list_cmp_total (slice_cmp-IsAntisymmetric nat_cmp-IsAntisymmetric) (files_in folder files) (fin.from_sorted es) at in
     ap (λ (x : Files). fin.values x) same ∙ ap (λ (x : Entries). map (λ (y : List ℕ × List ℕ). y.1) x) (entries-from_sorted order es sorted) ∙ held name 1 (groups rule cs)
 
 -- The chunks are appended to an output.
-all_appended : (cs : List (List ℕ)) (out b : List ℕ) (s : Snapshot) → s.output ≡ Some out → fin.get s.files out ≡ Some b → fin.get (done (appends cs ++ Finish ∷ []) s).files out ≡ Some (b ++ joined cs)
+all_appended : (cs : List (List ℕ)) (out b : List ℕ) (s : Snapshot) → s.output ≡ Some out → fin.get s.files out ≡ Some b
+    → fin.get (done (appends cs ++ Finish ∷ []) s).files out ≡ Some (b ++ joined cs)
 all_appended [] out b s o h = h ∙ ap (λ (x : List ℕ). Some x) (sym (append-nil b))
 all_appended (c ∷ cs) out b s o h =
     let t : Snapshot = holds (fin.insert s.files out (b ++ c)) (Some out) s.text (s.sound && is_some s.output) in
     let at : fin.get t.files out ≡ Some (b ++ c) = look s.files out (b ++ c) out ∙ ap (λ (x : Bool). cond x (Some (b ++ c)) (fin.get s.files out)) (is_self out) in
-    ap (λ (x : Snapshot). fin.get (done (appends cs ++ Finish ∷ []) x).files out) (grown_at s out b c o h) ∙ all_appended cs out (b ++ c) t refl at ∙ ap (λ (x : List ℕ). Some x) (append_assoc b c (joined cs))
+    ap (λ (x : Snapshot). fin.get (done (appends cs ++ Finish ∷ []) x).files out) (grown_at s out b c o h) ∙ all_appended cs out (b ++ c) t refl at
+    ∙ ap (λ (x : List ℕ). Some x) (append_assoc b c (joined cs))
 
 record Joins (vs : List (List ℕ)) (cs : List (List ℕ)) : Type 0 where
   pub end : (joining_all vs).end ≡ Some Fine
@@ -138,7 +145,8 @@ joins_parts rule (c ∷ cs) x a =
     let r = rejoins [] (groups rule all) (all_full rule no_part all) (subst (λ (y : List (List ℕ)). Early 0 y) (sym (groups_flat rule all)) (early all x 0 true a whole)) in
     record { end = r.end; steps = r.steps ∙ ap (λ (y : List (List ℕ)). appends y ++ Finish ∷ []) (groups_flat rule all) }
 
-pub returns : (rule : SplitRule) (folder file out x : List ℕ) (s : Snapshot) → IsUsable rule → folder_of rule ≡ Some folder → files_in folder s.files ≡ fin.empty → (split_plan rule file x).end ≡ Some Fine → Returns folder out x (split rule file x s)
+pub returns : (rule : SplitRule) (folder file out x : List ℕ) (s : Snapshot) → IsUsable rule → folder_of rule ≡ Some folder → files_in folder s.files ≡ fin.empty
+    → (split_plan rule file x).end ≡ Some Fine → Returns folder out x (split rule file x s)
 returns rule folder file out x s m into h e =
     let name = part_name (Some folder) file in
     let as_named : split_plan rule file x ≡ plan_after (splitting_as rule name) [] (Some x) = ap (λ (o : Option (List ℕ)). plan_after (splitting_as rule (part_name o file)) [] (Some x)) into in

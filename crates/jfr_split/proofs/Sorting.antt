@@ -101,7 +101,9 @@ sorted_tail s ss h = λ k d a l.
 pub up_sorted : (ss : List (String Global)) → IsSorted string_cmp ss → IsUp (bytes_of ss)
 up_sorted [] h = tt
 up_sorted (s ∷ ss) h = (
-  each_at (λ y. is_lt (order y (string_bytes s)) ≡ false) ss s (λ k l. sorted_far (λ (x y : String Global). is_lt (string_cmp x y)) (ranks_by nat_list_cmp_total (λ (x : String Global). string_bytes x)) (s ∷ ss) h 0 (suc k) s (omega arith) (omega (arith, l))),
+  each_at (λ y. is_lt (order y (string_bytes s)) ≡ false) ss s
+      (λ k l. sorted_far (λ (x y : String Global). is_lt (string_cmp x y)) (ranks_by nat_list_cmp_total (λ (x : String Global). string_bytes x)) (s ∷ ss) h 0 (suc k) s (omega arith)
+      (omega (arith, l))),
   up_sorted ss (sorted_tail s ss h),
 )
 
@@ -112,8 +114,11 @@ flip Greater b e h = absurd h
 
 none_below : (x : List ℕ) (es : List (List ℕ × List ℕ)) → T (below_all order x es) → NoneBelow x (map (λ e. e.0) es)
 none_below x [] h = tt
-none_below x (e ∷ es) h =
-    (flip (order x e.0) (order e.0 x) (nat_list_cmp_total.antisymm e.0 x) (first_holds (is_lt (order x e.0)) (below_all order x es) h), none_below x es (second_holds (is_lt (order x e.0)) (below_all order x es) h))
+none_below x (e ∷ es) h = (
+  flip (order x e.0) (order e.0 x) (nat_list_cmp_total.antisymm e.0 x) (first_holds (is_lt (order x e.0)) (below_all order x es) h),
+  none_below x es
+      (second_holds (is_lt (order x e.0)) (below_all order x es) h),
+)
 
 -- The keys of a map are up.
 pub up_keys : (es : List (List ℕ × List ℕ)) → T (is_sorted order es) → IsUp (map (λ e. e.0) es)

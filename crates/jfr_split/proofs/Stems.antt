@@ -15,7 +15,8 @@ use Rattle.jfr_split.specs.Names.{suffix, is_recording, base, without_suffix}
 abbrev is_slash : ℕ → Bool
 is_slash b = b == 47
 
-last_at : (bs : List ℕ) (j : ℕ) → j ≤ length bs → ((k : ℕ) → j ≤ k → k < length bs → not (is_slash (get_or bs k 0)) ≡ true) → (0 < j → not (is_slash (get_or bs (j - 1) 0)) ≡ false) → after_last is_slash bs ≡ drop j bs
+last_at : (bs : List ℕ) (j : ℕ) → j ≤ length bs → ((k : ℕ) → j ≤ k → k < length bs → not (is_slash (get_or bs k 0)) ≡ true) → (0 < j → not (is_slash (get_or bs (j - 1) 0)) ≡ false)
+    → after_last is_slash bs ≡ drop j bs
 last_at bs j h p s =
     let n = suffix_len_is (λ x. not (is_slash x)) bs j 0 h p s in
     let k : length bs - suffix_len (λ x. not (is_slash x)) bs ≡ j = omega (arith, n, h) in

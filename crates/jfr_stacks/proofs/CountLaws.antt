@@ -50,14 +50,16 @@ kept_below k w c most top None h e l = by_count c (sym (plus_kept k w) ∙ e) l
   where
     by_count : (c : ℕ) → Some (k + w) ≡ plus None c → c ≤ top → k ≤ most + top
     by_count zero e l = cc
-    by_count (suc c) e l = let x : k + w ≡ 0 + suc c = (let y : Some (k + w) ≡ Some (0 + suc c) = e ∙ plus_some None (suc c) (let z : (suc c == 0) ≡ false = grind (arith, nat_tests) in z) in cc) in omega arith
+    by_count (suc c) e l = let x : k + w ≡ 0 + suc c =
+        (let y : Some (k + w) ≡ Some (0 + suc c) = e ∙ plus_some None (suc c) (let z : (suc c == 0) ≡ false = grind (arith, nat_tests) in z) in cc) in omega arith
 kept_below k w c most top (Some n) h e l =
     let x : k + w ≡ n + c = (let y : Some (k + w) ≡ Some (n + c) = sym (plus_kept k w) ∙ (e ∙ plus_kept n c) in cc) in
     let m : n ≤ most = h n refl in
     omega arith
 
 -- Counts that with others are those before and at most `top` events more.
-pub below_by : (old now : Counts) (others count : List ℕ → ℕ) (most top : ℕ) → ((q : List ℕ) → plus (fin.get now q) (others q) ≡ plus (fin.get old q) (count q)) → ((q : List ℕ) → count q ≤ top) → AreBelow most old → AreBelow (most + top) now
+pub below_by : (old now : Counts) (others count : List ℕ → ℕ) (most top : ℕ) → ((q : List ℕ) → plus (fin.get now q) (others q) ≡ plus (fin.get old q) (count q)) → ((q : List ℕ) → count q ≤ top)
+    → AreBelow most old → AreBelow (most + top) now
 below_by old now others count most top e l b = record { each = λ q n is. kept_below n (others q) (count q) most top (fin.get old q) (b.each q) (ap (λ o. plus o (others q)) (sym is) ∙ e q) (l q) }
 
 -- A larger bound.

@@ -11,13 +11,15 @@ use Rattle.jfr_chunk.proofs.CountLaws.{filter_map_most, whole_small}
 use Rattle.jfr_stacks.specs.Adding.{kept_at, most_events}
 
 -- The first of the members that are left, if it is marked.
-marked_next : {X : Type 0} (flags : List Bool) (xs : List X) (i : ℕ) → i < length xs → length flags ≡ length xs → marked (drop i flags) (drop i xs) ≡ cons_option (cond (unwrap_or (slice_get flags i) false) (slice_get xs i) None) (marked (drop (i + 1) flags) (drop (i + 1) xs))
+marked_next : {X : Type 0} (flags : List Bool) (xs : List X) (i : ℕ) → i < length xs → length flags ≡ length xs
+    → marked (drop i flags) (drop i xs) ≡ cons_option (cond (unwrap_or (slice_get flags i) false) (slice_get xs i) None) (marked (drop (i + 1) flags) (drop (i + 1) xs))
 marked_next [] [] i h l = absurd (omega arith)
 marked_next [] (x ∷ xs) i h l = absurd (omega arith)
 marked_next (b ∷ flags) [] i h l = absurd (omega arith)
 marked_next (true ∷ flags) (x ∷ xs) zero h l = refl
 marked_next (false ∷ flags) (x ∷ xs) zero h l = refl
-marked_next (b ∷ flags) (x ∷ xs) (suc i) h l = let z : suc i + 1 ≡ suc (i + 1) = omega arith in marked_next flags xs i (omega arith) (omega arith) ∙ ap (λ n. cons_option (cond (unwrap_or (slice_get flags i) false) (slice_get xs i) None) (marked (drop n (b ∷ flags)) (drop n (x ∷ xs)))) (sym z)
+marked_next (b ∷ flags) (x ∷ xs) (suc i) h l = let z : suc i + 1 ≡ suc (i + 1) = omega arith in marked_next flags xs i (omega arith) (omega arith)
+    ∙ ap (λ n. cons_option (cond (unwrap_or (slice_get flags i) false) (slice_get xs i) None) (marked (drop n (b ∷ flags)) (drop n (x ∷ xs)))) (sym z)
 
 -- What is made of the events that are kept.
 abbrev pub left : {Y : Type 0} → (EventAt → Option Y) → Parts → List Bool → ℕ → List Y
@@ -37,10 +39,13 @@ module _ {Y : Type 0} (h : EventAt → Option Y) (p : Parts) (flags : List Bool)
           by_value (Some y) = refl
 
   -- What was made so far, and what is left.
-  pub done_next : (i : ℕ) (done : List Y) (o : Option EventAt) → i < length (events_of p) → length flags ≡ length (events_of p) → o ≡ kept_at p flags i → done ++ left h p flags i ≡ filter_map h (kept_by p flags) → (done ++ option_to_list (option_and_then h o)) ++ left h p flags (i + 1) ≡ filter_map h (kept_by p flags)
-  done_next i done o l e k w = append_assoc done (option_to_list (option_and_then h o)) (left h p flags (i + 1)) ∙ (ap (λ z. done ++ (option_to_list (option_and_then h z) ++ left h p flags (i + 1))) k ∙ (ap (λ z. done ++ z) (sym (left_next i l e)) ∙ w))
+  pub done_next : (i : ℕ) (done : List Y) (o : Option EventAt) → i < length (events_of p) → length flags ≡ length (events_of p) → o ≡ kept_at p flags i
+      → done ++ left h p flags i ≡ filter_map h (kept_by p flags) → (done ++ option_to_list (option_and_then h o)) ++ left h p flags (i + 1) ≡ filter_map h (kept_by p flags)
+  done_next i done o l e k w = append_assoc done (option_to_list (option_and_then h o)) (left h p flags (i + 1))
+      ∙ (ap (λ z. done ++ (option_to_list (option_and_then h z) ++ left h p flags (i + 1))) k ∙ (ap (λ z. done ++ z) (sym (left_next i l e)) ∙ w))
 
-  pub done_all : (i : ℕ) (done : List Y) → length (events_of p) ≤ i → length flags ≡ length (events_of p) → done ++ left h p flags i ≡ filter_map h (kept_by p flags) → done ≡ filter_map h (kept_by p flags)
+  pub done_all : (i : ℕ) (done : List Y) → length (events_of p) ≤ i → length flags ≡ length (events_of p) → done ++ left h p flags i ≡ filter_map h (kept_by p flags)
+      → done ≡ filter_map h (kept_by p flags)
   done_all i done l e w = sym (append-nil done) ∙ (ap (λ z. done ++ filter_map h z) (sym (none flags (events_of p) i l)) ∙ w)
     where
       nothing : {X : Type 0} (flags : List Bool) → marked {X = X} flags [] ≡ []

@@ -51,7 +51,8 @@ module _ (p : Parts) (s : Shape) (end : ℕ) (all : List NodeAt) where
           let i : IsNode p.classes p.bytes (node_at s at n.end) h.2.0 = subst (λ z. IsNode p.classes p.bytes z h.2.0) (node_is n at h.0 h.1) h.2.1 in
           record { to = n.end; ends = (h.2.0, i); order = i.order; within = cover_order n.end (replicate m s) ns h.3 }
 
-  pub item_next : (m at : ℕ) (items : List Node) (x : Node) → x.bytes.now ≡ p.bytes → x.shape ≡ s → x.at ≡ at → ((to : ℕ) → EndsAt p.classes p.bytes s at to → to ≤ end → x.end ≡ to) → Going p s end all (suc m) at items → Going p s end all m x.end (items ++ x ∷ [])
+  pub item_next : (m at : ℕ) (items : List Node) (x : Node) → x.bytes.now ≡ p.bytes → x.shape ≡ s → x.at ≡ at → ((to : ℕ) → EndsAt p.classes p.bytes s at to → to ≤ end → x.end ≡ to)
+      → Going p s end all (suc m) at items → Going p s end all m x.end (items ++ x ∷ [])
   item_next m at items x b f e t g = by_rest g.rest g.cover g.so_far
     where
       by_rest : (rest : List NodeAt) → Cover p.classes p.bytes at end (s ∷ replicate m s) rest → map node_of items ++ rest ≡ all → Going p s end all m x.end (items ++ x ∷ [])
@@ -76,12 +77,14 @@ module _ (p : Parts) (s : Shape) (end : ℕ) (all : List NodeAt) where
       by_rest (n ∷ ns) h w = absurd h
 
 -- No item yet.
-pub items_first : (p : Parts) (n : NodeAt) (s : Shape) (count : Var) → ItemsCover p.classes p.bytes n → int_at p.bytes n.at n.end ≡ Some count → s ≡ item_of n.shape → Going p s n.end (children p.classes p.bytes n) count.value count.end []
+pub items_first : (p : Parts) (n : NodeAt) (s : Shape) (count : Var) → ItemsCover p.classes p.bytes n → int_at p.bytes n.at n.end ≡ Some count → s ≡ item_of n.shape
+    → Going p s n.end (children p.classes p.bytes n) count.value count.end []
 items_first p n s count c e f =
     let q : c.count ≡ count = (let x : Some c.count ≡ Some count = sym c.counted ∙ e in cc) in
     record {
       rest = children p.classes p.bytes n;
-      cover = subst (λ (z : Shape). Cover p.classes p.bytes count.end n.end (replicate count.value z) (children p.classes p.bytes n)) (sym f) (subst (λ (z : Var). Cover p.classes p.bytes z.end n.end (replicate z.value (item_of n.shape)) (children p.classes p.bytes n)) q c.cover);
+      cover = subst (λ (z : Shape). Cover p.classes p.bytes count.end n.end (replicate count.value z) (children p.classes p.bytes n)) (sym f)
+          (subst (λ (z : Var). Cover p.classes p.bytes z.end n.end (replicate z.value (item_of n.shape)) (children p.classes p.bytes n)) q c.cover);
       so_far = refl;
       values = tt;
     }

@@ -31,7 +31,8 @@ under : (b : Bool) (kept o : Option ℕ) (count : ℕ) → (count == 0) ≡ fals
 under true kept o count h same = ap (λ k. Some (unwrap_or k 0 + count)) (sym (same refl)) ∙ sym (ap (λ z. cond z o (Some (unwrap_or o 0 + count))) h)
 under false kept o count h same = refl
 
-adds_by : (m n : CountMap) (text : List ℕ) (kept : Option ℕ) (count v : ℕ) → (count == 0) ≡ false → get_by_text m text ≡ kept → v ≡ unwrap_or kept 0 + count → UpdatesBy string_cmp (λ k. slice_cmp nat_cmp text (string_bytes k)) m n (Some v) → AddsText (counts_in m) (Some text) count (counts_in n)
+adds_by : (m n : CountMap) (text : List ℕ) (kept : Option ℕ) (count v : ℕ) → (count == 0) ≡ false → get_by_text m text ≡ kept → v ≡ unwrap_or kept 0 + count
+    → UpdatesBy string_cmp (λ k. slice_cmp nat_cmp text (string_bytes k)) m n (Some v) → AddsText (counts_in m) (Some text) count (counts_in n)
 adds_by m n text kept count v h is e u = record {
   each = λ q.
       changed ℕ m n text v u q
@@ -40,13 +41,16 @@ adds_by m n text kept count v h is e u = record {
 }
 
 -- The count under a text is replaced by a larger one.
-pub adds_kept : (m n : CountMap) (text : List ℕ) (kept count v : ℕ) → (count == 0) ≡ false → Some kept ≡ get_by_text m text → v ≡ kept + count → UpdatesBy string_cmp (λ k. slice_cmp nat_cmp text (string_bytes k)) m n (Some v) → AddsText (counts_in m) (Some text) count (counts_in n)
+pub adds_kept : (m n : CountMap) (text : List ℕ) (kept count v : ℕ) → (count == 0) ≡ false → Some kept ≡ get_by_text m text → v ≡ kept + count
+    → UpdatesBy string_cmp (λ k. slice_cmp nat_cmp text (string_bytes k)) m n (Some v) → AddsText (counts_in m) (Some text) count (counts_in n)
 adds_kept m n text kept count v h is e u = adds_by m n text (Some kept) count v h (sym is) e u
 
 -- A count is put under a text that had none.
-pub adds_new : (m looked n : CountMap) (key : String Global) (text : List ℕ) (count : ℕ) → looked ≡ m → (count == 0) ≡ false → string_bytes key ≡ text → None ≡ get_by_text m text → UpdatesBy string_cmp (string_cmp key) looked n (Some count) → AddsText (counts_in m) (Some text) count (counts_in n)
+pub adds_new : (m looked n : CountMap) (key : String Global) (text : List ℕ) (count : ℕ) → looked ≡ m → (count == 0) ≡ false → string_bytes key ≡ text → None ≡ get_by_text m text
+    → UpdatesBy string_cmp (string_cmp key) looked n (Some count) → AddsText (counts_in m) (Some text) count (counts_in n)
 adds_new m looked n key text count same h k is u =
-    let at : AddsText (counts_in m) (Some (string_bytes key)) count (counts_in n) = adds_by m n (string_bytes key) None count count h (ap (get_by_text m) k ∙ sym is) (let z : count ≡ 0 + count = omega arith in z) (subst (λ z. UpdatesBy string_cmp (string_cmp key) z n (Some count)) same u) in
+    let at : AddsText (counts_in m) (Some (string_bytes key)) count (counts_in n) = adds_by m n (string_bytes key) None count count h (ap (get_by_text m) k ∙ sym is)
+    (let z : count ≡ 0 + count = omega arith in z) (subst (λ z. UpdatesBy string_cmp (string_cmp key) z n (Some count)) same u) in
     subst (λ z. AddsText (counts_in m) (Some z) count (counts_in n)) k at
 
 -- Without events nothing is added.

@@ -17,12 +17,14 @@ module _ (text : ℕ → Option (List ℕ)) where
       by_text false h = omega arith
 
   -- An event more at one entry.
-  pending-slice_set : (q : List ℕ) (number : ℕ) (ns : List ℕ) (j n : ℕ) → slice_get ns j ≡ Some n → pending text q number (slice_set ns j (n + 1)) ≡ pending text q number ns + one (is_text q (text (number + j)))
+  pending-slice_set : (q : List ℕ) (number : ℕ) (ns : List ℕ) (j n : ℕ) → slice_get ns j ≡ Some n
+      → pending text q number (slice_set ns j (n + 1)) ≡ pending text q number ns + one (is_text q (text (number + j)))
   pending-slice_set q number [] j n e = cc
   pending-slice_set q number (m ∷ ns) zero n e =
       let s : m ≡ n = cc in
       let z : number + 0 ≡ number = omega arith in
-      ap (λ x. cond (is_text q (text number)) (n + 1) 0 + x) refl ∙ (by_text (is_text q (text number)) s ∙ ap (λ x. cond (is_text q (text number)) m 0 + pending text q (number + 1) ns + one (is_text q (text x))) (sym z))
+      ap (λ x. cond (is_text q (text number)) (n + 1) 0 + x) refl
+      ∙ (by_text (is_text q (text number)) s ∙ ap (λ x. cond (is_text q (text number)) m 0 + pending text q (number + 1) ns + one (is_text q (text x))) (sym z))
     where
       by_text : (b : Bool) → m ≡ n → cond b (n + 1) 0 + pending text q (number + 1) ns ≡ cond b m 0 + pending text q (number + 1) ns + one b
       by_text true s = omega arith
@@ -30,7 +32,8 @@ module _ (text : ℕ → Option (List ℕ)) where
   pending-slice_set q number (m ∷ ns) (suc j) n e =
       let i = pending-slice_set q (number + 1) ns j n e in
       let z : number + 1 + j ≡ number + suc j = omega arith in
-      let h : pending text q (number + 1) (slice_set ns j (n + 1)) ≡ pending text q (number + 1) ns + one (is_text q (text (number + suc j))) = i ∙ ap (λ x. pending text q (number + 1) ns + one (is_text q (text x))) z in
+      let h : pending text q (number + 1) (slice_set ns j (n + 1)) ≡ pending text q (number + 1) ns + one (is_text q (text (number + suc j))) =
+      i ∙ ap (λ x. pending text q (number + 1) ns + one (is_text q (text x))) z in
       let a : ℕ = cond (is_text q (text number)) m 0 in
       let c : ℕ = pending text q (number + 1) ns in
       let d : ℕ = one (is_text q (text (number + suc j))) in
@@ -43,11 +46,13 @@ module _ (text : ℕ → Option (List ℕ)) where
 
   module _ (old : Counts) (ts : List (List ℕ)) (now : Counts) where
     -- An event more, of whose text it is known whether it is q.
-    done_more : (q : List ℕ) (w : ℕ) (o : Option (List ℕ)) → plus (fin.get now q) w ≡ plus (fin.get old q) (count_of q ts) → plus (plus (fin.get now q) w) (one (is_text q o)) ≡ plus (fin.get old q) (count_of q (ts ++ option_to_list o))
+    done_more : (q : List ℕ) (w : ℕ) (o : Option (List ℕ)) → plus (fin.get now q) w ≡ plus (fin.get old q) (count_of q ts)
+        → plus (plus (fin.get now q) w) (one (is_text q o)) ≡ plus (fin.get old q) (count_of q (ts ++ option_to_list o))
     done_more q w o e = ap (λ x. plus x (one (is_text q o))) e ∙ (plus_plus (fin.get old q) (count_of q ts) (one (is_text q o)) ∙ ap (plus (fin.get old q)) (sym (count_more q ts o)))
 
     -- It is counted at an entry that has its text.
-    pub pending_more : (ns : List ℕ) (j n : ℕ) (o : Option (List ℕ)) → slice_get ns j ≡ Some n → o ≡ text j → HasPending text old ts now 0 ns → HasPending text old (ts ++ option_to_list o) now 0 (slice_set ns j (n + 1))
+    pub pending_more : (ns : List ℕ) (j n : ℕ) (o : Option (List ℕ)) → slice_get ns j ≡ Some n → o ≡ text j → HasPending text old ts now 0 ns
+        → HasPending text old (ts ++ option_to_list o) now 0 (slice_set ns j (n + 1))
     pending_more ns j n o e same h = record {
       each = λ q.
           (let z : 0 + j ≡ j = omega arith in

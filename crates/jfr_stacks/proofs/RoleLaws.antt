@@ -40,7 +40,8 @@ reference_in p n number e = by_test (is_reference n) refl e
 module _ (p : Parts) where
   -- The text to which names lead depends on the value after following references.
   text_from : NodeAt → List ℕ → List (List ℕ) → List ℕ
-  text_from holder name names = option_map_or (flat_map escaped) (option_and_then (text_of p) (option_map (after_references 16 p) (option_and_then (λ m. named_node p m names) (named_field p name holder)))) (codes "?")
+  text_from holder name names = option_map_or (flat_map escaped)
+      (option_and_then (text_of p) (option_map (after_references 16 p) (option_and_then (λ m. named_node p m names) (named_field p name holder)))) (codes "?")
 
   -- References to the same entry lead to the same value.
   same_value : (m n : NodeAt) (number : ℕ) → referred p m ≡ Some number → referred p n ≡ Some number → after_references 16 p m ≡ after_references 16 p n
@@ -53,7 +54,8 @@ module _ (p : Parts) where
 
   same_name : (m n : NodeAt) (name : List ℕ) (names : List (List ℕ)) → after_references 16 p m ≡ after_references 16 p n → name_text p m (name ∷ names) ≡ name_text p n (name ∷ names)
   unfolding name_text
-  same_name m n name names e = ap (λ h. option_map_or (flat_map escaped) (option_and_then (text_of p) (option_map (after_references 16 p) (option_and_then (λ m. named_node p m names) (named_field p name h)))) (codes "?")) e
+  same_name m n name names e = ap (λ h. option_map_or (flat_map escaped)
+      (option_and_then (text_of p) (option_map (after_references 16 p) (option_and_then (λ m. named_node p m names) (named_field p name h)))) (codes "?")) e
 
   same_text : (role : Role) (m n : NodeAt) → after_references 16 p m ≡ after_references 16 p n → role_text p role m ≡ role_text p role n
   same_text Frame m n e =
@@ -76,11 +78,13 @@ module _ (p : Parts) where
   -- The text to which names lead is that of the first name's field.
   pub name_found : (n m : NodeAt) (name : List ℕ) (names : List (List ℕ)) → Some m ≡ named_field p name (after_references 16 p n) → name_text p n (name ∷ names) ≡ name_text p m names
   unfolding name_text
-  name_found n m name names e = ap (λ o. option_map_or (flat_map escaped) (option_and_then (text_of p) (option_map (after_references 16 p) (option_and_then (λ m. named_node p m names) o))) (codes "?")) (sym e)
+  name_found n m name names e = ap (λ o. option_map_or (flat_map escaped) (option_and_then (text_of p) (option_map (after_references 16 p) (option_and_then (λ m. named_node p m names) o)))
+      (codes "?")) (sym e)
 
   pub name_missing : (n : NodeAt) (name : List ℕ) (names : List (List ℕ)) → None ≡ named_field p name (after_references 16 p n) → name_text p n (name ∷ names) ≡ codes "?"
   unfolding name_text
-  name_missing n name names e = ap (λ o. option_map_or (flat_map escaped) (option_and_then (text_of p) (option_map (after_references 16 p) (option_and_then (λ m. named_node p m names) o))) (codes "?")) (sym e)
+  name_missing n name names e = ap (λ o. option_map_or (flat_map escaped) (option_and_then (text_of p) (option_map (after_references 16 p) (option_and_then (λ m. named_node p m names) o)))
+      (codes "?")) (sym e)
 
   -- The text of a frame is that of its method.
   pub method_found : (n m : NodeAt) → Some m ≡ named_field p (codes "method") (after_references 16 p n) → frame_text p n ≡ role_text p Method m
@@ -110,7 +114,8 @@ get_set (y ∷ xs) (suc i) x h = get_set xs i x (omega arith)
 
 -- If P holds of each position and its value, and of a new value, then it holds of all of them after the value
 -- is set.
-set_each : {X : Type 0} (P : ℕ → X → Type 0) (xs : List (Option X)) (j : ℕ) (x : X) → P j x → ((n : ℕ) (y : X) → slice_get xs n ≡ Some (Some y) → P n y) → (n : ℕ) (y : X) → slice_get (slice_set xs j (Some x)) n ≡ Some (Some y) → P n y
+set_each : {X : Type 0} (P : ℕ → X → Type 0) (xs : List (Option X)) (j : ℕ) (x : X) → P j x → ((n : ℕ) (y : X) → slice_get xs n ≡ Some (Some y) → P n y) → (n : ℕ) (y : X)
+    → slice_get (slice_set xs j (Some x)) n ≡ Some (Some y) → P n y
 set_each P [] j x h a n y e = cc
 set_each P (o ∷ xs) zero x h a zero y e = let q : x ≡ y = cc in subst (P zero) q h
 set_each P (o ∷ xs) zero x h a (suc n) y e = a (suc n) y e
@@ -152,7 +157,8 @@ sized_texts texts indices n =
     ∙ ap (λ z. texts_at texts indices ++ replicate (n - z) None) (sym (length-map indices (text_at texts))))
 
 -- A text is kept.
-pub texts_kept : (texts : List (String Global)) (t : String Global) (indices : List (Option ℕ)) (entries number : ℕ) → AreIndices texts indices → texts_at (texts ++ t ∷ []) (slice_set (indices ++ replicate (entries - length indices) None) number (Some (length texts))) ≡ slice_set (sized entries (texts_at texts indices)) number (Some (string_bytes t))
+pub texts_kept : (texts : List (String Global)) (t : String Global) (indices : List (Option ℕ)) (entries number : ℕ) → AreIndices texts indices
+    → texts_at (texts ++ t ∷ []) (slice_set (indices ++ replicate (entries - length indices) None) number (Some (length texts))) ≡ slice_set (sized entries (texts_at texts indices)) number (Some (string_bytes t))
 texts_kept texts t indices entries number a =
     let all : List (Option ℕ) = indices ++ replicate (entries - length indices) None in
     map-set (text_at (texts ++ t ∷ [])) all number (Some (length texts))
@@ -160,10 +166,14 @@ texts_kept texts t indices entries number a =
     ∙ ap (λ z. slice_set z number (Some (string_bytes t))) (sized_texts (texts ++ t ∷ []) indices entries ∙ ap (sized entries) (same_texts texts t indices a.each)))
 
 -- The indices are those of texts, also with one more.
-pub indices_kept : (texts : List (String Global)) (t : String Global) (indices : List (Option ℕ)) (n number : ℕ) → AreIndices texts indices → AreIndices (texts ++ t ∷ []) (slice_set (indices ++ replicate n None) number (Some (length texts)))
+pub indices_kept : (texts : List (String Global)) (t : String Global) (indices : List (Option ℕ)) (n number : ℕ) → AreIndices texts indices
+    → AreIndices (texts ++ t ∷ []) (slice_set (indices ++ replicate n None) number (Some (length texts)))
 indices_kept texts t indices n number a =
     let l : length (texts ++ t ∷ []) ≡ length texts + 1 = length-append texts (t ∷ []) in
-    record { each = set_each (λ n i. i < length (texts ++ t ∷ [])) (indices ++ replicate n None) number (length texts) (omega arith) (λ k i e. let h = a.each k i (filled indices n k i e) in omega arith) }
+    record {
+      each = set_each (λ n i. i < length (texts ++ t ∷ [])) (indices ++ replicate n None) number (length texts) (omega arith)
+          (λ k i e. let h = a.each k i (filled indices n k i e) in omega arith);
+    }
 
 -- The text that was kept.
 pub text_kept : (texts : List (Option (List ℕ))) (entries number : ℕ) (text : List ℕ) → number < entries → slice_get (slice_set (sized entries texts) number (Some text)) number ≡ Some (Some text)
@@ -175,11 +185,13 @@ module _ (p : Parts) (role : Role) where
   no_texts = record { each = λ number text is. cc }
 
   -- A cache with one more text.
-  pub text_added : (texts : List (Option (List ℕ))) (entries number : ℕ) (text : List ℕ) → IsEntryText p role number text → AreEntryTexts p role texts → AreEntryTexts p role (slice_set (sized entries texts) number (Some text))
+  pub text_added : (texts : List (Option (List ℕ))) (entries number : ℕ) (text : List ℕ) → IsEntryText p role number text → AreEntryTexts p role texts
+      → AreEntryTexts p role (slice_set (sized entries texts) number (Some text))
   text_added texts entries number text t a = record { each = set_each (IsEntryText p role) (sized entries texts) number text t (λ n y e. a.each n y (filled texts (entries - length texts) n y e)) }
 
   -- The text that a cache has for an entry.
-  pub text_there : (texts : List (Option (List ℕ))) (number : ℕ) (text : List ℕ) → AreEntryTexts p role texts → Some text ≡ option_and_then (λ x. x) (slice_get texts number) → IsEntryText p role number text
+  pub text_there : (texts : List (Option (List ℕ))) (number : ℕ) (text : List ℕ) → AreEntryTexts p role texts → Some text ≡ option_and_then (λ x. x) (slice_get texts number)
+      → IsEntryText p role number text
   text_there texts number text a e = a.each number text (by_slot (slice_get texts number) e)
     where
       by_slot : (o : Option (Option (List ℕ))) → Some text ≡ option_and_then (λ x. x) o → o ≡ Some (Some text)

@@ -38,7 +38,14 @@ chunk = record {
       record { id = 5; name = codes "java.lang.String"; super_name = None; fields = []; categories = [] }
       ∷ record { id = 6; name = codes "Symbol"; super_name = None; fields = record { name = codes "string"; shape = inline 5 } ∷ []; categories = [] }
       ∷ record { id = 7; name = codes "Class"; super_name = None; fields = record { name = codes "name"; shape = reference 6 } ∷ []; categories = [] }
-      ∷ record { id = 8; name = codes "Method"; super_name = None; fields = record { name = codes "type"; shape = reference 7 } ∷ record { name = codes "name"; shape = reference 6 } ∷ []; categories = [] }
+      ∷ record {
+        id = 8;
+        name = codes "Method";
+        super_name = None;
+        fields = record { name = codes "type"; shape = reference 7 } ∷ record { name = codes "name"; shape = reference 6 } ∷ [];
+        categories =
+            [];
+      }
       ∷ record { id = 9; name = codes "Frame"; super_name = None; fields = record { name = codes "method"; shape = reference 8 } ∷ []; categories = [] }
       ∷ record { id = 10; name = codes "Trace"; super_name = None; fields = record { name = codes "frames"; shape = record { class = 9; constant = false; array = true } } ∷ []; categories = [] }
       ∷ record { id = 11; name = codes "Event"; super_name = None; fields = record { name = codes "stackTrace"; shape = reference 10 } ∷ []; categories = [] }

@@ -30,11 +30,13 @@ pub traced : (p : Parts) (e : EventAt) → stack_of p e ≡ option_and_then (λ 
 unfolding stack_of frames_of trace_text
 traced p e = by_trace (trace_of p e.node)
   where
-    by_frames : (o : Option NodeAt) → option_map (stack_text p) (option_and_then (items_of p) (option_map (after_references 16 p) (option_and_then (λ m. Some m) o))) ≡ option_map (stack_text p) (option_and_then (items_of p) (option_map (after_references 16 p) o))
+    by_frames : (o : Option NodeAt)
+        → option_map (stack_text p) (option_and_then (items_of p) (option_map (after_references 16 p) (option_and_then (λ m. Some m) o))) ≡ option_map (stack_text p) (option_and_then (items_of p) (option_map (after_references 16 p) o))
     by_frames None = refl
     by_frames (Some m) = refl
 
-    by_trace : (o : Option NodeAt) → option_map (stack_text p) (option_and_then (items_of p) (option_map (after_references 16 p) (option_and_then (λ m. named_node p m (codes "frames" ∷ [])) o))) ≡ option_and_then (λ t. trace_text p (after_references 16 p t)) o
+    by_trace : (o : Option NodeAt)
+        → option_map (stack_text p) (option_and_then (items_of p) (option_map (after_references 16 p) (option_and_then (λ m. named_node p m (codes "frames" ∷ [])) o))) ≡ option_and_then (λ t. trace_text p (after_references 16 p t)) o
     by_trace None = refl
     by_trace (Some t) = by_frames (named_field p (codes "frames") (after_references 16 p t))
 
@@ -49,15 +51,20 @@ module _ (p : Parts) (n : NodeAt) (name : List ℕ) where
   field_in o = option_and_then (λ (c : ClassInfo). option_and_then (λ i. child p.classes p.bytes n (steps.Field i)) (field_number c.fields name)) o
 
   -- The field with the number that is listed for its class, and with none.
-  pub field_found : (index number : ℕ) → option_and_then (slice_get p.classes) (Some index) ≡ find_class p.classes n.shape.class → option_and_then (λ x. x) (slice_get (field_numbers name p.classes) index) ≡ Some number → named_field p name n ≡ child p.classes p.bytes n (steps.Field number)
-  field_found index number c e = ap field_in (sym c) ∙ by_class (slice_get p.classes index) (ap (option_and_then (λ x. x)) (sym (slice_get-map (λ (c : ClassInfo). field_number c.fields name) p.classes index)) ∙ e)
+  pub field_found : (index number : ℕ) → option_and_then (slice_get p.classes) (Some index) ≡ find_class p.classes n.shape.class
+      → option_and_then (λ x. x) (slice_get (field_numbers name p.classes) index) ≡ Some number → named_field p name n ≡ child p.classes p.bytes n (steps.Field number)
+  field_found index number c e = ap field_in (sym c) ∙ by_class (slice_get p.classes index)
+      (ap (option_and_then (λ x. x)) (sym (slice_get-map (λ (c : ClassInfo). field_number c.fields name) p.classes index)) ∙ e)
     where
-      by_class : (o : Option ClassInfo) → option_and_then (λ x. x) (option_map (λ (c : ClassInfo). field_number c.fields name) o) ≡ Some number → field_in o ≡ child p.classes p.bytes n (steps.Field number)
+      by_class : (o : Option ClassInfo) → option_and_then (λ x. x) (option_map (λ (c : ClassInfo). field_number c.fields name) o) ≡ Some number
+          → field_in o ≡ child p.classes p.bytes n (steps.Field number)
       by_class None e = cc
       by_class (Some c) e = ap (option_and_then (λ i. child p.classes p.bytes n (steps.Field i))) e
 
-  pub field_missing : (index : ℕ) → option_and_then (slice_get p.classes) (Some index) ≡ find_class p.classes n.shape.class → option_and_then (λ x. x) (slice_get (field_numbers name p.classes) index) ≡ None → named_field p name n ≡ None
-  field_missing index c e = ap field_in (sym c) ∙ by_class (slice_get p.classes index) (ap (option_and_then (λ x. x)) (sym (slice_get-map (λ (c : ClassInfo). field_number c.fields name) p.classes index)) ∙ e)
+  pub field_missing : (index : ℕ) → option_and_then (slice_get p.classes) (Some index) ≡ find_class p.classes n.shape.class
+      → option_and_then (λ x. x) (slice_get (field_numbers name p.classes) index) ≡ None → named_field p name n ≡ None
+  field_missing index c e = ap field_in (sym c) ∙ by_class (slice_get p.classes index)
+      (ap (option_and_then (λ x. x)) (sym (slice_get-map (λ (c : ClassInfo). field_number c.fields name) p.classes index)) ∙ e)
     where
       by_class : (o : Option ClassInfo) → option_and_then (λ x. x) (option_map (λ (c : ClassInfo). field_number c.fields name) o) ≡ None → field_in o ≡ None
       by_class None e = refl
@@ -72,7 +79,8 @@ there (x ∷ xs) (suc i) h = there xs i (omega arith)
 pub entry_followed : (p : Parts) (n : NodeAt) (number : ℕ) (x : EntryAt) → entry_number p n ≡ Some number → slice_get p.entries number ≡ Some x → follow p n ≡ Some (entry_node x)
 entry_followed p n number x e g = by_target (target p.classes p.bytes n) e
   where
-    by_target : (o : Option (ℕ × ℕ)) → option_and_then (number_in_force p.entries) o ≡ Some number → option_and_then (λ t. option_map entry_node (option_and_then (λ n. slice_get p.entries n) (number_in_force p.entries t))) o ≡ Some (entry_node x)
+    by_target : (o : Option (ℕ × ℕ)) → option_and_then (number_in_force p.entries) o ≡ Some number
+        → option_and_then (λ t. option_map entry_node (option_and_then (λ n. slice_get p.entries n) (number_in_force p.entries t))) o ≡ Some (entry_node x)
     by_target None e = cc
     by_target (Some t) e = ap (λ z. option_map entry_node (option_and_then (λ n. slice_get p.entries n) z)) e ∙ ap (option_map entry_node) g
 
@@ -86,7 +94,8 @@ leads_to p n number r e =
       reference = r;
       entry = e;
       within = l;
-      same = ap (trace_text p) (followed is_reference p 15 n (entry_node g.0) r (entry_followed p n number g.0 e g.1)) ∙ sym (ap (option_and_then (λ e. trace_text p (after_references 15 p (entry_node e)))) g.1);
+      same = ap (trace_text p) (followed is_reference p 15 n (entry_node g.0) r (entry_followed p n number g.0 e g.1))
+          ∙ sym (ap (option_and_then (λ e. trace_text p (after_references 15 p (entry_node e)))) g.1);
     }
   where
     within_entries : (p : Parts) (o : Option (ℕ × ℕ)) (number : ℕ) → option_and_then (number_in_force p.entries) o ≡ Some number → number < length p.entries
@@ -138,7 +147,8 @@ rest_text p items = flat_map (λ t. codes ";" ++ t) (reverse (map (frame_text p)
 
 module _ (p : Parts) where
   last_first : (items : List Node) (x : Node) → reverse (map (frame_text p) (map node_of (items ++ x ∷ []))) ≡ frame_text p (node_of x) ∷ reverse (map (frame_text p) (map node_of items))
-  last_first items x = ap (λ z. reverse (map (frame_text p) z)) (map-append node_of items (x ∷ [])) ∙ (ap reverse (map-append (frame_text p) (map node_of items) (node_of x ∷ [])) ∙ reverse-append (map (frame_text p) (map node_of items)) (frame_text p (node_of x) ∷ []))
+  last_first items x = ap (λ z. reverse (map (frame_text p) z)) (map-append node_of items (x ∷ []))
+      ∙ (ap reverse (map-append (frame_text p) (map node_of items) (node_of x ∷ [])) ∙ reverse-append (map (frame_text p) (map node_of items)) (frame_text p (node_of x) ∷ []))
 
   -- The stack begins with the last frame.
   pub stack_first : (all items : List Node) (x : Node) → all ≡ items ++ x ∷ [] → stack_text p (map node_of all) ≡ frame_text p (node_of x) ++ rest_text p items
@@ -154,7 +164,8 @@ module _ (p : Parts) where
   stack_none all e = ap (λ z. stack_text p (map node_of z)) e
 
   -- A frame is written, after a semicolon.
-  pub rest_next : (all items : List Node) (x : Node) (whole before comma now : List ℕ) → all ≡ items ++ x ∷ [] → comma ≡ before ++ codes ";" → now ≡ comma ++ frame_text p (node_of x) → before ++ rest_text p all ≡ whole → now ++ rest_text p items ≡ whole
+  pub rest_next : (all items : List Node) (x : Node) (whole before comma now : List ℕ) → all ≡ items ++ x ∷ [] → comma ≡ before ++ codes ";" → now ≡ comma ++ frame_text p (node_of x)
+      → before ++ rest_text p all ≡ whole → now ++ rest_text p items ≡ whole
   rest_next all items x whole before comma now e c n h =
       let f : List ℕ = frame_text p (node_of x) in
       let g : (before ++ codes ";") ++ (f ++ rest_text p items) ≡ before ++ ((codes ";" ++ f) ++ rest_text p items) = simp append_assoc in

@@ -34,7 +34,8 @@ module _ (x : List ℕ) (end at : ℕ) (order : at ≤ end) (within : end ≤ le
   -- Bytes that the format reads by computing are a string of the content.
   pub computed : (s : Content) (to : ℕ) → run (string_format true) x end at ≡ Ok (record { value = s; place = to }) → IsString (slice_range x at to) s
   computed s to e =
-      let i = reads_exact (string_format true) x end at s to within order (string_free true) (subst (ReadsOrFails (string_format true) x end at) e (run_reads_or_fails (string_format true) x end at order within)) in
+      let i = reads_exact (string_format true) x end at s to within order (string_free true)
+      (subst (ReadsOrFails (string_format true) x end at) e (run_reads_or_fails (string_format true) x end at order within)) in
       (string_of_format true (slice_range x at to) s i.exact).0
 
   after : (s : Content) (to : ℕ) → Reads (string_format true) x end at s to → at < to

@@ -51,7 +51,19 @@ module _ (x y : List ℕ) (at w : ℕ) (small : (k : ℕ) → slice_index x k < 
   byte_is k h = ap (λ l. slice_index l k) holds ∙ (get_or-take 8 _ k 0 h ∙ (get_or-take (at + 8 - at) (drop at x) k 0 (omega arith) ∙ get_or-drop at x k 0))
 
   word_is : w ≡ word byte small_byte 0 8
-  word_is = omega (arith, is, byte_is 0 (omega arith), byte_is 1 (omega arith), byte_is 2 (omega arith), byte_is 3 (omega arith), byte_is 4 (omega arith), byte_is 5 (omega arith), byte_is 6 (omega arith), byte_is 7 (omega arith))
+  word_is = omega (
+    arith,
+    is,
+    byte_is 0 (omega arith),
+    byte_is 1 (omega arith),
+    byte_is 2 (omega arith),
+    byte_is 3 (omega arith),
+    byte_is 4 (omega arith),
+    byte_is 5 (omega arith),
+    byte_is 6
+        (omega arith),
+    byte_is 7 (omega arith),
+  )
 
   tested : bit_and w 0x8080_8080_8080_8080 ≡ bit_and (word byte small_byte 0 8) (tops 8)
   tested = ap (λ n. bit_and n 0x8080_8080_8080_8080) word_is

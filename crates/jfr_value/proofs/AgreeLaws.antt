@@ -35,7 +35,8 @@ module _ (k m : Classes) where
       ∙ (ap (λ x. kind_format (kind_of a.1.name) s (fields_format (class_format n m) x)) a.6
       ∙ sym (ap (inline_format (class_format n m) s) a.3))))
     where
-      each : (fs : List Field) → AllByRecursion (λ f. AgreeWithin n k m f.shape.class) fs → ((s : Shape) → AgreeWithin n k m s.class → class_format n k s ≡ class_format n m s) → AllByRecursion (λ z. (t : Shape) → t.class ≡ z.shape.class → class_format n k t ≡ class_format n m t) fs
+      each : (fs : List Field) → AllByRecursion (λ f. AgreeWithin n k m f.shape.class) fs → ((s : Shape) → AgreeWithin n k m s.class → class_format n k s ≡ class_format n m s)
+          → AllByRecursion (λ z. (t : Shape) → t.class ≡ z.shape.class → class_format n k t ≡ class_format n m t) fs
       each [] b h = tt
       each (f ∷ fs) b h = (λ t e. h t (subst (AgreeWithin n k m) (sym e) b.0), each fs b.1 h)
 

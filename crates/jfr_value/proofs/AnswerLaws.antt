@@ -24,7 +24,8 @@ some_known k s h = by_class (find_class k s.class) refl h
     by_class None q h = cc
     by_class (Some c) q h = (c, q)
 
-pub node_reads : (k : Classes) (c : List ℕ) (s : Shape) (at to end : ℕ) (v : Value) → Sound k → IsNode k c (node_at s at to) v → to ≤ end → at ≤ end → end ≤ length c → Reads (value_format k s) c end at v to
+pub node_reads : (k : Classes) (c : List ℕ) (s : Shape) (at to end : ℕ) (v : Value) → Sound k → IsNode k c (node_at s at to) v → to ≤ end → at ≤ end → end ≤ length c
+    → Reads (value_format k s) c end at v to
 node_reads k c s at to end v sound n l o h = by_answer (run (value_format k s) c end at) (node_read k c (node_at s at to) v end sound n l h) (run_reads_or_fails (value_format k s) c end at o h)
   where
     by_answer : (r : Answer Value) → r ≡ Ok (record { value = v; place = to }) → ReadsOrFails (value_format k s) c end at r → Reads (value_format k s) c end at v to
@@ -36,7 +37,8 @@ node_reads k c s at to end v sound n l o h = by_answer (run (value_format k s) c
 -- A node has one end and one value.
 pub one_node : (k : Classes) (c : List ℕ) (s : Shape) (at to too : ℕ) (v w : Value) → Sound k → IsNode k c (node_at s at to) v → IsNode k c (node_at s at too) w → (to ≡ too) × (v ≡ w)
 one_node k c s at to too v w sound n m =
-    let o = once_ok v w to too (run (value_format k s) c (length c) at) (node_read k c (node_at s at to) v (length c) sound n n.within (omega arith)) (node_read k c (node_at s at too) w (length c) sound m m.within (omega arith)) in
+    let o = once_ok v w to too (run (value_format k s) c (length c) at) (node_read k c (node_at s at to) v (length c) sound n n.within (omega arith))
+    (node_read k c (node_at s at too) w (length c) sound m m.within (omega arith)) in
     (o.place, o.value)
 
 flaw_is : (e f : Flaw) → e.offset ≡ f.offset → e.reason ≡ f.reason → e ≡ f

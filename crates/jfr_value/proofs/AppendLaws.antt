@@ -30,7 +30,8 @@ module _ {X : Type 0} (f : X → Format Value) (x : List ℕ) (end : ℕ) where
   both_seen [] ys at = refl
   both_seen (z ∷ xs) ys at =
       end_or_flaw-for_each z (xs ++ ys) f x end at
-      ∙ (then_same (end_or_flaw (run (f z) x end at)) (end_or_flaw (run (f z) x end at)) (λ p. end_or_flaw (each (xs ++ ys) p)) (λ p. then_at (end_or_flaw (each xs p)) (λ q. end_or_flaw (each ys q))) refl (λ p. both_seen xs ys p)
+      ∙ (then_same (end_or_flaw (run (f z) x end at)) (end_or_flaw (run (f z) x end at)) (λ p. end_or_flaw (each (xs ++ ys) p))
+      (λ p. then_at (end_or_flaw (each xs p)) (λ q. end_or_flaw (each ys q))) refl (λ p. both_seen xs ys p)
       ∙ (then_then (end_or_flaw (run (f z) x end at)) (λ p. end_or_flaw (each xs p)) (λ q. end_or_flaw (each ys q))
       ∙ ap (λ r. then_at r (λ q. end_or_flaw (each ys q))) (sym (end_or_flaw-for_each z xs f x end at))))
 
@@ -54,13 +55,15 @@ module _ {X : Type 0} (f : X → Format Value) (x : List ℕ) (end : ℕ) where
         let b = run-bind (f z) (λ v. for_each xs f >>= λ vs. Done (v ∷ vs)) x end at in
         by_first (run (f z) x end at) refl (e ∙ ap end_or_flaw b) (subst (λ (r : Answer (List Value)). TakesReadAll takes r old new) b h)
       where
-        by_first : (r : Answer Value) → run (f z) x end at ≡ r → Ok to ≡ end_or_flaw (on r (λ v p. run (for_each xs f >>= λ vs. Done (v ∷ vs)) x end p)) → TakesReadAll takes (on r (λ v p. run (for_each xs f >>= λ vs. Done (v ∷ vs)) x end p)) old new → Parted z xs at to old new
+        by_first : (r : Answer Value) → run (f z) x end at ≡ r → Ok to ≡ end_or_flaw (on r (λ v p. run (for_each xs f >>= λ vs. Done (v ∷ vs)) x end p))
+            → TakesReadAll takes (on r (λ v p. run (for_each xs f >>= λ vs. Done (v ∷ vs)) x end p)) old new → Parted z xs at to old new
         by_first (Err w) q e h = cc
         by_first (Ok g) q e h =
             let b = run-bind (for_each xs f) (λ vs. Done (g.value ∷ vs)) x end g.place in
             by_others (each xs g.place) refl (e ∙ ap end_or_flaw b) (subst (λ (r : Answer (List Value)). TakesReadAll takes r old new) b h)
           where
-            by_others : (s : Answer (List Value)) → each xs g.place ≡ s → Ok to ≡ end_or_flaw (on s (λ vs p. run (Done (g.value ∷ vs)) x end p)) → TakesReadAll takes (on s (λ vs p. run (Done (g.value ∷ vs)) x end p)) old new → Parted z xs at to old new
+            by_others : (s : Answer (List Value)) → each xs g.place ≡ s → Ok to ≡ end_or_flaw (on s (λ vs p. run (Done (g.value ∷ vs)) x end p))
+                → TakesReadAll takes (on s (λ vs p. run (Done (g.value ∷ vs)) x end p)) old new → Parted z xs at to old new
             by_others (Err w) t e h = cc
             by_others (Ok more) t e h =
                 let p = takes_parts (targets_of g.value) (targets_of_all (values_of more.value)) old new h in
@@ -73,7 +76,8 @@ module _ {X : Type 0} (f : X → Format Value) (x : List ℕ) (end : ℕ) where
                   others_taken = subst (λ (r : Answer (List Value)). TakesReadAll takes r p.0 new) (sym t) p.2;
                 }
 
-    pub both_taken : (xs ys : List X) (at to : ℕ) (old now new : A) → Ok to ≡ end_or_flaw (each xs at) → TakesReadAll takes (each xs at) old now → TakesReadAll takes (each ys to) now new → TakesReadAll takes (each (xs ++ ys) at) old new
+    pub both_taken : (xs ys : List X) (at to : ℕ) (old now new : A) → Ok to ≡ end_or_flaw (each xs at) → TakesReadAll takes (each xs at) old now → TakesReadAll takes (each ys to) now new
+        → TakesReadAll takes (each (xs ++ ys) at) old new
     unfolding run
     both_taken [] ys at to old now new e h t =
         let p : to ≡ at = cc in

@@ -55,7 +55,8 @@ pub record FieldsIn (k : Classes) (c : List ℕ) (n : NodeAt) (v : Value) (fs : 
   pub row : AreValues k c n.at n.end (map (λ f. f.shape) fs) parts
   pub is : laid_in n.at v ≡ laid n.at (list_of parts)
 
-pub fields_in : (k : Classes) (c : List ℕ) (n : NodeAt) (v : Value) (d : Class) → IsNode k c n v → n.shape.array ≡ false → n.shape.constant ≡ false → find_class k n.shape.class ≡ Some d → kind_of d.name ≡ kinds.Composite → FieldsIn k c n v d.fields
+pub fields_in : (k : Classes) (c : List ℕ) (n : NodeAt) (v : Value) (d : Class) → IsNode k c n v → n.shape.array ≡ false → n.shape.constant ≡ false → find_class k n.shape.class ≡ Some d
+    → kind_of d.name ≡ kinds.Composite → FieldsIn k c n v d.fields
 fields_in k c n v d i a o q m =
     let f = fields_form k c n.at n.end n.shape v d i a o q m in
     let z : n.at + 0 ≡ n.at = omega arith in
@@ -74,7 +75,16 @@ pub record ItemsIn (k : Classes) (c : List ℕ) (n : NodeAt) (v : Value) : Type 
 pub items_in : (k : Classes) (c : List ℕ) (n : NodeAt) (v : Value) → IsNode k c n v → n.shape.array ≡ true → ItemsIn k c n v
 items_in k c n v i a =
     let f = array_form k c n.at n.end n.shape n.end (omega arith) i.within v i a in
-    record { count = f.count.value; place = f.count.end; counted = f.found; within = f.within; parts = f.parts; row = f.row; is = ap (laid_in n.at) f.value ∙ ap (λ y. laid y (list_of f.parts)) (sym f.ends) }
+    record {
+      count = f.count.value;
+      place = f.count.end;
+      counted = f.found;
+      within = f.within;
+      parts = f.parts;
+      row = f.row;
+      is = ap (laid_in n.at) f.value
+          ∙ ap (λ y. laid y (list_of f.parts)) (sym f.ends);
+    }
 
 past_end : (at : ℕ) (vs : Values) (ss : List Shape) (i : ℕ) → shapes_of vs ≡ ss → length ss ≤ i → slice_get (laid at (list_of vs)) i ≡ None
 past_end at Nil ss i e h = refl
@@ -105,7 +115,8 @@ module _ (k : Classes) (c : List ℕ) (n : NodeAt) (v : Value) (sound : Sound k)
   pub no_field_of_base : (j : ℕ) (d : Class) → n.shape.array ≡ false → find_class k n.shape.class ≡ Some d → kind_of d.name ≢ kinds.Composite → child k c n (steps.Field j) ≡ None
   no_field_of_base j d a q m = no_part j a (base_alone k v d (ap (λ (z : Shape). z.array) (sym i.shape) ∙ a) (ap (λ (z : Shape). find_class k z.class) (sym i.shape) ∙ q) m i.fits)
 
-  pub no_field_of_kind : (j place : ℕ) (kind : Kind) → n.shape.array ≡ false → slice_get k place ≡ find_class k n.shape.class → place < length k → IfSome (slice_get k place) (λ c. kind ≡ kind_of c.name) → kind ≢ kinds.Composite → child k c n (steps.Field j) ≡ None
+  pub no_field_of_kind : (j place : ℕ) (kind : Kind) → n.shape.array ≡ false → slice_get k place ≡ find_class k n.shape.class → place < length k
+      → IfSome (slice_get k place) (λ c. kind ≡ kind_of c.name) → kind ≢ kinds.Composite → child k c n (steps.Field j) ≡ None
   no_field_of_kind j place kind a q l e m =
       let d = get_within k place l in
       no_field_of_base j d.0 a (sym q ∙ d.1) (λ z. m (kind_there k place d.0 kind e d.1 ∙ z))
@@ -115,7 +126,9 @@ module _ (k : Classes) (c : List ℕ) (n : NodeAt) (v : Value) (sound : Sound k)
     where
       by_constant : (t : Bool) → n.shape.array ≡ false → n.shape.constant ≡ t → child k c n (steps.Field j) ≡ None
       by_constant true a o = no_field_of_constant j a o
-      by_constant false a o = let x : IsSome {T = Class} None = subst (λ z. IsSome z) q (subst (λ (z : Shape). IsSome (find_class k z.class)) (sym i.shape) (inline_known k v (ap (λ (z : Shape). z.array) (sym i.shape) ∙ a) (ap (λ (z : Shape). z.constant) (sym i.shape) ∙ o) i.fits)) in cc
+      by_constant false a o = let x : IsSome {T = Class} None = subst (λ z. IsSome z) q
+          (subst (λ (z : Shape). IsSome (find_class k z.class)) (sym i.shape)
+          (inline_known k v (ap (λ (z : Shape). z.array) (sym i.shape) ∙ a) (ap (λ (z : Shape). z.constant) (sym i.shape) ∙ o) i.fits)) in cc
 
       by_array : (t : Bool) → n.shape.array ≡ t → child k c n (steps.Field j) ≡ None
       by_array true a = no_field_of_array j a
@@ -128,14 +141,16 @@ module _ (k : Classes) (c : List ℕ) (n : NodeAt) (v : Value) (sound : Sound k)
       (f.parts, f.row, field_picked n.shape (children k c n) j a ∙ ap (λ z. slice_get z j) (children_are k c n v sound i ∙ f.is))
 
   -- The field with a number, by the layouts of the class.
-  pub field_row : (j place : ℕ) (kind : Kind) (ss : List FieldLayout) → n.shape.array ≡ false → n.shape.constant ≡ false → slice_get k place ≡ find_class k n.shape.class → place < length k → IfSome (slice_get k place) (λ c. kind ≡ kind_of c.name) → kind ≡ kinds.Composite → IfSome (slice_get k place) (λ c. AreFieldLayouts k c.fields ss)
+  pub field_row : (j place : ℕ) (kind : Kind) (ss : List FieldLayout) → n.shape.array ≡ false → n.shape.constant ≡ false → slice_get k place ≡ find_class k n.shape.class → place < length k
+      → IfSome (slice_get k place) (λ c. kind ≡ kind_of c.name) → kind ≡ kinds.Composite → IfSome (slice_get k place) (λ c. AreFieldLayouts k c.fields ss)
       → (vs : Values) × AreValues k c n.at n.end (map (λ s. s.shape) ss) vs × (child k c n (steps.Field j) ≡ slice_get (laid n.at (list_of vs)) j)
   field_row j place kind ss a o q l e m h =
       let d = layouts_of k place ss l h in
       let f = field_is j d.class a o (sym q ∙ d.there) (sym (kind_there k place d.class kind e d.there) ∙ m) in
       (f.0, subst (λ z. AreValues k c n.at n.end z f.0) (sym d.layouts.shapes) f.1, f.2)
 
-  pub no_field_past : (j place : ℕ) (kind : Kind) (ss : List FieldLayout) → n.shape.array ≡ false → n.shape.constant ≡ false → slice_get k place ≡ find_class k n.shape.class → place < length k → IfSome (slice_get k place) (λ c. kind ≡ kind_of c.name) → kind ≡ kinds.Composite → IfSome (slice_get k place) (λ c. AreFieldLayouts k c.fields ss)
+  pub no_field_past : (j place : ℕ) (kind : Kind) (ss : List FieldLayout) → n.shape.array ≡ false → n.shape.constant ≡ false → slice_get k place ≡ find_class k n.shape.class → place < length k
+      → IfSome (slice_get k place) (λ c. kind ≡ kind_of c.name) → kind ≡ kinds.Composite → IfSome (slice_get k place) (λ c. AreFieldLayouts k c.fields ss)
       → length ss ≤ j → child k c n (steps.Field j) ≡ None
   no_field_past j place kind ss a o q l e m h b =
       let f = field_row j place kind ss a o q l e m h in
@@ -146,7 +161,8 @@ module _ (k : Classes) (c : List ℕ) (n : NodeAt) (v : Value) (sound : Sound k)
   item_is j w a e =
       let f = items_in k c n v i a in
       let q : record { value = f.count; end = f.place } ≡ w = (let x = f.counted in cc) in
-      subst (λ (w : Var). (w.end ≤ n.end) × ((vs : Values) × AreValues k c w.end n.end (replicate w.value (item_of n.shape)) vs × (child k c n (steps.Item j) ≡ slice_get (laid w.end (list_of vs)) j))) q
+      subst (λ (w : Var). (w.end ≤ n.end) × ((vs : Values) × AreValues k c w.end n.end (replicate w.value (item_of n.shape)) vs × (child k c n (steps.Item j) ≡ slice_get (laid w.end (list_of vs)) j)))
+      q
       (f.within, (f.parts, f.row, item_picked n.shape (children k c n) j a ∙ ap (λ z. slice_get z j) (children_are k c n v sound i ∙ f.is)))
 
   pub no_item_past : (j : ℕ) (w : Var) → n.shape.array ≡ true → int_at c n.at n.end ≡ Some w → length (replicate w.value (item_of n.shape)) ≤ j → child k c n (steps.Item j) ≡ None

@@ -60,14 +60,16 @@ no_unknown k s = no_left (unknown k) (empty_inline k ++ deep k) (no_right (repea
 
 pub sound_inline : (k : Classes) (id : ℕ) (c : Class) → Sound k → find_class k id ≡ Some c → begins_chain 33 k c ≡ false
 sound_inline k id c s e =
-    let r = found_holds (λ c. (i : ℕ) × (flaw_if (begins_chain 33 k c) i None InlineDeep ≡ [])) (λ c. c.id == id) k c e (none_at (λ i c. flaw_if (begins_chain 33 k c) i None InlineDeep) 0 k (no_deep k s)) in
+    let r = found_holds (λ c. (i : ℕ) × (flaw_if (begins_chain 33 k c) i None InlineDeep ≡ [])) (λ c. c.id == id) k c e
+    (none_at (λ i c. flaw_if (begins_chain 33 k c) i None InlineDeep) 0 k (no_deep k s)) in
     no_flaw (begins_chain 33 k c) r.0 None InlineDeep r.1
 
 -- A field's class is known.
 abbrev pub IsKnown : Classes → Shape → Type 0
 IsKnown k s = (c : Class) × (find_class k s.class ≡ Some c)
 
-known_fields : (k : Classes) (fs : List Field) → AllByRecursion (λ f. (j : ℕ) × ((i : ℕ) × (flaw_if (not (is_some (find_class k f.shape.class))) i (Some j) UnknownType ≡ []))) fs → AllByRecursion (λ f. IsKnown k f.shape) fs
+known_fields : (k : Classes) (fs : List Field) → AllByRecursion (λ f. (j : ℕ) × ((i : ℕ) × (flaw_if (not (is_some (find_class k f.shape.class))) i (Some j) UnknownType ≡ []))) fs
+    → AllByRecursion (λ f. IsKnown k f.shape) fs
 known_fields k [] a = tt
 known_fields k (f ∷ fs) a = (by_class (find_class k f.shape.class) refl (no_flaw (not (is_some (find_class k f.shape.class))) a.0.1.0 (Some a.0.0) UnknownType a.0.1.1), known_fields k fs a.1)
   where
@@ -81,7 +83,8 @@ sound_known k id c s e =
     let r = found_holds (λ c. (i : ℕ) × (found i c ≡ [])) (λ c. c.id == id) k c e (none_at found 0 k (no_unknown k s)) in
     known_fields k c.fields (each c.fields r.0 (none_at (λ j f. flaw_if (not (is_some (find_class k f.shape.class))) r.0 (Some j) UnknownType) 0 c.fields r.1))
   where
-    each : (fs : List Field) (i : ℕ) → AllByRecursion (λ f. (j : ℕ) × (flaw_if (not (is_some (find_class k f.shape.class))) i (Some j) UnknownType ≡ [])) fs → AllByRecursion (λ f. (j : ℕ) × ((i : ℕ) × (flaw_if (not (is_some (find_class k f.shape.class))) i (Some j) UnknownType ≡ []))) fs
+    each : (fs : List Field) (i : ℕ) → AllByRecursion (λ f. (j : ℕ) × (flaw_if (not (is_some (find_class k f.shape.class))) i (Some j) UnknownType ≡ [])) fs
+        → AllByRecursion (λ f. (j : ℕ) × ((i : ℕ) × (flaw_if (not (is_some (find_class k f.shape.class))) i (Some j) UnknownType ≡ []))) fs
     each [] i a = tt
     each (f ∷ fs) i a = ((a.0.0, (i, a.0.1)), each fs i a.1)
 
@@ -103,7 +106,8 @@ module _ (k : Classes) where
   abbrev AllDepthBounds : ℕ → Values → Type 0
   AllDepthBounds n vs = AllByRecursion (λ w. DepthBound k n (shape_of w)) (list_of vs)
 
-  depth_of_fields : (n : ℕ) (fs : List Field) (vs : Values) → shapes_of vs ≡ map (λ f. f.shape) fs → AllByRecursion (λ f. option_map_or (λ d. begins_chain n k d) (step_class k f) false ≡ false) fs → AllDepthBounds n vs
+  depth_of_fields : (n : ℕ) (fs : List Field) (vs : Values) → shapes_of vs ≡ map (λ f. f.shape) fs → AllByRecursion (λ f. option_map_or (λ d. begins_chain n k d) (step_class k f) false ≡ false) fs
+      → AllDepthBounds n vs
   depth_of_fields n [] Nil e a = tt
   depth_of_fields n [] (Cons v vs) e a = cc
   depth_of_fields n (f ∷ fs) Nil e a = cc
@@ -124,19 +128,24 @@ module _ (k : Classes) where
 -- What holds of each value without parts, and of each group if it holds of its parts, holds of what fits: `n` is
 -- how deep the classes may nest.
 module _ (k : Classes) (P : ℕ → Value → Type 0) (of_single : (n : ℕ) (s : Shape) (kind : LeafKind) (b : List ℕ) (key : Option ℕ) → IsSingle k s kind b key → P n (Single s kind b key))
-    (of_array : (n : ℕ) (s : Shape) (h : List ℕ) (vs : Values) → s.array ≡ true → (m : ℕ) → Spells h m → shapes_of vs ≡ replicate m (item_of s) → AllByRecursion (P n) (list_of vs) → P n (Group s h vs))
-    (of_fields : (n : ℕ) (s : Shape) (h : List ℕ) (vs : Values) (c : Class) → s.array ≡ false → s.constant ≡ false → find_class k s.class ≡ Some c → kind_of c.name ≡ kinds.Composite → h ≡ [] → shapes_of vs ≡ map (λ f. f.shape) c.fields → AllByRecursion (P n) (list_of vs) → P (suc n) (Group s h vs)) where
+    (of_array : (n : ℕ) (s : Shape) (h : List ℕ) (vs : Values) → s.array ≡ true → (m : ℕ) → Spells h m → shapes_of vs ≡ replicate m (item_of s) → AllByRecursion (P n) (list_of vs) → P n
+    (Group s h vs))
+    (of_fields : (n : ℕ) (s : Shape) (h : List ℕ) (vs : Values) (c : Class) → s.array ≡ false → s.constant ≡ false → find_class k s.class ≡ Some c → kind_of
+    c.name ≡ kinds.Composite → h ≡ [] → shapes_of vs ≡ map (λ f. f.shape) c.fields → AllByRecursion (P n) (list_of vs) → P (suc n) (Group s h vs)) where
   mutual
     pub by_depth : (v : Value) (n : ℕ) → DepthBound k n (shape_of v) → Fits k v → P n v
     by_depth (Single s kind b key) n r f = of_single n s kind b key f
     by_depth (Group s h vs) n r f = by_head s h f.0 r (λ m g. all_by_depth vs m g f.1)
       where
-        by_room : (n : ℕ) (s : Shape) (h : List ℕ) (c : Class) → s.array ≡ false → s.constant ≡ false → find_class k s.class ≡ Some c → kind_of c.name ≡ kinds.Composite → h ≡ [] → shapes_of vs ≡ map (λ f. f.shape) c.fields → begins_chain n k c ≡ false
+        by_room : (n : ℕ) (s : Shape) (h : List ℕ) (c : Class) → s.array ≡ false → s.constant ≡ false → find_class k s.class ≡ Some c → kind_of c.name ≡ kinds.Composite → h ≡ []
+            → shapes_of vs ≡ map (λ f. f.shape) c.fields → begins_chain n k c ≡ false
             → ((m : ℕ) → AllDepthBounds k m vs → AllByRecursion (P m) (list_of vs)) → P n (Group s h vs)
         by_room zero s h c a o q e z p g x = cc
         by_room (suc m) s h c a o q e z p g x =
             let i : inline_fields c ≡ c.fields = ap (λ t. if is_composite t then c.fields else []) e in
-            of_fields m s h vs c a o q e z p (x m (depth_of_fields k m c.fields vs p (subst (AllByRecursion (λ f. option_map_or (λ d. begins_chain m k d) (step_class k f) false ≡ false)) i (any_none (λ f. option_map_or (λ d. begins_chain m k d) (step_class k f) false) (inline_fields c) g))))
+            of_fields m s h vs c a o q e z p (x m (depth_of_fields k m c.fields vs p
+            (subst (AllByRecursion (λ f. option_map_or (λ d. begins_chain m k d) (step_class k f) false ≡ false)) i
+            (any_none (λ f. option_map_or (λ d. begins_chain m k d) (step_class k f) false) (inline_fields c) g))))
 
         by_head : (s : Shape) (h : List ℕ) → IsHead k s h (shapes_of vs) → DepthBound k n s → ((m : ℕ) → AllDepthBounds k m vs → AllByRecursion (P m) (list_of vs)) → P n (Group s h vs)
         by_head s h (inl p) r x = of_array n s h vs p.0 p.1 p.2 p.3 (x n (depth_of_items k n p.1 (item_of s) vs p.3 r))
@@ -161,8 +170,10 @@ times_exact f s (suc n) Nil e a = cc
 times_exact f s (suc n) (Cons v vs) e a =
     let q : shape_of v ≡ s = (let x : shape_of v ∷ shapes_of vs ≡ s ∷ replicate n s = e in cc) in
     let r : shapes_of vs ≡ replicate n s = (let x : shape_of v ∷ shapes_of vs ≡ s ∷ replicate n s = e in cc) in
-    bind_exact (f s) (λ a. times n (f s) >>= λ rest. Done (a ∷ rest)) (bytes_of v) (bytes_of_all vs) (bytes_of v ++ bytes_of_all vs) v (v ∷ list_of vs) refl (subst (λ z. Exactly (f z) (bytes_of v) v) q a.0)
-    (bind_exact (times n (f s)) (λ rest. Done (v ∷ rest)) (bytes_of_all vs) [] (bytes_of_all vs) (list_of vs) (v ∷ list_of vs) (sym (append-nil (bytes_of_all vs))) (times_exact f s n vs r a.1) (refl, refl))
+    bind_exact (f s) (λ a. times n (f s) >>= λ rest. Done (a ∷ rest)) (bytes_of v) (bytes_of_all vs) (bytes_of v ++ bytes_of_all vs) v (v ∷ list_of vs) refl
+    (subst (λ z. Exactly (f z) (bytes_of v) v) q a.0)
+    (bind_exact (times n (f s)) (λ rest. Done (v ∷ rest)) (bytes_of_all vs) [] (bytes_of_all vs) (list_of vs) (v ∷ list_of vs) (sym (append-nil (bytes_of_all vs))) (times_exact f s n vs r a.1)
+    (refl, refl))
 
 each_exact : (f : Shape → Format Value) (fs : List Field) (vs : Values) → shapes_of vs ≡ map (λ g. g.shape) fs → AllExact f vs → Exactly (for_each fs (λ g. f g.shape)) (bytes_of_all vs) (list_of vs)
 each_exact f [] Nil e a = (refl, refl)
@@ -171,19 +182,41 @@ each_exact f (g ∷ fs) Nil e a = cc
 each_exact f (g ∷ fs) (Cons v vs) e a =
     let q : shape_of v ≡ g.shape = (let x : shape_of v ∷ shapes_of vs ≡ g.shape ∷ map (λ g. g.shape) fs = e in cc) in
     let r : shapes_of vs ≡ map (λ g. g.shape) fs = (let x : shape_of v ∷ shapes_of vs ≡ g.shape ∷ map (λ g. g.shape) fs = e in cc) in
-    bind_exact (f g.shape) (λ a. for_each fs (λ g. f g.shape) >>= λ rest. Done (a ∷ rest)) (bytes_of v) (bytes_of_all vs) (bytes_of v ++ bytes_of_all vs) v (v ∷ list_of vs) refl (subst (λ z. Exactly (f z) (bytes_of v) v) q a.0)
-    (bind_exact (for_each fs (λ g. f g.shape)) (λ rest. Done (v ∷ rest)) (bytes_of_all vs) [] (bytes_of_all vs) (list_of vs) (v ∷ list_of vs) (sym (append-nil (bytes_of_all vs))) (each_exact f fs vs r a.1) (refl, refl))
+    bind_exact (f g.shape) (λ a. for_each fs (λ g. f g.shape) >>= λ rest. Done (a ∷ rest)) (bytes_of v) (bytes_of_all vs) (bytes_of v ++ bytes_of_all vs) v (v ∷ list_of vs) refl
+    (subst (λ z. Exactly (f z) (bytes_of v) v) q a.0)
+    (bind_exact (for_each fs (λ g. f g.shape)) (λ rest. Done (v ∷ rest)) (bytes_of_all vs) [] (bytes_of_all vs) (list_of vs) (v ∷ list_of vs) (sym (append-nil (bytes_of_all vs)))
+    (each_exact f fs vs r a.1) (refl, refl))
 
 -- A value with its bytes.
 with_exact : {A B : Type 0} (f : Format A) (g : A → List ℕ → B) (c b : List ℕ) (a : A) → Exactly f b a → Exactly (with_bytes c f (λ a s. Done (g a s))) b (g a (c ++ b))
 with_exact (Done v) g c b a e = (ap (λ z. g z (c ++ b)) e.0 ∙ ap (λ z. g v z) (ap (λ z. c ++ z) e.1 ∙ append-nil c), e.1)
 with_exact (Stop next) g c b a e = absurd e
-with_exact (Int check next) g c b a e =
-    (e.0, e.1, e.2, e.3, e.4, e.5, subst (λ z. Exactly (with_bytes (c ++ e.0) (next e.2 e.0) (λ a s. Done (g a s))) e.1 (g a z)) (append_assoc c e.0 e.1 ∙ ap (λ z. c ++ z) (sym e.3)) (with_exact (next e.2 e.0) g (c ++ e.0) e.1 a e.6))
-with_exact (Byte check next) g c b a e =
-    (e.0, e.1, e.2, e.3, subst (λ z. Exactly (with_bytes (c ++ (e.0 ∷ [])) (next e.0) (λ a s. Done (g a s))) e.1 (g a z)) (append_assoc c (e.0 ∷ []) e.1 ∙ ap (λ z. c ++ z) (sym e.2)) (with_exact (next e.0) g (c ++ (e.0 ∷ [])) e.1 a e.4))
-with_exact (Run n next) g c b a e =
-    (e.0, e.1, e.2, e.3, subst (λ z. Exactly (with_bytes (c ++ e.0) (next e.0) (λ a s. Done (g a s))) e.1 (g a z)) (append_assoc c e.0 e.1 ∙ ap (λ z. c ++ z) (sym e.2)) (with_exact (next e.0) g (c ++ e.0) e.1 a e.4))
+with_exact (Int check next) g c b a e = (
+  e.0,
+  e.1,
+  e.2,
+  e.3,
+  e.4,
+  e.5,
+  subst (λ z. Exactly (with_bytes (c ++ e.0) (next e.2 e.0) (λ a s. Done (g a s))) e.1 (g a z)) (append_assoc c e.0 e.1 ∙ ap (λ z. c ++ z) (sym e.3))
+      (with_exact (next e.2 e.0) g (c ++ e.0) e.1 a e.6),
+)
+with_exact (Byte check next) g c b a e = (
+  e.0,
+  e.1,
+  e.2,
+  e.3,
+  subst (λ z. Exactly (with_bytes (c ++ (e.0 ∷ [])) (next e.0) (λ a s. Done (g a s))) e.1 (g a z)) (append_assoc c (e.0 ∷ []) e.1 ∙ ap (λ z. c ++ z) (sym e.2))
+      (with_exact (next e.0) g (c ++ (e.0 ∷ [])) e.1 a e.4),
+)
+with_exact (Run n next) g c b a e = (
+  e.0,
+  e.1,
+  e.2,
+  e.3,
+  subst (λ z. Exactly (with_bytes (c ++ e.0) (next e.0) (λ a s. Done (g a s))) e.1 (g a z)) (append_assoc c e.0 e.1 ∙ ap (λ z. c ++ z) (sym e.2))
+      (with_exact (next e.0) g (c ++ e.0) e.1 a e.4),
+)
 with_exact (Here next) g c b a e = absurd e
 with_exact (Refuse why) g c b a e = absurd e
 
@@ -192,13 +225,16 @@ kind_exact kinds.Composite s x b key i = absurd i
 kind_exact kd s x b key i = with_exact (base_format kd) (λ key bytes. Single s (leaf_kinds.Base kd) bytes key) [] b key (is_base kd b key i)
 
 by_marks : (f : Shape → Format Value) (s : Shape) (a c : Bool) (b : List ℕ) (v : Value) → s.array ≡ a → s.constant ≡ c
-    → Exactly (if a then array_format (item_format f (item_of s)) s else if c then Int unchecked (λ key spelled. Done (Single s (leaf_kinds.Key key) spelled (Some key))) else f s) b v → Exactly (shape_format f s) b v
+    → Exactly (if a then array_format (item_format f (item_of s)) s else if c then Int unchecked (λ key spelled. Done (Single s (leaf_kinds.Key key) spelled (Some key))) else f s) b v
+    → Exactly (shape_format f s) b v
 by_marks f s a c b v p q e =
     subst (λ t. Exactly (if t then array_format (item_format f (item_of s)) s else item_format f s) b v) (sym p)
-    (subst (λ t. Exactly (if a then array_format (item_format f (item_of s)) s else if t then Int unchecked (λ key spelled. Done (Single s (leaf_kinds.Key key) spelled (Some key))) else f s) b v) (sym q) e)
+    (subst (λ t. Exactly (if a then array_format (item_format f (item_of s)) s else if t then Int unchecked (λ key spelled. Done (Single s (leaf_kinds.Key key) spelled (Some key))) else f s) b v)
+    (sym q) e)
 
 module _ (k : Classes) where
-  base_exact : (n : ℕ) (s : Shape) (c : Class) (b : List ℕ) (key : Option ℕ) → find_class k s.class ≡ Some c → IsBase (kind_of c.name) b key → Exactly (class_format (suc n) k s) b (Single s (leaf_kinds.Base (kind_of c.name)) b key)
+  base_exact : (n : ℕ) (s : Shape) (c : Class) (b : List ℕ) (key : Option ℕ) → find_class k s.class ≡ Some c → IsBase (kind_of c.name) b key
+      → Exactly (class_format (suc n) k s) b (Single s (leaf_kinds.Base (kind_of c.name)) b key)
   unfolding class_format
   base_exact n s c b key q i =
       subst (λ o. Exactly (inline_format (class_format n k) s o) b (Single s (leaf_kinds.Base (kind_of c.name)) b key)) (sym q)
@@ -212,7 +248,8 @@ module _ (k : Classes) where
       subst (λ z. Exactly (shape_format (class_format (suc n) k) s) b (Single s z b key)) (sym f.4)
       (by_marks (class_format (suc n) k) s false false b (Single s (leaf_kinds.Base (kind_of f.2.name)) b key) f.0 f.1 (base_exact n s f.2 b key f.3 f.5))
 
-  array_exact : (n : ℕ) (s : Shape) (h : List ℕ) (vs : Values) → s.array ≡ true → (m : ℕ) → Spells h m → shapes_of vs ≡ replicate m (item_of s) → AllExact (shape_format (class_format (suc n) k)) vs → Exactly (shape_format (class_format (suc n) k) s) (h ++ bytes_of_all vs) (Group s h vs)
+  array_exact : (n : ℕ) (s : Shape) (h : List ℕ) (vs : Values) → s.array ≡ true → (m : ℕ) → Spells h m → shapes_of vs ≡ replicate m (item_of s) → AllExact (shape_format (class_format (suc n) k)) vs
+      → Exactly (shape_format (class_format (suc n) k) s) (h ++ bytes_of_all vs) (Group s h vs)
   array_exact n s h vs a m p e x =
       by_marks (class_format (suc n) k) s true s.constant (h ++ bytes_of_all vs) (Group s h vs) a refl (
         h,
@@ -221,22 +258,26 @@ module _ (k : Classes) where
         refl,
         p,
         refl,
-        bind_exact (times m (item_format (class_format (suc n) k) (item_of s))) (λ vs. Done (Group s h (values_of vs))) (bytes_of_all vs) [] (bytes_of_all vs) (list_of vs) (Group s h vs) (sym (append-nil (bytes_of_all vs)))
+        bind_exact (times m (item_format (class_format (suc n) k) (item_of s))) (λ vs. Done (Group s h (values_of vs))) (bytes_of_all vs) [] (bytes_of_all vs) (list_of vs) (Group s h vs)
+            (sym (append-nil (bytes_of_all vs)))
             (times_exact (shape_format (class_format (suc n) k)) (item_of s) m vs e x) (ap (λ z. Group s h z) (sym (values_again vs)), refl),
       )
 
-  fields_exact : (n : ℕ) (s : Shape) (h : List ℕ) (vs : Values) (c : Class) → s.array ≡ false → s.constant ≡ false → find_class k s.class ≡ Some c → kind_of c.name ≡ kinds.Composite → h ≡ [] → shapes_of vs ≡ map (λ f. f.shape) c.fields → AllExact (shape_format (class_format n k)) vs → Exactly (shape_format (class_format (suc n) k) s) (h ++ bytes_of_all vs) (Group s h vs)
+  fields_exact : (n : ℕ) (s : Shape) (h : List ℕ) (vs : Values) (c : Class) → s.array ≡ false → s.constant ≡ false → find_class k s.class ≡ Some c → kind_of c.name ≡ kinds.Composite → h ≡ []
+      → shapes_of vs ≡ map (λ f. f.shape) c.fields → AllExact (shape_format (class_format n k)) vs → Exactly (shape_format (class_format (suc n) k) s) (h ++ bytes_of_all vs) (Group s h vs)
   unfolding class_format
   fields_exact n s h vs c a o q e z r x =
       by_marks (class_format (suc n) k) s false false (h ++ bytes_of_all vs) (Group s h vs) a o
       (subst (λ y. Exactly (class_format (suc n) k s) (y ++ bytes_of_all vs) (Group s y vs)) (sym z)
       (subst (λ y. Exactly (inline_format (class_format n k) s y) (bytes_of_all vs) (Group s [] vs)) (sym q)
       (subst (λ y. Exactly (kind_format y s (fields_format (class_format n k) c.fields)) (bytes_of_all vs) (Group s [] vs)) (sym e)
-      (bind_exact (fields_format (class_format n k) c.fields) (λ vs. Done (Group s [] (values_of vs))) (bytes_of_all vs) [] (bytes_of_all vs) (list_of vs) (Group s [] vs) (sym (append-nil (bytes_of_all vs)))
+      (bind_exact (fields_format (class_format n k) c.fields) (λ vs. Done (Group s [] (values_of vs))) (bytes_of_all vs) [] (bytes_of_all vs) (list_of vs) (Group s [] vs)
+      (sym (append-nil (bytes_of_all vs)))
       (each_exact (shape_format (class_format n k)) c.fields vs r x) (ap (λ y. Group s [] y) (sym (values_again vs)), refl)))))
 
 -- What fits is read, and nothing else is.
 pub fits_good : (k : Classes) (v : Value) → Sound k → Fits k v → Good k v
 unfolding value_format
 fits_good k v s f =
-    by_depth k (λ n v. Exactly (shape_format (class_format (suc n) k) (shape_of v)) (bytes_of v) v) (single_exact k) (array_exact k) (λ n. fields_exact k (suc n)) v 33 (λ o c q e. sound_inline k (shape_of v).class c s q) f
+    by_depth k (λ n v. Exactly (shape_format (class_format (suc n) k) (shape_of v)) (bytes_of v) v) (single_exact k) (array_exact k) (λ n. fields_exact k (suc n)) v 33
+    (λ o c q e. sound_inline k (shape_of v).class c s q) f

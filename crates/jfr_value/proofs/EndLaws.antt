@@ -51,7 +51,8 @@ class_base : (depth : ℕ) (k : Classes) (t : Shape) (c : Class) (kind : Kind) (
 class_base depth k t c kind x end at z e h n =
     ap (λ f. end_or_flaw (run f x end at)) (class_of_base depth k t c kind z e h n) ∙ end_or_flaw-with [] (base_format kind) (λ key b. Single t (leaf_kinds.Base kind) b key) x end at
 
-pub items_step : {A : Type 0} (n i : ℕ) (f : Format A) (x : List ℕ) (end at : ℕ) → i < n → end_or_flaw (run (times (n - i) f) x end at) ≡ then_at (end_or_flaw (run f x end at)) (λ p. end_or_flaw (run (times (n - (i + 1)) f) x end p))
+pub items_step : {A : Type 0} (n i : ℕ) (f : Format A) (x : List ℕ) (end at : ℕ) → i < n
+    → end_or_flaw (run (times (n - i) f) x end at) ≡ then_at (end_or_flaw (run f x end at)) (λ p. end_or_flaw (run (times (n - (i + 1)) f) x end p))
 items_step n i f x end at h = let e : n - i ≡ suc (n - (i + 1)) = omega arith in rw e (end_or_flaw-times (n - (i + 1)) f x end at)
 
 pub each_step : {X A : Type 0} (f : X → Format A) (xs : List X) (i : ℕ) (y : X) (x : List ℕ) (end at : ℕ) → slice_get xs i ≡ Some y
@@ -70,12 +71,14 @@ after_ok r q f a z e h k = ap (λ v. then_at v f) (sym h) ∙ (sym e ∙ k)
 pub after_err : (r : Result ℕ Flaw) (w : Flaw) (f : ℕ → Result ℕ Flaw) (a z : Result ℕ Flaw) → a ≡ then_at r f → r ≡ Err w → a ≡ z → Err w ≡ z
 after_err r w f a z e h k = ap (λ v. then_at v f) (sym h) ∙ (sym e ∙ k)
 
-pub key_ends : (inline : Shape → Format Value) (s : Shape) (x : List ℕ) (end at : ℕ) → s.constant ≡ true → end_or_flaw (run integer x end at) ≡ end_or_flaw (run (item_format inline (item_of s)) x end at)
+pub key_ends : (inline : Shape → Format Value) (s : Shape) (x : List ℕ) (end at : ℕ) → s.constant ≡ true
+    → end_or_flaw (run integer x end at) ≡ end_or_flaw (run (item_format inline (item_of s)) x end at)
 key_ends inline s x end at c =
     int_made (λ v b. Single (item_of s) (leaf_kinds.Key v) b (Some v)) x end at
     ∙ ap (λ t. end_or_flaw (run (if t then Int unchecked (λ key b. Done (Single (item_of s) (leaf_kinds.Key key) b (Some key))) else inline (item_of s)) x end at)) (sym c)
 
-pub shape_item : (inline : Shape → Format Value) (s : Shape) (x : List ℕ) (end at : ℕ) → s.array ≡ false → end_or_flaw (run (shape_format inline s) x end at) ≡ end_or_flaw (run (item_format inline (item_of s)) x end at)
+pub shape_item : (inline : Shape → Format Value) (s : Shape) (x : List ℕ) (end at : ℕ) → s.array ≡ false
+    → end_or_flaw (run (shape_format inline s) x end at) ≡ end_or_flaw (run (item_format inline (item_of s)) x end at)
 shape_item inline s x end at a =
     let flat : Bool → Shape = λ b. record { class = s.class; constant = s.constant; array = b } in
     ap (λ b. end_or_flaw (run (if b then array_format (item_format inline (item_of s)) s else item_format inline (flat s.array)) x end at)) a
@@ -98,10 +101,12 @@ each_by : {X Y A : Type 0} (v : X → Y) (f : Y → Format A) (xs : List X) → 
 each_by v f [] = refl
 each_by v f (x ∷ xs) = ap (λ z. f (v x) >>= λ a. z >>= λ rest. Done (a ∷ rest)) (each_by v f xs)
 
-pub fields_by : (k : Classes) (inline : Shape → Format Value) (fs : List Field) (ss : List FieldLayout) → AreFieldLayouts k fs ss → fields_format inline fs ≡ for_each ss (λ s. shape_format inline s.shape)
+pub fields_by : (k : Classes) (inline : Shape → Format Value) (fs : List Field) (ss : List FieldLayout) → AreFieldLayouts k fs ss
+    → fields_format inline fs ≡ for_each ss (λ s. shape_format inline s.shape)
 fields_by k inline fs ss a = each_by (λ f. f.shape) (shape_format inline) fs ∙ (ap (λ z. for_each z (shape_format inline)) (sym a.shapes) ∙ sym (each_by (λ s. s.shape) (shape_format inline) ss))
 
-pub layout_fields : (depth : ℕ) (k : Classes) (s : FieldLayout) (ss : List FieldLayout) (x : List ℕ) (end at : ℕ) → 0 < depth → IsFieldLayout k s → s.kind ≡ kinds.Composite → IfSome (slice_get k s.class_index) (λ c. AreFieldLayouts k c.fields ss)
+pub layout_fields : (depth : ℕ) (k : Classes) (s : FieldLayout) (ss : List FieldLayout) (x : List ℕ) (end at : ℕ) → 0 < depth → IsFieldLayout k s → s.kind ≡ kinds.Composite
+    → IfSome (slice_get k s.class_index) (λ c. AreFieldLayouts k c.fields ss)
     → end_or_flaw (run (class_format depth k (item_of s.shape)) x end at) ≡ end_or_flaw (run (for_each ss (λ z. shape_format (class_format (depth - 1) k) z.shape)) x end at)
 layout_fields depth k s ss x end at z i q a =
     let c = layout_class k s i in
@@ -117,7 +122,8 @@ pub layout_text : (depth : ℕ) (k : Classes) (s : FieldLayout) (x : List ℕ) (
 layout_text depth k s x end at z i e =
     layout_base depth k s x end at z i (λ n. (let y : kinds.Text ≡ kinds.Composite = sym e ∙ n in cc)) ∙ ap (λ kind. end_or_flaw (run (base_format kind) x end at)) e
 
-pub layouts_there : (k : Classes) (s : FieldLayout) (ss : List FieldLayout) → IsFieldLayout k s → IfSome (slice_get k s.class_index) (λ c. AreFieldLayouts k c.fields ss) → AllByRecursion (IsFieldLayout k) ss
+pub layouts_there : (k : Classes) (s : FieldLayout) (ss : List FieldLayout) → IsFieldLayout k s → IfSome (slice_get k s.class_index) (λ c. AreFieldLayouts k c.fields ss)
+    → AllByRecursion (IsFieldLayout k) ss
 layouts_there k s ss i a = let c = layout_class k s i in (subst (λ o. IfSome o (λ c. AreFieldLayouts k c.fields ss)) c.there a).each
 
 -- A string ends where the format of its content does.
@@ -142,20 +148,23 @@ hollow_items k s c q e z o (suc n) x end at =
     ∙ (ap (λ r. then_at (end_or_flaw r) (λ p. end_or_flaw (run (times n (item_format (class_format 34 k) (item_of s))) x end p))) (hollow_item k s c q e z o x end at)
     ∙ hollow_items k s c q e z o n x end at)
 
-pub hollow_array : (k : Classes) (s : Shape) (place : ℕ) (c : Class) (v : Var) (x : List ℕ) (end at : ℕ) → class_index k s.class ≡ Some place → slice_get k place ≡ Some c → IsHollowArray s c → int_at x at end ≡ Some v
+pub hollow_array : (k : Classes) (s : Shape) (place : ℕ) (c : Class) (v : Var) (x : List ℕ) (end at : ℕ) → class_index k s.class ≡ Some place → slice_get k place ≡ Some c → IsHollowArray s c
+    → int_at x at end ≡ Some v
     → end_or_flaw (run (value_format k s) x end at) ≡ Ok v.end
 unfolding value_format
 hollow_array k s place c v x end at p q h e =
     shape_items (class_format 34 k) s v x end at h.0 e ∙ hollow_items k s c (placed_class k s.class place p ∙ q) h.2.0 h.2.1 h.1 v.value x end v.end
 
-pub array_short : (k : Classes) (s : Shape) (x : List ℕ) (end at : ℕ) → s.array ≡ true → int_at x at end ≡ None → end_or_flaw (run (value_format k s) x end at) ≡ Err (record { offset = at; reason = Short })
+pub array_short : (k : Classes) (s : Shape) (x : List ℕ) (end at : ℕ) → s.array ≡ true → int_at x at end ≡ None
+    → end_or_flaw (run (value_format k s) x end at) ≡ Err (record { offset = at; reason = Short })
 unfolding value_format run
 array_short k s x end at a e =
     ap (λ b. end_or_flaw (run (if b then array_format (item_format (class_format 34 k) (item_of s)) s else item_format (class_format 34 k) s) x end at)) a
     ∙ ap (λ o. end_or_flaw (after_int x at unchecked (λ n b p. run (times n (item_format (class_format 34 k) (item_of s)) >>= λ vs. Done (Group s b (values_of vs))) x end p) o)) e
 
 -- The two answers about an array that was found to be hollow.
-pub hollow_is : (k : Classes) (s : Shape) (place : ℕ) (b : Bool) (c : Class) → slice_get k place ≡ Some c → IfSome (slice_get k place) (λ c. IsTrue b ↔ IsHollowArray s c) → b ≡ true → IsHollowArray s c
+pub hollow_is : (k : Classes) (s : Shape) (place : ℕ) (b : Bool) (c : Class) → slice_get k place ≡ Some c → IfSome (slice_get k place) (λ c. IsTrue b ↔ IsHollowArray s c) → b ≡ true
+    → IsHollowArray s c
 hollow_is k s place b c q h t = (subst (λ o. IfSome o (λ c. IsTrue b ↔ IsHollowArray s c)) q h).0 t
 
 pub hollow_count : (k : Classes) (s : FieldLayout) (b : Bool) (x : List ℕ) (end at : ℕ) → IsFieldLayout k s → IfSome (slice_get k s.class_index) (λ c. IsTrue b ↔ IsHollowArray s.shape c) → b ≡ true

@@ -31,7 +31,8 @@ each_shapes f t (g ∷ fs) b vs e =
     let w = t g.shape i.front i.value i.first in
     ap (λ z. shapes_of (values_of z)) j.second.0 ∙ (ap (λ z. z ∷ shapes_of (values_of j.value)) w.0 ∙ ap (λ z. g.shape ∷ z) (each_shapes f t fs j.front j.value j.first))
 
-times_shapes : (x : Format Value) (s : Shape) → ((b : List ℕ) (v : Value) → Exactly x b v → shape_of v ≡ s) → (n : ℕ) (b : List ℕ) (vs : List Value) → Exactly (times n x) b vs → shapes_of (values_of vs) ≡ replicate n s
+times_shapes : (x : Format Value) (s : Shape) → ((b : List ℕ) (v : Value) → Exactly x b v → shape_of v ≡ s) → (n : ℕ) (b : List ℕ) (vs : List Value) → Exactly (times n x) b vs
+    → shapes_of (values_of vs) ≡ replicate n s
 times_shapes x s t zero b vs e = ap (λ z. shapes_of (values_of z)) e.0
 times_shapes x s t (suc n) b vs e =
     let i = exact_bind x (λ a. times n x >>= λ rest. Done (a ∷ rest)) b vs e in
@@ -85,7 +86,8 @@ module _ (k : Classes) where
       let i = exact_with (base_format kd) (λ key h. Done (Single s (leaf_kinds.Base kd) h key)) [] b v e in
       subst (Case k) (sym i.second.0) (inr (x, y, c, q, ap (λ z. leaf_kinds.Base z) (sym m), subst (λ z. IsBase z i.front i.value) (sym m) (base_is kd i.front i.value o i.first)))
 
-  kind_case : (f : Shape → Format Value) → Tells f → (kd : Kind) (s : Shape) (c : Class) (b : List ℕ) (v : Value) → s.array ≡ false → s.constant ≡ false → find_class k s.class ≡ Some c → kind_of c.name ≡ kd
+  kind_case : (f : Shape → Format Value) → Tells f → (kd : Kind) (s : Shape) (c : Class) (b : List ℕ) (v : Value) → s.array ≡ false → s.constant ≡ false → find_class k s.class ≡ Some c
+      → kind_of c.name ≡ kd
       → Exactly (kind_format kd s (for_each c.fields (λ g. f g.shape))) b v → Case k v
   kind_case f t kinds.Composite s c b v x y q m e =
       let i = exact_bind (for_each c.fields (λ g. f g.shape)) (λ vs. Done (Group s [] (values_of vs))) b v e in
@@ -115,14 +117,21 @@ module _ (k : Classes) where
   shape_case : (n : ℕ) (s : Shape) (b : List ℕ) (v : Value) → Exactly (shape_format (class_format n k) s) b v → Case k v
   shape_case n s b v e = by_array s.array refl e
     where
-      by_constant : (t : Bool) → s.array ≡ false → s.constant ≡ t → Exactly (if t then Int unchecked (λ key b. Done (Single s (leaf_kinds.Key key) b (Some key))) else class_format n k s) b v → Case k v
+      by_constant : (t : Bool) → s.array ≡ false → s.constant ≡ t → Exactly (if t then Int unchecked (λ key b. Done (Single s (leaf_kinds.Key key) b (Some key))) else class_format n k s) b v
+          → Case k v
       by_constant true x y e = subst (Case k) (sym e.6.0) (inl (x, y, e.2, e.4, refl, refl))
       by_constant false x y e = class_case n s b v x y e
 
       by_array : (t : Bool) → s.array ≡ t → Exactly (if t then array_format (item_format (class_format n k) (item_of s)) s else item_format (class_format n k) s) b v → Case k v
       by_array true x e =
           let i = exact_bind (times e.2 (item_format (class_format n k) (item_of s))) (λ vs. Done (Group s e.0 (values_of vs))) e.1 v e.6 in
-          subst (Case k) (sym i.second.0) (inl (x, e.2, e.4, times_shapes (item_format (class_format n k) (item_of s)) (item_of s) (λ b v e. (tells n (item_of s) b v e).0) e.2 i.front i.value i.first))
+          subst (Case k) (sym i.second.0) (inl (
+            x,
+            e.2,
+            e.4,
+            times_shapes (item_format (class_format n k) (item_of s)) (item_of s)
+                (λ b v e. (tells n (item_of s) b v e).0) e.2 i.front i.value i.first,
+          ))
       by_array false x e = by_constant s.constant x refl e
 
   pub good_case : (v : Value) → Good k v → Case k v

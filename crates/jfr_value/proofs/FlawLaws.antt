@@ -110,7 +110,8 @@ string_plain = (
       if_only IsValueReason (kind == 0) _ _ tt (if_only IsValueReason (kind == 1) _ _ tt
       (if_only IsValueReason (kind == 2) _ _ (plain_int (λ key spelled. Done (Key key)) (λ v s. tt))
       (if_only IsValueReason (kind == 3) _ _ (plain_int (λ n spelled. Run n (λ bytes. Done (Utf8 bytes))) (λ v s. (short, λ b. tt)))
-      (if_only IsValueReason (kind == 4) _ _ (plain_int (λ n spelled. times n integer >>= λ units. Done (Units units)) (λ n s. bind_only IsValueReason (times n integer) (λ units. Done (Units units)) (times_only IsValueReason n integer (plain_int (λ v s. Done v) (λ v s. tt))) (λ us. tt)))
+      (if_only IsValueReason (kind == 4) _ _ (plain_int (λ n spelled. times n integer >>= λ units. Done (Units units))
+      (λ n s. bind_only IsValueReason (times n integer) (λ units. Done (Units units)) (times_only IsValueReason n integer (plain_int (λ v s. Done v) (λ v s. tt))) (λ us. tt)))
       (plain_int (λ n spelled. Run n (λ bytes. Done (Latin bytes))) (λ v s. (short, λ b. tt))))))),
 )
 
@@ -133,7 +134,8 @@ kind_plain kd s x r = with_only IsValueReason [] (base_format kd) (λ key b. Don
 shape_plain : (f : Shape → Format Value) (s : Shape) → (s.constant ≡ false → Plain (f (item_of s))) → (s.constant ≡ false → Plain (f s)) → Plain (shape_format f s)
 shape_plain f s r q = if_only IsValueReason s.array (array_format (item_format f (item_of s)) s) (item_format f s)
     (plain_int (λ n b. times n (item_format f (item_of s)) >>= λ vs. Done (Group s b (values_of vs)))
-    (λ n b. bind_only IsValueReason (times n (item_format f (item_of s))) (λ vs. Done (Group s b (values_of vs))) (times_only IsValueReason n (item_format f (item_of s)) (item (item_of s) r)) (λ vs. tt)))
+    (λ n b. bind_only IsValueReason (times n (item_format f (item_of s))) (λ vs. Done (Group s b (values_of vs))) (times_only IsValueReason n (item_format f (item_of s)) (item (item_of s) r))
+    (λ vs. tt)))
     (item s q)
   where
     item : (s : Shape) → (s.constant ≡ false → Plain (f s)) → Plain (item_format f s)
@@ -162,7 +164,8 @@ module _ (k : Classes) (sound : Sound k) where
       (λ q. (let i : inline_fields c.0 ≡ c.0.fields = ap (λ t. if t then c.0.fields else []) q in
       each_only IsValueReason c.0.fields (λ f. shape_format (class_format (suc m) k) f.shape)
       (fields_plain m c.0.fields (sound_known k s.class c.0 sound c.1)
-      (subst (AllByRecursion (λ f. option_map_or (λ d. begins_chain m k d) (step_class k f) false ≡ false)) i (any_none (λ f. option_map_or (λ d. begins_chain m k d) (step_class k f) false) (inline_fields c.0) (r o c.0 c.1 q)))
+      (subst (AllByRecursion (λ f. option_map_or (λ d. begins_chain m k d) (step_class k f) false ≡ false)) i
+      (any_none (λ f. option_map_or (λ d. begins_chain m k d) (step_class k f) false) (inline_fields c.0) (r o c.0 c.1 q)))
       (class_plain m)))))
 
 -- So no other flaw comes.
@@ -170,4 +173,5 @@ pub value_plain : (k : Classes) (s : Shape) (x : List ℕ) (end at o : ℕ) (why
 unfolding value_format
 value_plain k s x end at o why sound known e =
     let depth : DepthBound k 33 s = λ c d q i. sound_inline k s.class d sound q in
-    fails_so IsValueReason (shape_format (class_format 34 k) s) x end at o why (shape_plain (class_format 34 k) s (λ c. class_plain k sound 33 (item_of s) c depth known) (λ c. class_plain k sound 33 s c depth known)) e
+    fails_so IsValueReason (shape_format (class_format 34 k) s) x end at o why
+    (shape_plain (class_format 34 k) s (λ c. class_plain k sound 33 (item_of s) c depth known) (λ c. class_plain k sound 33 s c depth known)) e

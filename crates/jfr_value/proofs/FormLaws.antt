@@ -64,7 +64,8 @@ module _ (s : FieldLayout) (h : s.form ≡ form_of s.shape s.kind) where
   pub key_there : s.form ≡ forms.Key → (s.shape.array ≡ false) × (s.shape.constant ≡ true)
   key_there e = by_marks s.shape.array s.shape.constant refl refl (sym e ∙ h)
     where
-      by_marks : (a c : Bool) → s.shape.array ≡ a → s.shape.constant ≡ c → forms.Key ≡ (if a then forms.Array else if c then forms.Key else inline_form s.kind) → (s.shape.array ≡ false) × (s.shape.constant ≡ true)
+      by_marks : (a c : Bool) → s.shape.array ≡ a → s.shape.constant ≡ c → forms.Key ≡ (if a then forms.Array else if c then forms.Key else inline_form s.kind)
+          → (s.shape.array ≡ false) × (s.shape.constant ≡ true)
       by_marks true c p q g = cc
       by_marks false true p q g = (p, q)
       by_marks false false p q g = absurd (subst IsInline (sym g) (inline_is s.kind))

@@ -68,7 +68,8 @@ unfolding run
 raw_ends kind count x end at e l = by_kind kind e
   where
     fits : (n : ℕ) → count ≡ n → Ok (at + count) ≡ end_or_flaw (if nat_le (at + n) end then run nothing x end (at + n) else refused at Short)
-    fits n h = let t : nat_le (at + count) end ≡ true = grind arith in subst (λ m. Ok (at + count) ≡ end_or_flaw (if nat_le (at + m) end then run nothing x end (at + m) else refused at Short)) h (rw t refl)
+    fits n h = let t : nat_le (at + count) end ≡ true =
+        grind arith in subst (λ m. Ok (at + count) ≡ end_or_flaw (if nat_le (at + m) end then run nothing x end (at + m) else refused at Short)) h (rw t refl)
 
     by_kind : (kind : Kind) → forms.Raw count ≡ inline_form kind → Ok (at + count) ≡ end_or_flaw (run (base_format kind) x end at)
     by_kind kinds.Boolean e = fits 1 (let h : forms.Raw count ≡ forms.Raw 1 = e in cc)
@@ -95,7 +96,8 @@ pub found_end : (r e : Result ℕ Flaw) (o : Option ℕ) → o ≡ result_ok r �
 found_end (Ok to) e o f q = subst (λ z. IfSome z (λ to. Ok to ≡ e)) (sym f) q
 found_end (Err w) e o f q = subst (λ z. IfSome z (λ to. Ok to ≡ e)) (sym f) tt
 
-pub found_bytes : (r e : Result ℕ Flaw) (o : Option ℕ) (at count end : ℕ) → o ≡ result_ok r → IfOk r (λ to. (to ≡ at + count) × (to ≤ end)) → (at + count ≤ end → Ok (at + count) ≡ e) → IfSome o (λ to. Ok to ≡ e)
+pub found_bytes : (r e : Result ℕ Flaw) (o : Option ℕ) (at count end : ℕ) → o ≡ result_ok r → IfOk r (λ to. (to ≡ at + count) × (to ≤ end)) → (at + count ≤ end → Ok (at + count) ≡ e)
+    → IfSome o (λ to. Ok to ≡ e)
 found_bytes (Ok to) e o at count end f h q = subst (λ z. IfSome z (λ to. Ok to ≡ e)) (sym f) (ap (λ n. Ok n) h.0 ∙ q (let x = h.0 in omega (arith, h.1)))
 found_bytes (Err w) e o at count end f h q = subst (λ z. IfSome z (λ to. Ok to ≡ e)) (sym f) tt
 
@@ -122,15 +124,18 @@ module _ (k : Classes) (levels : ℕ) (x : List ℕ) (end : ℕ) where
       let m = inline_there s i.form forms.Integer e tt in
       base_skipped s.kind x end at (integer_kind s.kind m.form) ∙ base_ends k s levels x end at (placed s i) forms.Integer m (λ q. cc)
 
-  each_integer_seen : (ss : List FieldLayout) (at : ℕ) → AllByRecursion (IsFieldLayout k) ss → AllByRecursion (λ s. s.form ≡ forms.Integer) ss → end_or_flaw (run (times (length ss) integer) x end at) ≡ end_or_flaw (row ss at)
+  each_integer_seen : (ss : List FieldLayout) (at : ℕ) → AllByRecursion (IsFieldLayout k) ss → AllByRecursion (λ s. s.form ≡ forms.Integer) ss
+      → end_or_flaw (run (times (length ss) integer) x end at) ≡ end_or_flaw (row ss at)
   unfolding run
   each_integer_seen [] at i e = refl
   each_integer_seen (s ∷ ss) at i e =
       end_or_flaw-times (length ss) integer x end at
-      ∙ (then_same (end_or_flaw (run integer x end at)) (end_or_flaw (run (one s) x end at)) (λ p. end_or_flaw (run (times (length ss) integer) x end p)) (λ p. end_or_flaw (row ss p)) (integer_seen s at i.0 e.0) (λ p. each_integer_seen ss p i.1 e.1)
+      ∙ (then_same (end_or_flaw (run integer x end at)) (end_or_flaw (run (one s) x end at)) (λ p. end_or_flaw (run (times (length ss) integer) x end p)) (λ p. end_or_flaw (row ss p))
+      (integer_seen s at i.0 e.0) (λ p. each_integer_seen ss p i.1 e.1)
       ∙ sym (end_or_flaw-for_each s ss one x end at))
 
-  pub integers_seen : (count : ℕ) (ss : List FieldLayout) (at : ℕ) → AllByRecursion (IsFieldLayout k) ss → AreIntegers count ss → end_or_flaw (run (times count integer) x end at) ≡ end_or_flaw (row ss at)
+  pub integers_seen : (count : ℕ) (ss : List FieldLayout) (at : ℕ) → AllByRecursion (IsFieldLayout k) ss → AreIntegers count ss
+      → end_or_flaw (run (times count integer) x end at) ≡ end_or_flaw (row ss at)
   integers_seen count ss at i e = ap (λ n. end_or_flaw (run (times n integer) x end at)) (sym e.0) ∙ each_integer_seen ss at i e.1
 
   pub integer_alone : (ss : List FieldLayout) (at : ℕ) → AllByRecursion (IsFieldLayout k) ss → AreIntegers 1 ss → end_or_flaw (run integer x end at) ≡ end_or_flaw (row ss at)
@@ -159,19 +164,22 @@ module _ (k : Classes) (levels : ℕ) (x : List ℕ) (end : ℕ) where
       let m = key_there s i.form o.0 in
       key_ends inline s.shape x end at m.1 ∙ sym (shape_item inline s.shape x end at m.0)
 
-  pub key_seen : (class : ℕ) (ss : List FieldLayout) (at : ℕ) → AllByRecursion (IsFieldLayout k) ss → (s : FieldLayout) × (ss ≡ s ∷ []) × IsOf forms.Key class s → end_or_flaw (run integer x end at) ≡ end_or_flaw (row ss at)
+  pub key_seen : (class : ℕ) (ss : List FieldLayout) (at : ℕ) → AllByRecursion (IsFieldLayout k) ss → (s : FieldLayout) × (ss ≡ s ∷ []) × IsOf forms.Key class s
+      → end_or_flaw (run integer x end at) ≡ end_or_flaw (row ss at)
   key_seen class ss at i h =
       let j = subst (AllByRecursion (IsFieldLayout k)) h.1 i in
       key_one class h.0 at j.0 h.2 ∙ (sym (alone_seen h.0 at) ∙ ap (λ z. end_or_flaw (row z at)) (sym h.1))
 
-  pub text_seen : (class : ℕ) (ss : List FieldLayout) (at : ℕ) → AllByRecursion (IsFieldLayout k) ss → (s : FieldLayout) × (ss ≡ s ∷ []) × IsOf forms.Text class s → end_or_flaw (run (base_format kinds.Text) x end at) ≡ end_or_flaw (row ss at)
+  pub text_seen : (class : ℕ) (ss : List FieldLayout) (at : ℕ) → AllByRecursion (IsFieldLayout k) ss → (s : FieldLayout) × (ss ≡ s ∷ []) × IsOf forms.Text class s
+      → end_or_flaw (run (base_format kinds.Text) x end at) ≡ end_or_flaw (row ss at)
   text_seen class ss at i h =
       let j = subst (AllByRecursion (IsFieldLayout k)) h.1 i in
       text_ends k h.0 levels x end at (placed h.0 j.0) h.2.0 ∙ (sym (alone_seen h.0 at) ∙ ap (λ z. end_or_flaw (row z at)) (sym h.1))
 
   -- What is taken of them.
   module _ {A : Type 0} (takes : ℕ × ℕ → A → A → Type 0) where
-    cons_ends : (s : FieldLayout) (ss : List FieldLayout) (at : ℕ) (old now new : A) → TakesRead takes (run (one s) x end at) old now → ((to : ℕ) → Ok to ≡ end_or_flaw (run (one s) x end at) → TakesReadAll takes (row ss to) now new) → TakesReadAll takes (row (s ∷ ss) at) old new
+    cons_ends : (s : FieldLayout) (ss : List FieldLayout) (at : ℕ) (old now new : A) → TakesRead takes (run (one s) x end at) old now
+        → ((to : ℕ) → Ok to ≡ end_or_flaw (run (one s) x end at) → TakesReadAll takes (row ss to) now new) → TakesReadAll takes (row (s ∷ ss) at) old new
     cons_ends s ss at old now new h t = by_end (end_or_flaw (run (one s) x end at)) refl
       where
         by_end : (r : Result ℕ Flaw) → end_or_flaw (run (one s) x end at) ≡ r → TakesReadAll takes (row (s ∷ ss) at) old new
@@ -198,17 +206,20 @@ module _ (k : Classes) (levels : ℕ) (x : List ℕ) (end : ℕ) where
     pub raw_taken : (ss : List FieldLayout) (count at : ℕ) (a : A) → AllByRecursion (IsFieldLayout k) ss → AreRaw count ss → TakesReadAll takes (row ss at) a a
     raw_taken ss count at a i e = plain_all ss at a i (all_raw ss count e)
 
-    key_item : (s : Shape) (at : ℕ) (old new : A) → s.constant ≡ true → IfOk (run integer x end at) (λ key. takes (s.class, key.value) old new) → TakesRead takes (run (item_format inline (item_of s)) x end at) old new
+    key_item : (s : Shape) (at : ℕ) (old new : A) → s.constant ≡ true → IfOk (run integer x end at) (λ key. takes (s.class, key.value) old new)
+        → TakesRead takes (run (item_format inline (item_of s)) x end at) old new
     unfolding run
     key_item s at old new o h =
-        subst (λ t. TakesRead takes (run (if t then Int unchecked (λ key b. Done (Single (item_of s) (leaf_kinds.Key key) b (Some key))) else inline (item_of s)) x end at) old new) (sym o) (by_int (int_at x at end) h)
+        subst (λ t. TakesRead takes (run (if t then Int unchecked (λ key b. Done (Single (item_of s) (leaf_kinds.Key key) b (Some key))) else inline (item_of s)) x end at) old new) (sym o)
+        (by_int (int_at x at end) h)
       where
         by_int : (o : Option Var) → IfOk (after_int x at unchecked (λ v b p. run (Done v) x end p) o) (λ key. takes (s.class, key.value) old new)
             → IfOk (after_int x at unchecked (λ v b p. run (Done (Single (item_of s) (leaf_kinds.Key v) b (Some v))) x end p) o) (λ got. TakesAll takes (targets_of got.value) old new)
         by_int None h = tt
         by_int (Some v) h = (new, h, refl)
 
-    pub key_taken : (class : ℕ) (ss : List FieldLayout) (at : ℕ) (old new : A) → AllByRecursion (IsFieldLayout k) ss → (s : FieldLayout) × (ss ≡ s ∷ []) × IsOf forms.Key class s → IfOk (run integer x end at) (λ key. takes (class, key.value) old new)
+    pub key_taken : (class : ℕ) (ss : List FieldLayout) (at : ℕ) (old new : A) → AllByRecursion (IsFieldLayout k) ss → (s : FieldLayout) × (ss ≡ s ∷ []) × IsOf forms.Key class s
+        → IfOk (run integer x end at) (λ key. takes (class, key.value) old new)
         → TakesReadAll takes (row ss at) old new
     key_taken class ss at old new i h t =
         let s : FieldLayout = h.0 in
@@ -252,14 +263,16 @@ module _ (k : Classes) (levels : ℕ) (x : List ℕ) (end : ℕ) where
     keys_seen : (at : ℕ) → end_or_flaw (row (f.threads ∷ f.traces ∷ []) at) ≡ then_at (end_or_flaw (run integer x end at)) (λ p. end_or_flaw (run integer x end p))
     keys_seen at =
         both_seen one x end (f.threads ∷ []) (f.traces ∷ []) at
-        ∙ then_same (end_or_flaw (row (f.threads ∷ []) at)) (end_or_flaw (run integer x end at)) (λ p. end_or_flaw (row (f.traces ∷ []) p)) (λ p. end_or_flaw (run integer x end p)) (sym (thread_seen at)) (λ p. sym (trace_seen p))
+        ∙ then_same (end_or_flaw (row (f.threads ∷ []) at)) (end_or_flaw (run integer x end at)) (λ p. end_or_flaw (row (f.traces ∷ []) p)) (λ p. end_or_flaw (run integer x end p))
+        (sym (thread_seen at)) (λ p. sym (trace_seen p))
 
     -- Where its parts end.
     abbrev then_keys : ℕ → Result ℕ Flaw
     then_keys p = then_at (end_or_flaw (run integer x end p)) (λ q. end_or_flaw (run integer x end q))
 
     front_seen : (at : ℕ) → end_or_flaw (row ss at) ≡ then_at (end_or_flaw (run (times 2 integer) x end at)) then_keys
-    front_seen at = behind at ∙ then_same (end_or_flaw (run (times 2 integer) x end at)) (end_or_flaw (run (times 2 integer) x end at)) (λ p. end_or_flaw (row (f.threads ∷ f.traces ∷ []) p)) then_keys refl (λ p. keys_seen p)
+    front_seen at = behind at ∙ then_same (end_or_flaw (run (times 2 integer) x end at)) (end_or_flaw (run (times 2 integer) x end at))
+        (λ p. end_or_flaw (row (f.threads ∷ f.traces ∷ []) p)) then_keys refl (λ p. keys_seen p)
 
     pub begun_fails : (at : ℕ) (w : Flaw) → Err w ≡ end_or_flaw (run (times 2 integer) x end at) → Err w ≡ end_or_flaw (row ss at)
     begun_fails at w e = ap (λ r. then_at r then_keys) e ∙ sym (front_seen at)
@@ -267,14 +280,18 @@ module _ (k : Classes) (levels : ℕ) (x : List ℕ) (end : ℕ) where
     pub thread_fails : (at threads : ℕ) (w : Flaw) → Ok threads ≡ end_or_flaw (run (times 2 integer) x end at) → Err w ≡ end_or_flaw (run integer x end threads) → Err w ≡ end_or_flaw (row ss at)
     thread_fails at threads w p e = ap (λ r. then_at r (λ q. end_or_flaw (run integer x end q))) e ∙ (ap (λ r. then_at r then_keys) p ∙ sym (front_seen at))
 
-    pub front_ends : (at threads traces : ℕ) (r : Result ℕ Flaw) → Ok threads ≡ end_or_flaw (run (times 2 integer) x end at) → Ok traces ≡ end_or_flaw (run integer x end threads) → r ≡ end_or_flaw (run integer x end traces) → r ≡ end_or_flaw (row ss at)
+    pub front_ends : (at threads traces : ℕ) (r : Result ℕ Flaw) → Ok threads ≡ end_or_flaw (run (times 2 integer) x end at) → Ok traces ≡ end_or_flaw (run integer x end threads)
+        → r ≡ end_or_flaw (run integer x end traces) → r ≡ end_or_flaw (row ss at)
     front_ends at threads traces r p q e = e ∙ (ap (λ r. then_at r (λ q. end_or_flaw (run integer x end q))) q ∙ (ap (λ r. then_at r then_keys) p ∙ sym (front_seen at)))
 
-    pub front_taken : {A : Type 0} (takes : ℕ × ℕ → A → A → Type 0) (at threads traces : ℕ) (old now new : A) → Ok threads ≡ end_or_flaw (run (times 2 integer) x end at) → Ok traces ≡ end_or_flaw (run integer x end threads)
-        → IfOk (run integer x end threads) (λ key. takes (thread, key.value) old now) → IfOk (run integer x end traces) (λ key. takes (trace, key.value) now new) → TakesReadAll takes (row ss at) old new
+    pub front_taken : {A : Type 0} (takes : ℕ × ℕ → A → A → Type 0) (at threads traces : ℕ) (old now new : A) → Ok threads ≡ end_or_flaw (run (times 2 integer) x end at)
+        → Ok traces ≡ end_or_flaw (run integer x end threads)
+        → IfOk (run integer x end threads) (λ key. takes (thread, key.value) old now) → IfOk (run integer x end traces) (λ key. takes (trace, key.value) now new)
+        → TakesReadAll takes (row ss at) old new
     front_taken takes at threads traces old now new p q h t =
         subst (λ z. TakesReadAll takes (row z at) old new) (sym f.all)
-        (both_taken one x end takes begun (f.threads ∷ f.traces ∷ []) at threads old old new (p ∙ begun_seen at) (integers_taken takes 2 begun at old (each.0, (each.1.0, tt)) (refl, (f.start_is, (f.duration_is, tt))))
+        (both_taken one x end takes begun (f.threads ∷ f.traces ∷ []) at threads old old new (p ∙ begun_seen at)
+        (integers_taken takes 2 begun at old (each.0, (each.1.0, tt)) (refl, (f.start_is, (f.duration_is, tt))))
         (both_taken one x end takes (f.threads ∷ []) (f.traces ∷ []) threads traces old now new (q ∙ thread_seen threads)
         (key_taken takes thread (f.threads ∷ []) threads old now (each.1.1.0, tt) (f.threads, refl, f.thread_is) h)
         (key_taken takes trace (f.traces ∷ []) traces now new (each.1.1.1.0, tt) (f.traces, refl, f.trace_is) t)))
@@ -326,17 +343,21 @@ module _ (ss : List FieldLayout) (fused_fields : List FusedFields) where
     unfolding run
     fused_end i at h = ap (λ z. end_or_flaw (run (values_format (levels + 1) k z) x end at)) (left_none i h)
 
-    pub fused_taken : {A : Type 0} (takes : ℕ × ℕ → A → A → Type 0) (all : Answer (List Value)) (i at : ℕ) (old now : A) → length fused_fields ≤ i → TakesRemaining takes all (by_fused i at) old now → TakesReadAll takes all old now
+    pub fused_taken : {A : Type 0} (takes : ℕ × ℕ → A → A → Type 0) (all : Answer (List Value)) (i at : ℕ) (old now : A) → length fused_fields ≤ i → TakesRemaining takes all (by_fused i at) old now
+        → TakesReadAll takes all old now
     unfolding run
     fused_taken takes all i at old now h l = l.then_all now (subst (λ z. TakesReadAll takes (run (values_format (levels + 1) k z) x end at) now now) (sym (left_none i h)) refl)
 
-    pub fused_step : (i at : ℕ) (d : FusedFields) → i < length fused_fields → end_or_flaw (by_fused i at) ≡ then_at (end_or_flaw (run (values_format (levels + 1) k (passed_by ss (get_or fused_fields i d))) x end at)) (λ p. end_or_flaw (by_fused (i + 1) p))
+    pub fused_step : (i at : ℕ) (d : FusedFields) → i < length fused_fields
+        → end_or_flaw (by_fused i at) ≡ then_at (end_or_flaw (run (values_format (levels + 1) k (passed_by ss (get_or fused_fields i d))) x end at)) (λ p. end_or_flaw (by_fused (i + 1) p))
     fused_step i at d h =
         ap (λ z. end_or_flaw (run (values_format (levels + 1) k z) x end at)) (left_next i d h)
         ∙ both_seen (λ (s : FieldLayout). shape_format (class_format (levels + 1) k) s.shape) x end (passed_by ss (get_or fused_fields i d)) (left_by (i + 1)) at
 
-    pub fused_goes : {A : Type 0} (takes : ℕ × ℕ → A → A → Type 0) (all : Answer (List Value)) (i at to : ℕ) (d : FusedFields) (old now new : A) → i < length fused_fields → TakesRemaining takes all (by_fused i at) old now
-        → Ok to ≡ end_or_flaw (run (values_format (levels + 1) k (passed_by ss (get_or fused_fields i d))) x end at) → TakesReadAll takes (run (values_format (levels + 1) k (passed_by ss (get_or fused_fields i d))) x end at) now new
+    pub fused_goes : {A : Type 0} (takes : ℕ × ℕ → A → A → Type 0) (all : Answer (List Value)) (i at to : ℕ) (d : FusedFields) (old now new : A) → i < length fused_fields
+        → TakesRemaining takes all (by_fused i at) old now
+        → Ok to ≡ end_or_flaw (run (values_format (levels + 1) k (passed_by ss (get_or fused_fields i d))) x end at)
+        → TakesReadAll takes (run (values_format (levels + 1) k (passed_by ss (get_or fused_fields i d))) x end at) now new
         → TakesRemaining takes all (by_fused (i + 1) to) old new
     fused_goes takes all i at to d old now new h l e t = record {
       then_all = λ last u. l.then_all last
@@ -353,9 +374,11 @@ pub record NextFused (k : Classes) (P : Shape → Type 0) (row : ClassLayout) (i
   pub passes : Passes l.kind passed
   pub shapes : AllByRecursion P (shapes_of_layouts passed)
 
-pub next_fused : (k : Classes) (place : ℕ) (row : ClassLayout) (fs : List FusedFields) (i : ℕ) (d : FusedFields) (passed : List FieldLayout) (P : Shape → Type 0) → place < length k → IfSome (slice_get k place) (λ c. IsClassLayout k c row) → AllByRecursion P (field_shapes k place)
+pub next_fused : (k : Classes) (place : ℕ) (row : ClassLayout) (fs : List FusedFields) (i : ℕ) (d : FusedFields) (passed : List FieldLayout) (P : Shape → Type 0) → place < length k
+    → IfSome (slice_get k place) (λ c. IsClassLayout k c row) → AllByRecursion P (field_shapes k place)
     → fs ≡ row.fused_fields.items → i < length fs → passed ≡ passed_by row.layouts.items (get_or fs i d) → NextFused k P row i (get_or fs i d) passed
-next_fused k place row fs i d passed P l h a e n q = subst (λ z. NextFused k P row i (get_or z i d) passed) (sym e) (made (subst (λ z. i < length z) e n) (subst (λ z. passed ≡ passed_by row.layouts.items (get_or z i d)) e q))
+next_fused k place row fs i d passed P l h a e n q =
+    subst (λ z. NextFused k P row i (get_or z i d) passed) (sym e) (made (subst (λ z. i < length z) e n) (subst (λ z. passed ≡ passed_by row.layouts.items (get_or z i d)) e q))
   where
     ss : List FieldLayout
     ss = row.layouts.items

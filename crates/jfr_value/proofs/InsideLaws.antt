@@ -23,7 +23,8 @@ module _ (k m : Classes) where
   agree_head : (s : Shape) (h : List ℕ) (ss : List Shape) → Agree k m s.class → IsHead k s h ss → AgreeShapes ss
   agree_head s h ss g (inl p) = subst AgreeShapes (sym p.3) (agree_items p.1 (item_of s) g)
   agree_head s h ss g (inr p) =
-      subst AgreeShapes (sym p.6) (agree_fields p.2.fields (λ n. (let a = g (suc n) in let e : a.0 ≡ p.2 = cc (p.3, a.2) in subst (λ c. AllByRecursion (λ f. AgreeWithin n k m f.shape.class) c.fields) e a.7)))
+      subst AgreeShapes (sym p.6) (agree_fields p.2.fields
+      (λ n. (let a = g (suc n) in let e : a.0 ≡ p.2 = cc (p.3, a.2) in subst (λ c. AllByRecursion (λ f. AgreeWithin n k m f.shape.class) c.fields) e a.7)))
 
   -- The class in the other list, with the same name and fields.
   record Twin (c : Class) (id : ℕ) : Type 0 where

@@ -25,7 +25,8 @@ use Rattle.jfr_value.proofs.TakingLaws.{fields_taken, item_taken, string_taken}
 abbrev item : (Shape → Format Value) → Shape → Bool → Format Value
 item inline s t = if t then Int unchecked (λ key b. Done (Single (item_of s) (leaf_kinds.Key key) b (Some key))) else inline (item_of s)
 
-inline_ends : (inline : Shape → Format Value) (s : Shape) (x : List ℕ) (end at : ℕ) → s.array ≡ false → s.constant ≡ false → end_or_flaw (run (inline (item_of s)) x end at) ≡ end_or_flaw (run (shape_format inline s) x end at)
+inline_ends : (inline : Shape → Format Value) (s : Shape) (x : List ℕ) (end at : ℕ) → s.array ≡ false → s.constant ≡ false
+    → end_or_flaw (run (inline (item_of s)) x end at) ≡ end_or_flaw (run (shape_format inline s) x end at)
 inline_ends inline s x end at a o = ap (λ t. end_or_flaw (run (item inline s t) x end at)) (sym o) ∙ sym (shape_item inline s x end at a)
 
 module _ (k : Classes) (s : FieldLayout) (levels : ℕ) (x : List ℕ) (end at : ℕ) (p : IsLayoutOrKey k s) where
@@ -77,7 +78,8 @@ module _ (k : Classes) (s : FieldLayout) (levels : ℕ) (x : List ℕ) (end at :
         item_taken takes x end at (class_format (levels + 1) k) s.shape old new a
         (subst (λ t. TakesRead takes (run (item (class_format (levels + 1) k) s.shape t) x end at) old new) (sym o) h)
 
-    pub text_taken : s.form ≡ forms.Text → IfOk (run (string_format true) x end at) (λ got. TakesAll takes (option_to_list (option_map (λ key. (s.shape.class, key)) (key_of got.value))) old new) → TakesRead takes reading old new
+    pub text_taken : s.form ≡ forms.Text → IfOk (run (string_format true) x end at) (λ got. TakesAll takes (option_to_list (option_map (λ key. (s.shape.class, key)) (key_of got.value))) old new)
+        → TakesRead takes reading old new
     text_taken e h =
         let i = inline_there s p.form forms.Text e tt in
         inline_taken i.array i.constant (string_taken takes x end at (levels + 1) k s old new (omega arith) (p.of_class i.constant) (text_kind s.kind i.form) h)
@@ -92,7 +94,8 @@ module _ (k : Classes) (s : FieldLayout) (levels : ℕ) (x : List ℕ) (end at :
         (subst (λ n. TakesReadAll takes (run (for_each ss (λ z. shape_format (class_format n k) z.shape)) x end at) old new) m h))
 
 -- The room for each field of a layout's class.
-depth_of_each : (k : Classes) (levels : ℕ) (fs : List Field) (ss : List FieldLayout) → map (λ s. s.shape) ss ≡ map (λ f. f.shape) fs → AllByRecursion (λ f. DepthBound k levels f.shape) fs → AllByRecursion (λ s. DepthBound k levels s.shape) ss
+depth_of_each : (k : Classes) (levels : ℕ) (fs : List Field) (ss : List FieldLayout) → map (λ s. s.shape) ss ≡ map (λ f. f.shape) fs → AllByRecursion (λ f. DepthBound k levels f.shape) fs
+    → AllByRecursion (λ s. DepthBound k levels s.shape) ss
 depth_of_each k levels fs [] e a = tt
 depth_of_each k levels [] (s ∷ ss) e a = cc
 depth_of_each k levels (f ∷ fs) (s ∷ ss) e a =
@@ -100,7 +103,8 @@ depth_of_each k levels (f ∷ fs) (s ∷ ss) e a =
     let r : map (λ s. s.shape) ss ≡ map (λ f. f.shape) fs = (let z : s.shape ∷ map (λ s. s.shape) ss ≡ f.shape ∷ map (λ f. f.shape) fs = e in cc) in
     (subst (DepthBound k levels) q a.0, depth_of_each k levels fs ss r a.1)
 
-pub depth_within : (k : Classes) (s : FieldLayout) (levels : ℕ) (ss : List FieldLayout) → IsLayoutOrKey k s → s.form ≡ forms.Fields → DepthBound k levels s.shape → IfSome (slice_get k s.class_index) (λ c. AreFieldLayouts k c.fields ss)
+pub depth_within : (k : Classes) (s : FieldLayout) (levels : ℕ) (ss : List FieldLayout) → IsLayoutOrKey k s → s.form ≡ forms.Fields → DepthBound k levels s.shape
+    → IfSome (slice_get k s.class_index) (λ c. AreFieldLayouts k c.fields ss)
     → AllByRecursion (λ z. DepthBound k (levels - 1) z.shape) ss
 depth_within k s levels ss p e r a =
     let i = inline_there s p.form forms.Fields e tt in

@@ -39,7 +39,8 @@ pub layout_within : (k : Classes) (s : FieldLayout) → IsFieldLayout k s → s.
 layout_within k s i = placed_within k s.shape.class s.class_index i.class_index
 
 -- The layout of a shape whose class has an index.
-pub layout_made : (k : Classes) (s : Shape) (place : ℕ) (kind : Kind) → class_index k s.class ≡ Some place → IfSome (slice_get k place) (λ c. kind ≡ kind_of c.name) → IsFieldLayout k (layout_with s place kind)
+pub layout_made : (k : Classes) (s : Shape) (place : ℕ) (kind : Kind) → class_index k s.class ≡ Some place → IfSome (slice_get k place) (λ c. kind ≡ kind_of c.name)
+    → IsFieldLayout k (layout_with s place kind)
 layout_made k s place kind p h =
     let c = placed_some k s.class place p in
     record {
@@ -83,19 +84,22 @@ pub record FieldOf (k : Classes) (place number : ℕ) (s : FieldLayout) : Type 0
   pub shape : s.shape ≡ field.shape
   pub of_class : IsFieldLayout k s
 
-same_shape : (fs : List Field) (ss : List FieldLayout) (i : ℕ) → map (λ s. s.shape) ss ≡ map (λ f. f.shape) fs → i < length ss → (f : Field) × (slice_get fs i ≡ Some f) × ((get_or ss i no_layout).shape ≡ f.shape)
+same_shape : (fs : List Field) (ss : List FieldLayout) (i : ℕ) → map (λ s. s.shape) ss ≡ map (λ f. f.shape) fs → i < length ss
+    → (f : Field) × (slice_get fs i ≡ Some f) × ((get_or ss i no_layout).shape ≡ f.shape)
 same_shape fs [] i e l = absurd (omega arith)
 same_shape [] (s ∷ ss) i e l = cc
 same_shape (f ∷ fs) (s ∷ ss) zero e l = (f, refl, (let q : s.shape ∷ map (λ s. s.shape) ss ≡ f.shape ∷ map (λ f. f.shape) fs = e in cc))
 same_shape (f ∷ fs) (s ∷ ss) (suc i) e l = same_shape fs ss i (let q : s.shape ∷ map (λ s. s.shape) ss ≡ f.shape ∷ map (λ f. f.shape) fs = e in cc) (omega arith)
 
-pub field_of : (k : Classes) (place number : ℕ) (ss : List FieldLayout) → place < length k → IfSome (slice_get k place) (λ c. AreFieldLayouts k c.fields ss) → number < length ss → FieldOf k place number (get_or ss number no_layout)
+pub field_of : (k : Classes) (place number : ℕ) (ss : List FieldLayout) → place < length k → IfSome (slice_get k place) (λ c. AreFieldLayouts k c.fields ss) → number < length ss
+    → FieldOf k place number (get_or ss number no_layout)
 field_of k place number ss l a n =
     let c = layouts_of k place ss l a in
     let f = same_shape c.class.fields ss number c.layouts.shapes n in
     record { field = f.0; there = ap (option_and_then (λ c. slice_get c.fields number)) c.there ∙ f.1; shape = f.2; of_class = layouts_at k ss number c.layouts.each n }
 
-pub few_fields : (k : Classes) (place number : ℕ) (ss : List FieldLayout) → place < length k → IfSome (slice_get k place) (λ c. AreFieldLayouts k c.fields ss) → length ss ≤ number → IfSome (slice_get k place) (λ c. length c.fields ≤ number)
+pub few_fields : (k : Classes) (place number : ℕ) (ss : List FieldLayout) → place < length k → IfSome (slice_get k place) (λ c. AreFieldLayouts k c.fields ss) → length ss ≤ number
+    → IfSome (slice_get k place) (λ c. length c.fields ≤ number)
 few_fields k place number ss l a n = let c = layouts_of k place ss l a in subst (λ o. IfSome o (λ c. length c.fields ≤ number)) (sym c.there) (omega (arith, c.count))
 
 -- What is known of the layouts of fields, by their shapes.

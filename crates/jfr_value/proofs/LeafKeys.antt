@@ -65,7 +65,8 @@ string_spelled (kind ∷ b) (strings.Utf8 bytes) i rest e = let q : kind ≡ 2 =
 string_spelled (kind ∷ b) (strings.Units units) i rest e = let q : kind ≡ 2 = cc in let p : kind ≡ 4 = i.0 in cc
 string_spelled (kind ∷ b) (strings.Latin bytes) i rest e = let q : kind ≡ 2 = cc in let p : kind ≡ 5 = i.0 in cc
 
-single_spelled : (k : Classes) (s : Shape) (kind : LeafKind) (b : List ℕ) (key : Option ℕ) → IsSingle k s kind b key → kind ≡ leaf_kinds.Base kinds.Text → (rest : List ℕ) → b ≡ 2 ∷ rest → IsSpellingWithin 8 rest
+single_spelled : (k : Classes) (s : Shape) (kind : LeafKind) (b : List ℕ) (key : Option ℕ) → IsSingle k s kind b key → kind ≡ leaf_kinds.Base kinds.Text → (rest : List ℕ) → b ≡ 2 ∷ rest
+    → IsSpellingWithin 8 rest
 single_spelled k s kind b key (inl i) t rest e = let q = i.4 in cc
 single_spelled k s kind b key (inr i) t rest e =
     let p : leaf_kinds.Base (kind_of i.2.name) ≡ leaf_kinds.Base kinds.Text = sym i.4 ∙ t in

@@ -53,7 +53,8 @@ single_key : (k : Classes) (s : Shape) (kind : LeafKind) (b : List ℕ) (key : O
 single_key k s kind b key (inl p) = ap (λ z. leaf_key z b) p.4 ∙ sym p.5
 single_key k s kind b key (inr p) = ap (λ z. leaf_key z b) p.4 ∙ base_key (kind_of p.2.name) b key p.5
 
-single_target : (s : Shape) (kind : LeafKind) (b : List ℕ) (key : Option ℕ) → leaf_key kind b ≡ key → cons_option (option_map (λ key. (s.class, key)) (leaf_key kind b)) [] ≡ targets_of (Single s kind b key)
+single_target : (s : Shape) (kind : LeafKind) (b : List ℕ) (key : Option ℕ) → leaf_key kind b ≡ key
+    → cons_option (option_map (λ key. (s.class, key)) (leaf_key kind b)) [] ≡ targets_of (Single s kind b key)
 single_target s kind b None e = ap (λ z. cons_option (option_map (λ key. (s.class, key)) z) []) e
 single_target s kind b (Some key) e = ap (λ z. cons_option (option_map (λ key. (s.class, key)) z) []) e
 
@@ -100,7 +101,8 @@ single_has k s kind b key (inr p) = base_has (kind_of p.2.name) b key p.5
 head_has : (k : Classes) (g : Option Holder) (at : ℕ) (s : Shape) (h : List ℕ) (ss : List Shape) → IsHead k s h ss → length (head_leaves g at s h) ≤ length h
 head_has k g at s h ss (inl p) = by_mark s.array (spelled 8 h p.2.form)
   where
-    by_mark : (b : Bool) → 1 ≤ length h → length {A = LeafAt} (if b then record { kind = leaf_kinds.Count (worth_within 8 h); class = s.class; holder = g; at = at; spelled = h } ∷ [] else []) ≤ length h
+    by_mark : (b : Bool) → 1 ≤ length h
+        → length {A = LeafAt} (if b then record { kind = leaf_kinds.Count (worth_within 8 h); class = s.class; holder = g; at = at; spelled = h } ∷ [] else []) ≤ length h
     by_mark true l = l
     by_mark false l = omega arith
 head_has k g at s h ss (inr p) = by_mark s.array p.0
@@ -127,7 +129,8 @@ mutual
       let a : length (leaves_at (f zero) at v) ≤ length (bytes_of v) = leaves_within k (f zero) at v i.0 in
       let r : length (leaves_from (λ n. f (suc n)) (at + length (bytes_of v)) vs) ≤ length (bytes_of_all vs) = all_within k (λ n. f (suc n)) (at + length (bytes_of v)) vs i.1 in
       let l : length (bytes_of v ++ bytes_of_all vs) ≡ length (bytes_of v) + length (bytes_of_all vs) = length-append (bytes_of v) (bytes_of_all vs) in
-      let m : length (leaves_at (f zero) at v ++ leaves_from (λ n. f (suc n)) (at + length (bytes_of v)) vs) ≡ length (leaves_at (f zero) at v) + length (leaves_from (λ n. f (suc n)) (at + length (bytes_of v)) vs) =
+      let m : length (leaves_at (f zero) at v ++ leaves_from (λ n. f (suc n)) (at + length (bytes_of v)) vs) ≡ length (leaves_at (f zero) at v) + length
+      (leaves_from (λ n. f (suc n)) (at + length (bytes_of v)) vs) =
       length-append (leaves_at (f zero) at v) (leaves_from (λ n. f (suc n)) (at + length (bytes_of v)) vs) in
       omega arith
 

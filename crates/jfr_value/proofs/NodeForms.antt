@@ -39,7 +39,8 @@ module _ (k : Classes) (c : List ℕ) (at to : ℕ) (s : Shape) where
     pub holds : Stands c at to bytes_there
     pub value : v ≡ Single s (leaf_kinds.Base kind) bytes_there key
 
-  pub base_form : (v : Value) (d : Class) → IsNode k c (node_at s at to) v → s.array ≡ false → s.constant ≡ false → find_class k s.class ≡ Some d → kind_of d.name ≢ kinds.Composite → BaseForm (kind_of d.name) v
+  pub base_form : (v : Value) (d : Class) → IsNode k c (node_at s at to) v → s.array ≡ false → s.constant ≡ false → find_class k s.class ≡ Some d → kind_of d.name ≢ kinds.Composite
+      → BaseForm (kind_of d.name) v
   base_form (Single t kind b key) d i a o q n = by_case i.fits
     where
       by_case : IsSingle k t kind b key → BaseForm (kind_of d.name) (Single t kind b key)
@@ -51,7 +52,8 @@ module _ (k : Classes) (c : List ℕ) (at to : ℕ) (s : Shape) where
             key = key;
             is = subst (λ z. IsBase (kind_of d.name) z key) (sym i.bytes) f;
             holds = record { order = i.order; within = i.within; bytes = refl };
-            value = ap (λ z. Single t z b key) p.4 ∙ (ap (λ (z : Class). Single t (leaf_kinds.Base (kind_of z.name)) b key) e ∙ (ap (λ z. Single t (leaf_kinds.Base (kind_of d.name)) z key) (sym i.bytes) ∙ ap (λ (z : Shape). Single z (leaf_kinds.Base (kind_of d.name)) bytes_there key) (sym i.shape)));
+            value = ap (λ z. Single t z b key) p.4 ∙ (ap (λ (z : Class). Single t (leaf_kinds.Base (kind_of z.name)) b key) e
+                ∙ (ap (λ z. Single t (leaf_kinds.Base (kind_of d.name)) z key) (sym i.bytes) ∙ ap (λ (z : Shape). Single z (leaf_kinds.Base (kind_of d.name)) bytes_there key) (sym i.shape)));
           }
   base_form (Group t h vs) d i a o q n = by_case i.fits.0
     where
@@ -104,7 +106,8 @@ module _ (k : Classes) (c : List ℕ) (at to : ℕ) (s : Shape) where
             record {
               key = p.2;
               found = int_computed c at end to p.2 (let r = i.order in omega arith) w n l;
-              value = ap (λ z. Single t z b key) p.4 ∙ (ap (λ z. Single t (leaf_kinds.Key p.2) b z) p.5 ∙ (ap (λ z. Single t (leaf_kinds.Key p.2) z (Some p.2)) (sym i.bytes) ∙ ap (λ (z : Shape). Single z (leaf_kinds.Key p.2) bytes_there (Some p.2)) (sym i.shape)));
+              value = ap (λ z. Single t z b key) p.4 ∙ (ap (λ z. Single t (leaf_kinds.Key p.2) b z) p.5
+                  ∙ (ap (λ z. Single t (leaf_kinds.Key p.2) z (Some p.2)) (sym i.bytes) ∙ ap (λ (z : Shape). Single z (leaf_kinds.Key p.2) bytes_there (Some p.2)) (sym i.shape)));
             }
         by_case (inr p) = let z : t.constant ≡ true = ap (λ (z : Shape). z.constant) (sym i.shape) ∙ o in let y = p.1 in cc
     key_form (Group t h vs) i a o = by_case i.fits.0

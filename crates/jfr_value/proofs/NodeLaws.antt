@@ -65,14 +65,16 @@ class_free (suc n) k s = by_class (find_class k s.class) (class_free n k)
   where
     by_class : (o : Option Class) → ((s : Shape) → PlaceFree (class_format n k s)) → PlaceFree (inline_format (class_format n k) s o)
     by_class None p = tt
-    by_class (Some c) p = kind_free (kind_of c.name) s (fields_format (class_format n k) c.fields) (each_free c.fields (λ f. shape_format (class_format n k) f.shape) (λ f. shape_free (class_format n k) p f.shape))
+    by_class (Some c) p = kind_free (kind_of c.name) s (fields_format (class_format n k) c.fields)
+        (each_free c.fields (λ f. shape_format (class_format n k) f.shape) (λ f. shape_free (class_format n k) p f.shape))
 
 pub value_free : (k : Classes) (s : Shape) → PlaceFree (value_format k s)
 unfolding value_format
 value_free k s = shape_free (class_format 34 k) (class_free 34 k) s
 
 -- What is read as a value is a node.
-pub read_node : (k : Classes) (s : Shape) (c : List ℕ) (end at to : ℕ) (v : Value) → end ≤ length c → at ≤ end → Reads (value_format k s) c end at v to → IsNode k c (record { shape = s; at = at; end = to }) v × (to ≤ end)
+pub read_node : (k : Classes) (s : Shape) (c : List ℕ) (end at to : ℕ) (v : Value) → end ≤ length c → at ≤ end → Reads (value_format k s) c end at v to
+    → IsNode k c (record { shape = s; at = at; end = to }) v × (to ≤ end)
 read_node k s c end at to v h i r =
     let e = reads_exact (value_format k s) c end at v to h i (value_free k s) r in
     let w = value_whole k s (slice_range c at to) v e.exact in
@@ -86,7 +88,8 @@ pub stands_node : (k : Classes) (c : List ℕ) (at end : ℕ) (v : Value) → St
 stands_node k c at end v s f = record { shape = refl; order = s.order; within = s.within; bytes = s.bytes; fits = f }
 
 -- A node is read, whatever comes after it.
-pub node_read : (k : Classes) (c : List ℕ) (n : NodeAt) (v : Value) (end : ℕ) → Sound k → IsNode k c n v → n.end ≤ end → end ≤ length c → run (value_format k n.shape) c end n.at ≡ Ok (record { value = v; place = n.end })
+pub node_read : (k : Classes) (c : List ℕ) (n : NodeAt) (v : Value) (end : ℕ) → Sound k → IsNode k c n v → n.end ≤ end → end ≤ length c
+    → run (value_format k n.shape) c end n.at ≡ Ok (record { value = v; place = n.end })
 node_read k c n v end s i l h =
     let e : Exactly (value_format k n.shape) (bytes_of v) v = subst (λ z. Exactly (value_format k z) (bytes_of v) v) (sym i.shape) (fits_good k v s i.fits) in
     exact_run c end h (value_format k n.shape) n.at n.end (bytes_of v) v e (node_stands k c n v i) l
@@ -96,7 +99,8 @@ unfolding value_of
 value_is k c n v s i = ap got_value (node_read k c n v n.end s i (omega arith) i.within)
 
 -- The members that lie one after another.
-laid_is : (k : Classes) (c : List ℕ) (at to : ℕ) (vs : Values) → Stands c at to (bytes_of_all vs) → AllFit k vs → (i : ℕ) → Both (IsNode k c) (slice_get (laid at (list_of vs)) i) (slice_get (list_of vs) i)
+laid_is : (k : Classes) (c : List ℕ) (at to : ℕ) (vs : Values) → Stands c at to (bytes_of_all vs) → AllFit k vs → (i : ℕ)
+    → Both (IsNode k c) (slice_get (laid at (list_of vs)) i) (slice_get (list_of vs) i)
 laid_is k c at to Nil s g i = tt
 laid_is k c at to (Cons v vs) s g i =
     let h = stands_split c at to (bytes_of v ++ bytes_of_all vs) (bytes_of v) (bytes_of_all vs) s refl in
@@ -114,7 +118,8 @@ inner_is k c at to (Group s h vs) x g i =
     let y = stands_split c at to (h ++ bytes_of_all vs) h (bytes_of_all vs) x refl in
     laid_is k c (at + length h) to vs y.second g.1 i
 
-picked_both : {A B : Type 0} (R : A → B → Type 0) (s : Shape) (xs : List A) (ys : List B) → ((i : ℕ) → Both R (slice_get xs i) (slice_get ys i)) → (step : Step) → Both R (picked s xs step) (picked s ys step)
+picked_both : {A B : Type 0} (R : A → B → Type 0) (s : Shape) (xs : List A) (ys : List B) → ((i : ℕ) → Both R (slice_get xs i) (slice_get ys i)) → (step : Step)
+    → Both R (picked s xs step) (picked s ys step)
 picked_both R s xs ys f (steps.Field i) = by_mark s.array (f i)
   where
     by_mark : (t : Bool) → Both R (slice_get xs i) (slice_get ys i) → Both R (if t then None else slice_get xs i) (if t then None else slice_get ys i)
@@ -138,7 +143,8 @@ children_are k c n v s i = ap (λ o. option_map_or (laid_in n.at) o []) (value_i
 pub child_is : (k : Classes) (c : List ℕ) (n : NodeAt) (v : Value) → Sound k → IsNode k c n v → (step : Step) → Both (IsNode k c) (child k c n step) (part v step)
 child_is k c n v s i step =
     let b = picked_both (IsNode k c) (shape_of v) (laid_in n.at v) (parts_of v) (inner_is k c n.at n.end v (node_stands k c n v i) i.fits) step in
-    subst (λ z. Both (IsNode k c) (picked n.shape z step) (part v step)) (sym (children_are k c n v s i)) (subst (λ z. Both (IsNode k c) (picked z (laid_in n.at v) step) (part v step)) (sym i.shape) b)
+    subst (λ z. Both (IsNode k c) (picked n.shape z step) (part v step)) (sym (children_are k c n v s i))
+    (subst (λ z. Both (IsNode k c) (picked z (laid_in n.at v) step) (part v step)) (sym i.shape) b)
 
 pub target_is : (k : Classes) (c : List ℕ) (n : NodeAt) (v : Value) → Sound k → IsNode k c n v → target k c n ≡ own_target v
 target_is k c n v s i = ap (option_and_then own_target) (value_is k c n v s i)

@@ -64,7 +64,8 @@ module _ {A : Type 0} (takes : LeafAt → A → A → Type 0) (admits : LeafAt �
     number_order : AreToVisit admits k c end (g ∷ []) (s.shape ∷ []) at → at ≤ to
     number_order a = end_order (one s) c end at to a.row.order a.row.within e
 
-  pub numbers_visited : (ss : List FieldLayout) (class number at to before : ℕ) (visitor : A) → AllByRecursion (IsFieldLayout k) ss → AreNumbers ss → Ok to ≡ end_or_flaw (run (values_format (levels + 1) k ss) c end at)
+  pub numbers_visited : (ss : List FieldLayout) (class number at to before : ℕ) (visitor : A) → AllByRecursion (IsFieldLayout k) ss → AreNumbers ss
+      → Ok to ≡ end_or_flaw (run (values_format (levels + 1) k ss) c end at)
       → AreToVisit admits k c end (fields_from class number (shapes_of_layouts ss)) (shapes_of_layouts ss) at → ready visitor at
       → Visits takes k c end (fields_from class number (shapes_of_layouts ss)) (shapes_of_layouts ss) at visitor before [] [] to visitor (before + length ss)
   unfolding run
@@ -73,7 +74,8 @@ module _ {A : Type 0} (takes : LeafAt → A → A → Type 0) (admits : LeafAt �
       let z : before ≡ before + 0 = omega arith in
       subst (λ x. Visits takes k c end [] [] at visitor before [] [] x visitor (before + 0)) q
       (subst (λ x. Visits takes k c end [] [] at visitor before [] [] at visitor x) z (visits_none takes k c end [] [] at before visitor))
-  numbers_visited (s ∷ ss) class number at to before visitor i n e a r = by_end (λ mid x b y. numbers_visited ss class (number + 1) mid to (before + 1) visitor i.1 n.1 x b y) (end_or_flaw (run (one s) c end at)) refl
+  numbers_visited (s ∷ ss) class number at to before visitor i n e a r =
+      by_end (λ mid x b y. numbers_visited ss class (number + 1) mid to (before + 1) visitor i.1 n.1 x b y) (end_or_flaw (run (one s) c end at)) refl
     where
       holder : Option Holder
       holder = Some (record { class = class; field = number })
@@ -100,4 +102,5 @@ module _ {A : Type 0} (takes : LeafAt → A → A → Type 0) (admits : LeafAt �
           visits_first takes k c end holder holders s.shape shapes at mid before (before + 1) visitor visitor (number_visited s holder at mid before visitor i.0 n.0 f first r) in
           subst (λ z. Visits takes k c end (holder ∷ holders) (s.shape ∷ shapes) at visitor before [] [] to visitor z) m
           (visits_then takes k c end (holder ∷ holders) holders [] (s.shape ∷ shapes) shapes [] at mid to before (before + 1) (before + 1 + length ss) visitor visitor visitor v
-          (rest mid x (left_to_visit takes k c end admits (holder ∷ holders) holders (s.shape ∷ shapes) shapes at mid before (before + 1) visitor visitor v a) (later visitor at mid r (number_order s holder at mid before visitor i.0 n.0 f first))))
+          (rest mid x (left_to_visit takes k c end admits (holder ∷ holders) holders (s.shape ∷ shapes) shapes at mid before (before + 1) visitor visitor v a)
+          (later visitor at mid r (number_order s holder at mid before visitor i.0 n.0 f first))))

@@ -23,7 +23,8 @@ pub record There (k : Classes) (c : List ℕ) (at end : ℕ) (vs : Values) (i : 
   pub next : to ≡ start_of at vs (i + 1)
   pub is : slice_get (laid at (list_of vs)) i ≡ Some (node_at s place to)
 
-pub part_there : (k : Classes) (c : List ℕ) (at end : ℕ) (ss : List Shape) (vs : Values) (i : ℕ) (s : Shape) (place : ℕ) → AreValues k c at end ss vs → slice_get ss i ≡ Some s → place ≡ start_of at vs i → There k c at end vs i s place
+pub part_there : (k : Classes) (c : List ℕ) (at end : ℕ) (ss : List Shape) (vs : Values) (i : ℕ) (s : Shape) (place : ℕ) → AreValues k c at end ss vs → slice_get ss i ≡ Some s
+    → place ≡ start_of at vs i → There k c at end vs i s place
 part_there k c at end ss vs i s place r e p =
     let x = row_at k c at end ss vs i s r e in
     let n : IsNode k c (node_at s place (start_of at vs (i + 1))) x.value = subst (λ z. IsNode k c (node_at s z (start_of at vs (i + 1))) x.value) (sym p) x.node in
@@ -37,7 +38,8 @@ part_there k c at end ss vs i s place r e p =
     }
 
 -- Items without bytes are all at one offset.
-pub hollow_part : (k : Classes) (c : List ℕ) (at end : ℕ) (s : FieldLayout) (count i : ℕ) (vs : Values) (b : Bool) → IsLayoutOrKey k s → s.shape.array ≡ false → s.shape.constant ≡ false → IfSome (slice_get k s.class_index) (λ c. IsTrue b ↔ IsHollow c) → b ≡ true
+pub hollow_part : (k : Classes) (c : List ℕ) (at end : ℕ) (s : FieldLayout) (count i : ℕ) (vs : Values) (b : Bool) → IsLayoutOrKey k s → s.shape.array ≡ false → s.shape.constant ≡ false
+    → IfSome (slice_get k s.class_index) (λ c. IsTrue b ↔ IsHollow c) → b ≡ true
     → AreValues k c at end (replicate count s.shape) vs → i < count → slice_get (laid at (list_of vs)) i ≡ Some (node_at s.shape at at)
 hollow_part k c at end s count i vs b p a o h t r l =
     let d = layout_class k s (p.of_class o) in

@@ -48,7 +48,8 @@ none_found {X = X} p i (x ∷ xs) e = by_test (p x) refl e (λ q. none_found p (
 
 -- A known class has a place.
 pub known_placed : (k : Classes) (id : ℕ) → IsSome (find_class k id) → class_index k id ≡ None → ⊥
-known_placed k id h e = let n : find_class k id ≡ None = none_found (λ c. c.id == id) 0 k (sym (position_from-zero (λ c. c.id == id) k) ∙ e) in let q : IsSome {T = Class} None = subst (λ o. IsSome o) n h in cc
+known_placed k id h e = let n : find_class k id ≡ None = none_found (λ c. c.id == id) 0 k (sym (position_from-zero (λ c. c.id == id) k) ∙ e) in let q : IsSome {T = Class} None =
+    subst (λ o. IsSome o) n h in cc
 
 pub get_within : {X : Type 0} (xs : List X) (i : ℕ) → i < length xs → (x : X) × (slice_get xs i ≡ Some x)
 get_within [] i h = absurd (omega arith)

@@ -57,7 +57,8 @@ module _ (k : Classes) (layouts : List FieldLayout) (thread trace : ℕ) (p : Is
         let e : number + 1 + 1 ≡ number + 2 = omega arith in
         let f : number + 1 + 1 + 1 ≡ number + 3 = omega arith in
         ap (fields_from class number) all_shapes
-        ∙ (ap (λ n. Some (record { class = class; field = number }) ∷ Some (record { class = class; field = number + 1 }) ∷ Some (record { class = class; field = n }) ∷ Some (record { class = class; field = number + 1 + 1 + 1 }) ∷ []) e
+        ∙ (ap (λ n. Some (record { class = class; field = number }) ∷ Some (record { class = class; field = number + 1 }) ∷ Some (record { class = class; field = n }) ∷ Some
+        (record { class = class; field = number + 1 + 1 + 1 }) ∷ []) e
         ∙ ap (λ n. Some (record { class = class; field = number }) ∷ Some (record { class = class; field = number + 1 }) ∷ holder 2 ∷ Some (record { class = class; field = n }) ∷ []) f)
 
     -- The integers end at `times`, and leave the visitor as it is.
@@ -75,7 +76,8 @@ module _ (k : Classes) (layouts : List FieldLayout) (thread trace : ℕ) (p : Is
           let gs = fields_from class number (shapes_of_layouts two) in
           let hs = holder 2 ∷ holder 3 ∷ [] in
           let ts = p.threads.shape ∷ p.traces.shape ∷ [] in
-          let there : AreToVisit admits k c end (gs ++ hs) (shapes_of_layouts two ++ ts) at = subst (λ z. AreToVisit admits k c end z (shapes_of_layouts two ++ ts) at) all_holders (subst (λ z. AreToVisit admits k c end holders z at) all_shapes all_to_visit) in
+          let there : AreToVisit admits k c end (gs ++ hs) (shapes_of_layouts two ++ ts) at =
+          subst (λ z. AreToVisit admits k c end z (shapes_of_layouts two ++ ts) at) all_holders (subst (λ z. AreToVisit admits k c end holders z at) all_shapes all_to_visit) in
           subst (λ z. Visits takes k c end z shapes at old before hs ts to old (before + 2)) (sym all_holders)
           (subst (λ z. Visits takes k c end (gs ++ hs) z at old before hs ts to old (before + 2)) (sym all_shapes)
           (visits_front takes k c end gs hs (shapes_of_layouts two) ts at to before (before + 2) old old
@@ -85,20 +87,24 @@ module _ (k : Classes) (layouts : List FieldLayout) (thread trace : ℕ) (p : Is
       pub thread_to_visit : AreToVisit admits k c end (holder 2 ∷ []) ((get_or layouts 2 no_layout).shape ∷ []) to
       thread_to_visit =
           subst (λ (s : FieldLayout). AreToVisit admits k c end (holder 2 ∷ []) (s.shape ∷ []) to) (sym thread_layout)
-          (next_to_visit takes k c end admits holders (holder 2 ∷ holder 3 ∷ []) (holder 3 ∷ []) shapes (p.threads.shape ∷ p.traces.shape ∷ []) (p.traces.shape ∷ []) (holder 2) p.threads.shape at to before (before + 2) old old refl refl times_visited all_to_visit)
+          (next_to_visit takes k c end admits holders (holder 2 ∷ holder 3 ∷ []) (holder 3 ∷ []) shapes (p.threads.shape ∷ p.traces.shape ∷ []) (p.traces.shape ∷ [])
+          (holder 2) p.threads.shape at to before (before + 2) old old refl refl times_visited all_to_visit)
 
       module _ (threads after : ℕ) (new : A) (w : Visits takes k c end (holder 2 ∷ []) ((get_or layouts 2 no_layout).shape ∷ []) to old (before + 2) [] [] threads new after) where
         thread_visited : Visits takes k c end holders shapes at old before (holder 3 ∷ []) (p.traces.shape ∷ []) threads new after
         thread_visited =
-            visits_next takes k c end holders (holder 2 ∷ holder 3 ∷ []) (holder 3 ∷ []) shapes (p.threads.shape ∷ p.traces.shape ∷ []) (p.traces.shape ∷ []) (holder 2) p.threads.shape at to threads before (before + 2) after old old new refl refl times_visited
+            visits_next takes k c end holders (holder 2 ∷ holder 3 ∷ []) (holder 3 ∷ []) shapes (p.threads.shape ∷ p.traces.shape ∷ []) (p.traces.shape ∷ [])
+            (holder 2) p.threads.shape at to threads before (before + 2) after old old new refl refl times_visited
             (subst (λ (s : FieldLayout). Visits takes k c end (holder 2 ∷ []) (s.shape ∷ []) to old (before + 2) [] [] threads new after) thread_layout w)
 
         pub trace_to_visit : AreToVisit admits k c end (holder 3 ∷ []) ((get_or layouts 3 no_layout).shape ∷ []) threads
         trace_to_visit =
             subst (λ (s : FieldLayout). AreToVisit admits k c end (holder 3 ∷ []) (s.shape ∷ []) threads) (sym trace_layout)
-            (next_to_visit takes k c end admits holders (holder 3 ∷ []) [] shapes (p.traces.shape ∷ []) [] (holder 3) p.traces.shape at threads before after old new refl refl thread_visited all_to_visit)
+            (next_to_visit takes k c end admits holders (holder 3 ∷ []) [] shapes (p.traces.shape ∷ []) []
+            (holder 3) p.traces.shape at threads before after old new refl refl thread_visited all_to_visit)
 
-        pub prelude_visited : (traces last : ℕ) (newest : A) → Visits takes k c end (holder 3 ∷ []) ((get_or layouts 3 no_layout).shape ∷ []) threads new after [] [] traces newest last → Visits takes k c end holders shapes at old before [] [] traces newest last
+        pub prelude_visited : (traces last : ℕ) (newest : A) → Visits takes k c end (holder 3 ∷ []) ((get_or layouts 3 no_layout).shape ∷ []) threads new after [] [] traces newest last
+            → Visits takes k c end holders shapes at old before [] [] traces newest last
         prelude_visited traces last newest v =
             visits_next takes k c end holders (holder 3 ∷ []) [] shapes (p.traces.shape ∷ []) [] (holder 3) p.traces.shape at threads traces before after last old new newest refl refl thread_visited
             (subst (λ (s : FieldLayout). Visits takes k c end (holder 3 ∷ []) (s.shape ∷ []) threads new after [] [] traces newest last) trace_layout v)

@@ -61,18 +61,28 @@ module _ (k : Classes) (c : List ℕ) (at to : ℕ) (s : FieldLayout) (t : Shape
   key_refers e =
       let m = key_there s form e in
       let n = key_node k c at to to s.shape (omega arith) here.within v here m.0 m.1 in
-      let p : parts_of v ≡ [] = constant_alone k v (ap (λ (z : Shape). z.array) (sym here.shape) ∙ m.0) (ap (λ (z : Shape). z.constant) (sym here.shape) ∙ m.1) here.fits in
-      (n.key, n.found, subst (λ (z : Shape). target k c (node_at z at to) ≡ Some (z.class, n.key)) shape (target_is k c (node_at s.shape at to) v sound here ∙ own_alone v (Some (s.shape.class, n.key)) p n.targets))
+      let p : parts_of v ≡ [] = constant_alone k v (ap (λ (z : Shape). z.array) (sym here.shape) ∙ m.0) (ap (λ (z : Shape). z.constant) (sym here.shape) ∙ m.1) here.fits in (
+        n.key,
+        n.found,
+        subst (λ (z : Shape). target k c (node_at z at to) ≡ Some (z.class, n.key)) shape
+            (target_is k c (node_at s.shape at to) v sound here ∙ own_alone v (Some (s.shape.class, n.key)) p n.targets),
+      )
 
   -- A string refers to its key, if it is one.
-  pub text_refers : s.form ≡ forms.Text → (content : Content) × (run (string_format true) c to at ≡ Ok (record { value = content; place = to })) × (target k c (node_at t at to) ≡ option_map (λ key. (t.class, key)) (key_of content))
+  pub text_refers : s.form ≡ forms.Text
+      → (content : Content) × (run (string_format true) c to at ≡ Ok (record { value = content; place = to })) × (target k c (node_at t at to) ≡ option_map (λ key. (t.class, key)) (key_of content))
   text_refers e =
       let m = inline_there s form forms.Text e tt in
       let x = text_kind s.kind m.form in
       let n = inline_text k c at to to s.shape (omega arith) here.within v s.class_index s.kind s.form here m.array m.constant if_known x in
       let d = inline_node k c at to to s.shape (omega arith) here.within v s.class_index s.kind s.form here m.array m.constant if_known in
-      let p : parts_of v ≡ [] = base_alone k v d.class (ap (λ (z : Shape). z.array) (sym here.shape) ∙ m.array) (ap (λ (z : Shape). find_class k z.class) (sym here.shape) ∙ d.found) (λ z. (let y : kinds.Text ≡ kinds.Composite = sym x ∙ (d.kind_is ∙ z) in cc)) here.fits in
-      (n.content, n.reads, subst (λ (z : Shape). target k c (node_at z at to) ≡ option_map (λ key. (z.class, key)) (key_of n.content)) shape (target_is k c (node_at s.shape at to) v sound here ∙ own_alone v (option_map (λ key. (s.shape.class, key)) (key_of n.content)) p n.targets))
+      let p : parts_of v ≡ [] = base_alone k v d.class (ap (λ (z : Shape). z.array) (sym here.shape) ∙ m.array) (ap (λ (z : Shape). find_class k z.class) (sym here.shape) ∙ d.found)
+      (λ z. (let y : kinds.Text ≡ kinds.Composite = sym x ∙ (d.kind_is ∙ z) in cc)) here.fits in (
+        n.content,
+        n.reads,
+        subst (λ (z : Shape). target k c (node_at z at to) ≡ option_map (λ key. (z.class, key)) (key_of n.content)) shape
+            (target_is k c (node_at s.shape at to) v sound here ∙ own_alone v (option_map (λ key. (s.shape.class, key)) (key_of n.content)) p n.targets),
+      )
 
   -- And no other value refers to something by itself.
   pub none_refers : s.form ≢ forms.Key → s.form ≢ forms.Text → target k c (node_at t at to) ≡ None

@@ -60,7 +60,8 @@ replicate_get (suc n) zero s h = refl
 replicate_get (suc n) (suc i) s h = replicate_get n i s (omega arith)
 
 -- A value of a class without fields has no bytes.
-pub hollow_bytes : (k : Classes) (v : Value) (c : Class) → (shape_of v).array ≡ false → (shape_of v).constant ≡ false → find_class k (shape_of v).class ≡ Some c → IsHollow c → Fits k v → bytes_of v ≡ []
+pub hollow_bytes : (k : Classes) (v : Value) (c : Class) → (shape_of v).array ≡ false → (shape_of v).constant ≡ false → find_class k (shape_of v).class ≡ Some c → IsHollow c → Fits k v
+    → bytes_of v ≡ []
 hollow_bytes k (Single s kind b key) c a o q h f = by_case f
   where
     by_case : IsSingle k s kind b key → b ≡ []
@@ -76,7 +77,8 @@ hollow_bytes k (Group s h vs) c a o q i f = by_case vs f.0
         let z : shapes_of (Cons v vs) ≡ [] = p.6 ∙ ap (map (λ f. f.shape)) (ap (λ (z : Class). z.fields) e ∙ i.1) in
         cc
 
-pub hollow_starts : (k : Classes) (s : Shape) (c : Class) → s.array ≡ false → s.constant ≡ false → find_class k s.class ≡ Some c → IsHollow c → (n : ℕ) (vs : Values) → shapes_of vs ≡ replicate n s → AllFit k vs → (at i : ℕ) → start_of at vs i ≡ at
+pub hollow_starts : (k : Classes) (s : Shape) (c : Class) → s.array ≡ false → s.constant ≡ false → find_class k s.class ≡ Some c → IsHollow c → (n : ℕ) (vs : Values) → shapes_of vs ≡ replicate n s
+    → AllFit k vs → (at i : ℕ) → start_of at vs i ≡ at
 hollow_starts k s c a o q h n vs e f at zero = refl
 hollow_starts k s c a o q h n Nil e f at (suc i) = refl
 hollow_starts k s c a o q h zero (Cons v vs) e f at (suc i) = cc

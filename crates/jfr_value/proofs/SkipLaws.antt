@@ -22,7 +22,8 @@ int_made {A = A} g x end at = by_int (int_at x at end)
     by_int None = refl
     by_int (Some v) = refl
 
-pub base_skipped : (kind : Kind) (x : List ℕ) (end at : ℕ) → (kind ≡ kinds.Char) ⊎ ((kind ≡ kinds.Short) ⊎ ((kind ≡ kinds.Int) ⊎ (kind ≡ kinds.Long))) → end_or_flaw (run integer x end at) ≡ end_or_flaw (run (base_format kind) x end at)
+pub base_skipped : (kind : Kind) (x : List ℕ) (end at : ℕ) → (kind ≡ kinds.Char) ⊎ ((kind ≡ kinds.Short) ⊎ ((kind ≡ kinds.Int) ⊎ (kind ≡ kinds.Long)))
+    → end_or_flaw (run integer x end at) ≡ end_or_flaw (run (base_format kind) x end at)
 base_skipped kind x end at h = int_made nothing x end at ∙ ap (λ f. end_or_flaw (run f x end at)) (is_int h)
   where
     nothing : ℕ → List ℕ → Option ℕ
@@ -37,28 +38,35 @@ base_skipped kind x end at h = int_made nothing x end at ∙ ap (λ f. end_or_fl
 -- An integer ends after its last group, if that is there.
 int_ends : (x : List ℕ) (end at n : ℕ) → prefix_length 8 (slice_range x at end) ≡ Some n → Ok (at + n) ≡ end_or_flaw (run integer x end at)
 unfolding run int_at
-int_ends x end at n e = ap (λ o. end_or_flaw (after_int x at unchecked (λ v s p. run (Done v) x end p) (option_map (λ n. record { value = worth_within 8 (slice_range x at (at + n)); end = at + n }) o))) (sym e)
+int_ends x end at n e = ap (λ o. end_or_flaw
+    (after_int x at unchecked (λ v s p. run (Done v) x end p) (option_map (λ n. record { value = worth_within 8 (slice_range x at (at + n)); end = at + n }) o))) (sym e)
 
 int_short : (x : List ℕ) (end at : ℕ) → prefix_length 8 (slice_range x at end) ≡ None → Err (record { offset = at; reason = Short }) ≡ end_or_flaw (run integer x end at)
 unfolding run int_at
-int_short x end at e = ap (λ o. end_or_flaw (after_int x at unchecked (λ v s p. run (Done v) x end p) (option_map (λ n. record { value = worth_within 8 (slice_range x at (at + n)); end = at + n }) o))) (sym e)
+int_short x end at e = ap (λ o. end_or_flaw
+    (after_int x at unchecked (λ v s p. run (Done v) x end p) (option_map (λ n. record { value = worth_within 8 (slice_range x at (at + n)); end = at + n }) o))) (sym e)
 
 -- An integer of the bytes ends by an end, too, that it doesn't pass, and by none that it passes.
 pub by_end : (x : List ℕ) (at end to : ℕ) → at ≤ end → end ≤ length x → Ok to ≡ end_or_flaw (run integer x (length x) at) → to ≤ end → Ok to ≡ end_or_flaw (run integer x end at)
 unfolding run
 by_end x at end to h i e l = by_int (int_at x at (length x)) refl e
   where
-    by_int : (o : Option Var) → int_at x at (length x) ≡ o → Ok to ≡ end_or_flaw (after_int x at unchecked (λ v s p. run (Done v) x (length x) p) o) → Ok to ≡ end_or_flaw (after_int x at unchecked (λ v s p. run (Done v) x end p) (int_at x at end))
+    by_int : (o : Option Var) → int_at x at (length x) ≡ o → Ok to ≡ end_or_flaw (after_int x at unchecked (λ v s p. run (Done v) x (length x) p) o)
+        → Ok to ≡ end_or_flaw (after_int x at unchecked (λ v s p. run (Done v) x end p) (int_at x at end))
     by_int None q e = cc
-    by_int (Some v) q e = let g : to ≡ v.end = cc in e ∙ ap (λ o. end_or_flaw (after_int x at unchecked (λ v s p. run (Done v) x end p) o)) (sym (ends_by x at end (length x) v h i (omega arith) (omega arith) q (omega arith)))
+    by_int (Some v) q e = let g : to ≡ v.end =
+        cc in e ∙ ap (λ o. end_or_flaw (after_int x at unchecked (λ v s p. run (Done v) x end p) o)) (sym (ends_by x at end (length x) v h i (omega arith) (omega arith) q (omega arith)))
 
-pub past_end : (x : List ℕ) (at end to : ℕ) → at ≤ end → end ≤ length x → Ok to ≡ end_or_flaw (run integer x (length x) at) → end < to → Err (record { offset = at; reason = Short }) ≡ end_or_flaw (run integer x end at)
+pub past_end : (x : List ℕ) (at end to : ℕ) → at ≤ end → end ≤ length x → Ok to ≡ end_or_flaw (run integer x (length x) at) → end < to
+    → Err (record { offset = at; reason = Short }) ≡ end_or_flaw (run integer x end at)
 unfolding run
 past_end x at end to h i e l = by_int (int_at x at (length x)) refl e
   where
-    by_int : (o : Option Var) → int_at x at (length x) ≡ o → Ok to ≡ end_or_flaw (after_int x at unchecked (λ v s p. run (Done v) x (length x) p) o) → Err (record { offset = at; reason = Short }) ≡ end_or_flaw (after_int x at unchecked (λ v s p. run (Done v) x end p) (int_at x at end))
+    by_int : (o : Option Var) → int_at x at (length x) ≡ o → Ok to ≡ end_or_flaw (after_int x at unchecked (λ v s p. run (Done v) x (length x) p) o)
+        → Err (record { offset = at; reason = Short }) ≡ end_or_flaw (after_int x at unchecked (λ v s p. run (Done v) x end p) (int_at x at end))
     by_int None q e = cc
-    by_int (Some v) q e = let g : to ≡ v.end = cc in ap (λ o. end_or_flaw (after_int x at unchecked (λ v s p. run (Done v) x end p) o)) (sym (ends_past x at end (length x) v h i (omega arith) (omega arith) q (omega arith)))
+    by_int (Some v) q e = let g : to ≡ v.end =
+        cc in ap (λ o. end_or_flaw (after_int x at unchecked (λ v s p. run (Done v) x end p) o)) (sym (ends_past x at end (length x) v h i (omega arith) (omega arith) q (omega arith)))
 
 -- What is known between two groups, after `passed` groups of seven bits.
 pub record Skipping (x : List ℕ) (at end passed : ℕ) : Type 0 where
@@ -87,7 +95,8 @@ skip_next x at end passed s m l h b =
     let g : 8 - passed ≡ suc (8 - (passed + 1)) = omega arith in
     record {
       room = omega arith;
-      same = at_byte x at end passed s l h ∙ (ap (λ k. option_map (λ n. passed + n) (prefix_length k (slice_index x (at + passed) ∷ slice_range x (at + (passed + 1)) end))) g ∙ rw t (by_front (prefix_length (8 - (passed + 1)) (slice_range x (at + (passed + 1)) end))));
+      same = at_byte x at end passed s l h ∙ (ap (λ k. option_map (λ n. passed + n) (prefix_length k (slice_index x (at + passed) ∷ slice_range x (at + (passed + 1)) end))) g
+          ∙ rw t (by_front (prefix_length (8 - (passed + 1)) (slice_range x (at + (passed + 1)) end))));
     }
   where
     by_front : (o : Option ℕ) → option_map (λ n. passed + n) (option_map (λ n. suc n) o) ≡ option_map (λ n. passed + 1 + n) o
@@ -101,7 +110,8 @@ skip_all x at end (suc n) m l h more =
     let z : n + 1 ≡ suc n = omega arith in
     subst (Skipping x at end) z (skip_next x at end n (skip_all x at end n (omega arith) (omega (arith, l)) h (λ k i. more k (omega arith))) (omega arith) (omega arith) h (more n (omega arith)))
 
-pub skip_end : (x : List ℕ) (at end passed : ℕ) → Skipping x at end passed → at + passed < end → end ≤ length x → (slice_index x (at + passed) < 128) ⊎ (passed ≡ 8) → Ok (at + passed + 1) ≡ end_or_flaw (run integer x end at)
+pub skip_end : (x : List ℕ) (at end passed : ℕ) → Skipping x at end passed → at + passed < end → end ≤ length x → (slice_index x (at + passed) < 128) ⊎ (passed ≡ 8)
+    → Ok (at + passed + 1) ≡ end_or_flaw (run integer x end at)
 skip_end x at end passed s l h t =
     let z : (at + passed) + 1 ≡ at + (passed + 1) = omega arith in
     ap (λ n. Ok n) z ∙ int_ends x end at (passed + 1) (at_byte x at end passed s l h ∙ ap (option_map (λ n. passed + n)) (by_groups (8 - passed) refl t))

@@ -48,7 +48,8 @@ drop_past (x ∷ xs) (suc i) h = drop_past xs i (omega arith)
 pub field_there : (k : Classes) (place number : ℕ) (f : Field) → field_at k place number ≡ Some f → (c : Class) × (slice_get k place ≡ Some c) × (slice_get c.fields number ≡ Some f)
 field_there k place number f e = by_class (slice_get k place) refl e
   where
-    by_class : (o : Option Class) → slice_get k place ≡ o → option_and_then (λ c. slice_get c.fields number) o ≡ Some f → (c : Class) × (slice_get k place ≡ Some c) × (slice_get c.fields number ≡ Some f)
+    by_class : (o : Option Class) → slice_get k place ≡ o → option_and_then (λ c. slice_get c.fields number) o ≡ Some f
+        → (c : Class) × (slice_get k place ≡ Some c) × (slice_get c.fields number ≡ Some f)
     by_class None q e = cc
     by_class (Some c) q e = (c, q, e)
 
@@ -92,7 +93,8 @@ rooms : (k : Classes) (n : ℕ) (fs : List Field) → AllByRecursion (λ f. opti
 rooms k n [] a = tt
 rooms k n (f ∷ fs) a = (λ o d q c. ap (λ z. option_map_or (λ d. begins_chain n k d) z false) (sym (steps_to k f d o q c)) ∙ a.0, rooms k n fs a.1)
 
-pub inner_depth : (k : Classes) (levels : ℕ) (s : Shape) (d : Class) → DepthBound k levels s → s.constant ≡ false → find_class k s.class ≡ Some d → kind_of d.name ≡ kinds.Composite → (1 ≤ levels) × AllByRecursion (λ f. DepthBound k (levels - 1) f.shape) d.fields
+pub inner_depth : (k : Classes) (levels : ℕ) (s : Shape) (d : Class) → DepthBound k levels s → s.constant ≡ false → find_class k s.class ≡ Some d → kind_of d.name ≡ kinds.Composite
+    → (1 ≤ levels) × AllByRecursion (λ f. DepthBound k (levels - 1) f.shape) d.fields
 inner_depth k zero s d r o q m = let z : true ≡ false = r o d q (ap is_composite m) in cc
 inner_depth k (suc n) s d r o q m =
     let g = r o d q (ap is_composite m) in
@@ -100,11 +102,13 @@ inner_depth k (suc n) s d r o q m =
     let e : suc n - 1 ≡ n = omega arith in (
       omega arith,
       subst (λ z. AllByRecursion (λ f. DepthBound k z f.shape) d.fields) (sym e)
-          (rooms k n d.fields (subst (AllByRecursion (λ f. option_map_or (λ d. begins_chain n k d) (step_class k f) false ≡ false)) i (any_none (λ f. option_map_or (λ d. begins_chain n k d) (step_class k f) false) (inline_fields d) g))),
+          (rooms k n d.fields (subst (AllByRecursion (λ f. option_map_or (λ d. begins_chain n k d) (step_class k f) false ≡ false)) i
+          (any_none (λ f. option_map_or (λ d. begins_chain n k d) (step_class k f) false) (inline_fields d) g))),
     )
 
 -- The frame of the fields of a composite value.
-pub fields_frame : (k : Classes) (height levels place class : ℕ) (s : Shape) (d : Class) → DepthBound k levels s → s.constant ≡ false → find_class k s.class ≡ Some d → slice_get k place ≡ Some d → place < length k → kind_of d.name ≡ kinds.Composite → height + 2 * levels ≤ 68
+pub fields_frame : (k : Classes) (height levels place class : ℕ) (s : Shape) (d : Class) → DepthBound k levels s → s.constant ≡ false → find_class k s.class ≡ Some d → slice_get k place ≡ Some d
+    → place < length k → kind_of d.name ≡ kinds.Composite → height + 2 * levels ≤ 68
     → IsFrame k (suc height) (Fields (record { class = class; place = place; number = 0; levels = levels - 1 }))
 fields_frame k height levels place class s d r o q p l m b =
     let i = inner_depth k levels s d r o q m in
@@ -123,11 +127,13 @@ pub array_height : (b : Bool) (n : ℕ) → b ≡ true → n ≤ (if b then 67 e
 array_height true n e h = h
 array_height false n e h = cc
 
-pub fields_from_start : (k : Classes) (class place levels : ℕ) (d : Class) → slice_get k place ≡ Some d → frame_shapes k (Fields (record { class = class; place = place; number = 0; levels = levels })) ≡ map (λ f. f.shape) d.fields
+pub fields_from_start : (k : Classes) (class place levels : ℕ) (d : Class) → slice_get k place ≡ Some d
+    → frame_shapes k (Fields (record { class = class; place = place; number = 0; levels = levels })) ≡ map (λ f. f.shape) d.fields
 fields_from_start k class place levels d q = ap (λ o. option_map_or (λ c. map (λ f. f.shape) (drop 0 c.fields)) o []) q
 
 -- A frame that goes on with its next value.
-pub pushed_field : (k : Classes) (fs new : List Frame) (f : RemainingFields) (d : Field) (s : Shape) → field_at k f.place f.number ≡ Some d → s ≡ d.shape → new ≡ fs ++ Fields (others f) ∷ [] → frame_shapes k (Fields f) ++ remaining_shapes k fs ≡ s ∷ remaining_shapes k new
+pub pushed_field : (k : Classes) (fs new : List Frame) (f : RemainingFields) (d : Field) (s : Shape) → field_at k f.place f.number ≡ Some d → s ≡ d.shape → new ≡ fs ++ Fields (others f) ∷ []
+    → frame_shapes k (Fields f) ++ remaining_shapes k fs ≡ s ∷ remaining_shapes k new
 pushed_field k fs new f d s e q n =
     ap (λ z. z ++ remaining_shapes k fs) (next_field k f d e)
     ∙ (ap (λ z. z ∷ (frame_shapes k (Fields (others f)) ++ remaining_shapes k fs)) (sym q)
@@ -139,12 +145,14 @@ field_holders k fs new f d e n =
     let holder : Option Holder = Some (record { class = f.class; field = f.number }) in
     ap (λ z. fields_from f.class f.number z ++ remaining_holders k fs) (next_field k f d e) ∙ ap (λ z. holder ∷ z) (sym (ap (remaining_holders k) n ∙ holders_push k fs (Fields (others f))))
 
-pub pushed_item : (k : Classes) (fs new : List Frame) (v : NextValue) (remaining : ℕ) → 0 < remaining → new ≡ fs ++ Items v (remaining - 1) ∷ [] → frame_shapes k (Items v remaining) ++ remaining_shapes k fs ≡ v.shape ∷ remaining_shapes k new
+pub pushed_item : (k : Classes) (fs new : List Frame) (v : NextValue) (remaining : ℕ) → 0 < remaining → new ≡ fs ++ Items v (remaining - 1) ∷ []
+    → frame_shapes k (Items v remaining) ++ remaining_shapes k fs ≡ v.shape ∷ remaining_shapes k new
 pushed_item k fs new v remaining l n =
     ap (λ z. z ++ remaining_shapes k fs) (next_item k v remaining (remaining - 1) (omega arith))
     ∙ ap (λ z. v.shape ∷ z) (sym (ap (remaining_shapes k) n ∙ shapes_push k fs (Items v (remaining - 1))))
 
-pub item_holders : (k : Classes) (fs new : List Frame) (v : NextValue) (remaining : ℕ) → 0 < remaining → new ≡ fs ++ Items v (remaining - 1) ∷ [] → frame_holders k (Items v remaining) ++ remaining_holders k fs ≡ v.holder ∷ remaining_holders k new
+pub item_holders : (k : Classes) (fs new : List Frame) (v : NextValue) (remaining : ℕ) → 0 < remaining → new ≡ fs ++ Items v (remaining - 1) ∷ []
+    → frame_holders k (Items v remaining) ++ remaining_holders k fs ≡ v.holder ∷ remaining_holders k new
 item_holders k fs new v remaining l n =
     let e : remaining ≡ suc (remaining - 1) = omega arith in
     ap (λ z. replicate z v.holder ++ remaining_holders k fs) e ∙ ap (λ z. v.holder ∷ z) (sym (ap (remaining_holders k) n ∙ holders_push k fs (Items v (remaining - 1))))
@@ -161,7 +169,14 @@ pub popped : (k : Classes) (fs gs : List Frame) (g f : Frame) → fs ≡ gs ++ g
 popped k fs gs g f e q a =
     let h : fs ≡ gs ++ f ∷ [] = e ∙ ap (λ (z : Frame). gs ++ z ∷ []) q in
     let p = frames_pop k 0 (length gs + 1) gs f (omega arith) (subst (λ (z : List Frame). AreFrames k 0 z) h a) in
-    record { frames = p.0; frame = p.1; shapes = ap (remaining_shapes k) h ∙ shapes_push k gs f; holders = ap (remaining_holders k) h ∙ holders_push k gs f; height = ap length h ∙ length-append gs (f ∷ []) }
+    record {
+      frames = p.0;
+      frame = p.1;
+      shapes = ap (remaining_shapes k) h ∙ shapes_push k gs f;
+      holders = ap (remaining_holders k) h ∙ holders_push k gs f;
+      height = ap length h
+          ∙ length-append gs (f ∷ []);
+    }
 
 pub nothing_left : (fs : List Frame) → IsSome {T = Frame} None ↔ (0 < length fs) → fs ≡ []
 nothing_left [] h = refl

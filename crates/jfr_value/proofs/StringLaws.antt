@@ -56,29 +56,36 @@ module _ (r : List ℕ) (s : Content) where
       bound : kind ≤ 5
       bound = kind_bound kind q
 
-      at5 : (kind == 0) ≡ false → (kind == 1) ≡ false → (kind == 2) ≡ false → (kind == 3) ≡ false → (kind == 4) ≡ false → Exactly (Int unchecked (λ n spelled. Run n (λ bytes. Done (Latin bytes)))) r s → IsBody s kind r
+      at5 : (kind == 0) ≡ false → (kind == 1) ≡ false → (kind == 2) ≡ false → (kind == 3) ≡ false → (kind == 4) ≡ false → Exactly (Int unchecked (λ n spelled. Run n (λ bytes. Done (Latin bytes)))) r s
+          → IsBody s kind r
       at5 n0 n1 n2 n3 n4 e = subst (λ z. IsBody z kind r) (sym e.6.4.0) (kind_five kind bound n0 n1 n2 n3 n4, counted_run r e.0 e.1 e.2 e.6.0 e.6.1 e.3 e.4 e.6.2 e.6.3 e.6.4.1)
 
-      at4 : (t : Bool) → (kind == 4) ≡ t → (kind == 0) ≡ false → (kind == 1) ≡ false → (kind == 2) ≡ false → (kind == 3) ≡ false → Exactly (if t then Int unchecked (λ n spelled. times n integer >>= λ us. Done (Units us)) else Int unchecked (λ n spelled. Run n (λ bytes. Done (Latin bytes)))) r s → IsBody s kind r
+      at4 : (t : Bool) → (kind == 4) ≡ t → (kind == 0) ≡ false → (kind == 1) ≡ false → (kind == 2) ≡ false → (kind == 3) ≡ false
+          → Exactly (if t then Int unchecked (λ n spelled. times n integer >>= λ us. Done (Units us)) else Int unchecked (λ n spelled. Run n (λ bytes. Done (Latin bytes)))) r s → IsBody s kind r
       at4 true t n0 n1 n2 n3 e =
           let i = exact_bind (times e.2 integer) (λ us. Done (Units us)) e.1 s e.6 in
           let u = units_are e.2 i.front i.value i.first in
-          subst (λ z. IsBody z kind r) (sym i.second.0) (exact_unsigned_eq kind 4 t, (e.0, e.1, e.3, subst (Spells e.0) (sym u.1) e.4, subst (λ z. SpellAll z i.value) (sym (no_rest e.1 i.front i.rest i.split i.second.1)) u.0))
+          subst (λ z. IsBody z kind r) (sym i.second.0)
+          (exact_unsigned_eq kind 4 t, (e.0, e.1, e.3, subst (Spells e.0) (sym u.1) e.4, subst (λ z. SpellAll z i.value) (sym (no_rest e.1 i.front i.rest i.split i.second.1)) u.0))
       at4 false t n0 n1 n2 n3 e = at5 n0 n1 n2 n3 t e
 
-      at3 : (t : Bool) → (kind == 3) ≡ t → (kind == 0) ≡ false → (kind == 1) ≡ false → (kind == 2) ≡ false → Exactly (if t then Int unchecked (λ n spelled. Run n (λ bytes. Done (Utf8 bytes))) else if kind == 4 then Int unchecked (λ n spelled. times n integer >>= λ us. Done (Units us)) else Int unchecked (λ n spelled. Run n (λ bytes. Done (Latin bytes)))) r s → IsBody s kind r
+      at3 : (t : Bool) → (kind == 3) ≡ t → (kind == 0) ≡ false → (kind == 1) ≡ false → (kind == 2) ≡ false
+          → Exactly (if t then Int unchecked (λ n spelled. Run n (λ bytes. Done (Utf8 bytes))) else if kind == 4 then Int unchecked (λ n spelled. times n integer >>= λ us. Done (Units us)) else Int unchecked (λ n spelled. Run n (λ bytes. Done (Latin bytes)))) r s → IsBody s kind r
       at3 true t n0 n1 n2 e = subst (λ z. IsBody z kind r) (sym e.6.4.0) (exact_unsigned_eq kind 3 t, counted_run r e.0 e.1 e.2 e.6.0 e.6.1 e.3 e.4 e.6.2 e.6.3 e.6.4.1)
       at3 false t n0 n1 n2 e = at4 (kind == 4) refl n0 n1 n2 t e
 
-      at2 : (t : Bool) → (kind == 2) ≡ t → (kind == 0) ≡ false → (kind == 1) ≡ false → Exactly (if t then Int unchecked (λ key spelled. Done (Key key)) else if kind == 3 then Int unchecked (λ n spelled. Run n (λ bytes. Done (Utf8 bytes))) else if kind == 4 then Int unchecked (λ n spelled. times n integer >>= λ us. Done (Units us)) else Int unchecked (λ n spelled. Run n (λ bytes. Done (Latin bytes)))) r s → IsBody s kind r
+      at2 : (t : Bool) → (kind == 2) ≡ t → (kind == 0) ≡ false → (kind == 1) ≡ false
+          → Exactly (if t then Int unchecked (λ key spelled. Done (Key key)) else if kind == 3 then Int unchecked (λ n spelled. Run n (λ bytes. Done (Utf8 bytes))) else if kind == 4 then Int unchecked (λ n spelled. times n integer >>= λ us. Done (Units us)) else Int unchecked (λ n spelled. Run n (λ bytes. Done (Latin bytes)))) r s → IsBody s kind r
       at2 true t n0 n1 e = subst (λ z. IsBody z kind r) (sym e.6.0) (exact_unsigned_eq kind 2 t, spelled_alone r e.0 e.1 e.2 e.3 e.6.1 e.4)
       at2 false t n0 n1 e = at3 (kind == 3) refl n0 n1 t e
 
-      at1 : (t : Bool) → (kind == 1) ≡ t → (kind == 0) ≡ false → Exactly (if t then Done Empty else if kind == 2 then Int unchecked (λ key spelled. Done (Key key)) else if kind == 3 then Int unchecked (λ n spelled. Run n (λ bytes. Done (Utf8 bytes))) else if kind == 4 then Int unchecked (λ n spelled. times n integer >>= λ us. Done (Units us)) else Int unchecked (λ n spelled. Run n (λ bytes. Done (Latin bytes)))) r s → IsBody s kind r
+      at1 : (t : Bool) → (kind == 1) ≡ t → (kind == 0) ≡ false
+          → Exactly (if t then Done Empty else if kind == 2 then Int unchecked (λ key spelled. Done (Key key)) else if kind == 3 then Int unchecked (λ n spelled. Run n (λ bytes. Done (Utf8 bytes))) else if kind == 4 then Int unchecked (λ n spelled. times n integer >>= λ us. Done (Units us)) else Int unchecked (λ n spelled. Run n (λ bytes. Done (Latin bytes)))) r s → IsBody s kind r
       at1 true t n0 e = subst (λ z. IsBody z kind r) (sym e.0) (exact_unsigned_eq kind 1 t, e.1)
       at1 false t n0 e = at2 (kind == 2) refl n0 t e
 
-      at0 : (t : Bool) → (kind == 0) ≡ t → Exactly (if t then Done Null else if kind == 1 then Done Empty else if kind == 2 then Int unchecked (λ key spelled. Done (Key key)) else if kind == 3 then Int unchecked (λ n spelled. Run n (λ bytes. Done (Utf8 bytes))) else if kind == 4 then Int unchecked (λ n spelled. times n integer >>= λ us. Done (Units us)) else Int unchecked (λ n spelled. Run n (λ bytes. Done (Latin bytes)))) r s → IsBody s kind r
+      at0 : (t : Bool) → (kind == 0) ≡ t
+          → Exactly (if t then Done Null else if kind == 1 then Done Empty else if kind == 2 then Int unchecked (λ key spelled. Done (Key key)) else if kind == 3 then Int unchecked (λ n spelled. Run n (λ bytes. Done (Utf8 bytes))) else if kind == 4 then Int unchecked (λ n spelled. times n integer >>= λ us. Done (Units us)) else Int unchecked (λ n spelled. Run n (λ bytes. Done (Latin bytes)))) r s → IsBody s kind r
       at0 true t e = subst (λ z. IsBody z kind r) (sym e.0) (exact_unsigned_eq kind 0 t, e.1)
       at0 false t e = at1 (kind == 1) refl t e
 
@@ -96,8 +103,19 @@ body_exact (Utf8 bytes) kind r i =
     subst (λ z. (z ≤ 5) × Exactly (after_kind z) r (Utf8 bytes)) (sym i.0) (omega arith, (c.0, c.1, length bytes, c.2, c.3, refl, (bytes, [], c.4 ∙ sym (append-nil bytes), refl, (refl, refl))))
 body_exact (Units units) kind r i =
     let c = i.1 in
-    subst (λ z. (z ≤ 5) × Exactly (after_kind z) r (Units units)) (sym i.0)
-    (omega arith, (c.0, c.1, length units, c.2, c.3, refl, bind_exact (times (length units) integer) (λ us. Done (Units us)) c.1 [] c.1 units (Units units) (sym (append-nil c.1)) (are_units c.1 units c.4) (refl, refl)))
+    subst (λ z. (z ≤ 5) × Exactly (after_kind z) r (Units units)) (sym i.0) (
+      omega arith,
+      (
+        c.0,
+        c.1,
+        length units,
+        c.2,
+        c.3,
+        refl,
+        bind_exact (times (length units) integer) (λ us. Done (Units us)) c.1 [] c.1 units (Units units) (sym (append-nil c.1))
+            (are_units c.1 units c.4) (refl, refl),
+      ),
+    )
 body_exact (Latin bytes) kind r i =
     let c = i.1 in
     subst (λ z. (z ≤ 5) × Exactly (after_kind z) r (Latin bytes)) (sym i.0) (omega arith, (c.0, c.1, length bytes, c.2, c.3, refl, (bytes, [], c.4 ∙ sym (append-nil bytes), refl, (refl, refl))))
@@ -110,4 +128,6 @@ is_exact (kind ∷ r) s i = let e = body_exact s kind r i in (kind, r, refl, kin
 pub string_free : (keyed : Bool) → PlaceFree (string_format keyed)
 unfolding string_format
 string_free keyed = λ kind.
-    if_free (kind == 0) _ _ tt (if_free (kind == 1) _ _ tt (if_free (kind == 2) _ _ (λ v s. tt) (if_free (kind == 3) _ _ (λ v s b. tt) (if_free (kind == 4) _ _ (λ n s. bind_free (times n integer) (λ us. Done (Units us)) (times_free n integer (λ v s. tt)) (λ us. tt)) (λ v s b. tt)))))
+    if_free (kind == 0) _ _ tt (if_free (kind == 1) _ _ tt
+    (if_free (kind == 2) _ _ (λ v s. tt) (if_free (kind == 3) _ _ (λ v s b. tt)
+    (if_free (kind == 4) _ _ (λ n s. bind_free (times n integer) (λ us. Done (Units us)) (times_free n integer (λ v s. tt)) (λ us. tt)) (λ v s b. tt)))))

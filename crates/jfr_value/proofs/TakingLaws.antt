@@ -53,21 +53,26 @@ if_with b (Done a) h P Q x end at q p = q a b p
 if_with b (Stop next) h P Q x end at q p = by_test (nat_lt at end) (if_with b next h P Q x end at q) p
   where
     by_test : (t : Bool) → (IfOk (run next x end at) (λ got. P got.value) → IfOk (run (with_bytes b next (λ a s. Done (h a s))) x end at) (λ got. Q got.value))
-        → IfOk (if t then refused at Trailing else run next x end at) (λ got. P got.value) → IfOk (if t then refused at Trailing else run (with_bytes b next (λ a s. Done (h a s))) x end at) (λ got. Q got.value)
+        → IfOk (if t then refused at Trailing else run next x end at) (λ got. P got.value)
+        → IfOk (if t then refused at Trailing else run (with_bytes b next (λ a s. Done (h a s))) x end at) (λ got. Q got.value)
     by_test true i p = tt
     by_test false i p = i p
 if_with b (Int check next) h P Q x end at q p = by_int (int_at x at end) (λ v s to. if_with (b ++ s) (next v s) h P Q x end to q) p
   where
-    by_int : (o : Option Var) → ((v : ℕ) (s : List ℕ) (to : ℕ) → IfOk (run (next v s) x end to) (λ got. P got.value) → IfOk (run (with_bytes (b ++ s) (next v s) (λ a s. Done (h a s))) x end to) (λ got. Q got.value))
-        → IfOk (after_int x at check (λ v s p. run (next v s) x end p) o) (λ got. P got.value) → IfOk (after_int x at check (λ v s p. run (with_bytes (b ++ s) (next v s) (λ a s. Done (h a s))) x end p) o) (λ got. Q got.value)
+    by_int : (o : Option Var)
+        → ((v : ℕ) (s : List ℕ) (to : ℕ) → IfOk (run (next v s) x end to) (λ got. P got.value) → IfOk (run (with_bytes (b ++ s) (next v s) (λ a s. Done (h a s))) x end to) (λ got. Q got.value))
+        → IfOk (after_int x at check (λ v s p. run (next v s) x end p) o) (λ got. P got.value)
+        → IfOk (after_int x at check (λ v s p. run (with_bytes (b ++ s) (next v s) (λ a s. Done (h a s))) x end p) o) (λ got. Q got.value)
     by_int None i p = tt
-    by_int (Some v) i p = checked_made P Q at (check v.value) (run (next v.value (slice_range x at v.end)) x end v.end) (run (with_bytes (b ++ slice_range x at v.end) (next v.value (slice_range x at v.end)) (λ a s. Done (h a s))) x end v.end) (i v.value (slice_range x at v.end) v.end) p
+    by_int (Some v) i p = checked_made P Q at (check v.value) (run (next v.value (slice_range x at v.end)) x end v.end)
+        (run (with_bytes (b ++ slice_range x at v.end) (next v.value (slice_range x at v.end)) (λ a s. Done (h a s))) x end v.end) (i v.value (slice_range x at v.end) v.end) p
 if_with b (Byte check next) h P Q x end at q p = by_test (nat_lt at end) (if_with (b ++ (slice_index x at ∷ [])) (next (slice_index x at)) h P Q x end (at + 1) q) p
   where
     by_test : (t : Bool) → (IfOk (run (next (slice_index x at)) x end (at + 1)) (λ got. P got.value) → IfOk (run (with_bytes (b ++ (slice_index x at ∷ [])) (next (slice_index x at)) (λ a s. Done (h a s))) x end (at + 1)) (λ got. Q got.value))
         → IfOk (if t then checked at (check (slice_index x at)) (run (next (slice_index x at)) x end (at + 1)) else refused at Short) (λ got. P got.value)
         → IfOk (if t then checked at (check (slice_index x at)) (run (with_bytes (b ++ (slice_index x at ∷ [])) (next (slice_index x at)) (λ a s. Done (h a s))) x end (at + 1)) else refused at Short) (λ got. Q got.value)
-    by_test true i p = checked_made P Q at (check (slice_index x at)) (run (next (slice_index x at)) x end (at + 1)) (run (with_bytes (b ++ (slice_index x at ∷ [])) (next (slice_index x at)) (λ a s. Done (h a s))) x end (at + 1)) i p
+    by_test true i p = checked_made P Q at (check (slice_index x at)) (run (next (slice_index x at)) x end (at + 1))
+        (run (with_bytes (b ++ (slice_index x at ∷ [])) (next (slice_index x at)) (λ a s. Done (h a s))) x end (at + 1)) i p
     by_test false i p = tt
 if_with b (Run n next) h P Q x end at q p = by_test (nat_le (at + n) end) (if_with (b ++ slice_range x at (at + n)) (next (slice_range x at (at + n))) h P Q x end (at + n) q) p
   where
@@ -134,17 +139,20 @@ module _ {A : Type 0} (takes : ℕ × ℕ → A → A → Type 0) (x : List ℕ)
   base_taken depth k s old new z i n h =
       let c = layout_class k s i in
       subst (λ (f : Format Value). TakesRead takes (run f x end at) old new) (sym (class_of_base depth k (item_of s.shape) c.class s.kind z c.found c.kind n))
-      (if_with [] (base_format s.kind) (λ key b. Single (item_of s.shape) (leaf_kinds.Base s.kind) b key) (λ key. TakesAll takes (keyed s.shape.class key) old new) (λ v. TakesAll takes (targets_of v) old new) x end at
+      (if_with [] (base_format s.kind) (λ key b. Single (item_of s.shape) (leaf_kinds.Base s.kind) b key) (λ key. TakesAll takes (keyed s.shape.class key) old new)
+      (λ v. TakesAll takes (targets_of v) old new) x end at
       (λ key b p. subst (λ ts. TakesAll takes ts old new) (sym (single_refers (item_of s.shape) s.kind b key)) p) h)
 
   pub string_taken : (depth : ℕ) (k : Classes) (s : FieldLayout) (old new : A) → 0 < depth → IsFieldLayout k s → s.kind ≡ kinds.Text
-      → IfOk (run (string_format true) x end at) (λ got. TakesAll takes (keyed s.shape.class (key_of got.value)) old new) → TakesRead takes (run (class_format depth k (item_of s.shape)) x end at) old new
+      → IfOk (run (string_format true) x end at) (λ got. TakesAll takes (keyed s.shape.class (key_of got.value)) old new)
+      → TakesRead takes (run (class_format depth k (item_of s.shape)) x end at) old new
   string_taken depth k s old new z i e h =
       base_taken depth k s old new z i (λ c. (let y : kinds.Text ≡ kinds.Composite = sym e ∙ c in cc))
       (subst (λ kind. IfOk (run (base_format kind) x end at) (λ got. TakesAll takes (keyed s.shape.class got.value) old new)) (sym e) (text_taken s.shape.class old new h))
 
   -- One that is no string refers to nothing.
-  pub plain_taken : (depth : ℕ) (k : Classes) (s : FieldLayout) (old : A) → 0 < depth → IsFieldLayout k s → s.kind ≢ kinds.Composite → s.kind ≢ kinds.Text → TakesRead takes (run (class_format depth k (item_of s.shape)) x end at) old old
+  pub plain_taken : (depth : ℕ) (k : Classes) (s : FieldLayout) (old : A) → 0 < depth → IsFieldLayout k s → s.kind ≢ kinds.Composite → s.kind ≢ kinds.Text
+      → TakesRead takes (run (class_format depth k (item_of s.shape)) x end at) old old
   plain_taken depth k s old z i n m = base_taken depth k s old old z i n (by_answer (run (base_format s.kind) x end at) (plain_read s.kind x end at m))
     where
       by_answer : (r : Answer (Option ℕ)) → IfOk r (λ got. got.value ≡ None) → IfOk r (λ got. TakesAll takes (keyed s.shape.class got.value) old old)
@@ -152,17 +160,21 @@ module _ {A : Type 0} (takes : ℕ × ℕ → A → A → Type 0) (x : List ℕ)
       by_answer (Err e) h = tt
 
   -- A composite value by its fields.
-  pub fields_taken : (depth : ℕ) (k : Classes) (s : FieldLayout) (ss : List FieldLayout) (old new : A) → 0 < depth → IsFieldLayout k s → s.kind ≡ kinds.Composite → IfSome (slice_get k s.class_index) (λ c. AreFieldLayouts k c.fields ss)
-      → TakesReadAll takes (run (for_each ss (λ z. shape_format (class_format (depth - 1) k) z.shape)) x end at) old new → TakesRead takes (run (class_format depth k (item_of s.shape)) x end at) old new
+  pub fields_taken : (depth : ℕ) (k : Classes) (s : FieldLayout) (ss : List FieldLayout) (old new : A) → 0 < depth → IsFieldLayout k s → s.kind ≡ kinds.Composite
+      → IfSome (slice_get k s.class_index) (λ c. AreFieldLayouts k c.fields ss)
+      → TakesReadAll takes (run (for_each ss (λ z. shape_format (class_format (depth - 1) k) z.shape)) x end at) old new
+      → TakesRead takes (run (class_format depth k (item_of s.shape)) x end at) old new
   fields_taken depth k s ss old new z i q a h =
       let c = layout_class k s i in
       let b = fields_by k (class_format (depth - 1) k) c.class.fields ss (subst (λ o. IfSome o (λ c. AreFieldLayouts k c.fields ss)) c.there a) in
       subst (λ (f : Format Value). TakesRead takes (run f x end at) old new) (sym (class_of_fields depth k (item_of s.shape) c.class z c.found (sym c.kind ∙ q)))
       (subst (λ (f : Format (List Value)). TakesRead takes (run (f >>= λ vs. Done (Group (item_of s.shape) [] (values_of vs))) x end at) old new) (sym b)
-      (if_made (for_each ss (λ z. shape_format (class_format (depth - 1) k) z.shape)) (λ vs. Group (item_of s.shape) [] (values_of vs)) (λ vs. TakesAll takes (targets_of_all (values_of vs)) old new) (λ v. TakesAll takes (targets_of v) old new) x end at (λ vs p. p) h))
+      (if_made (for_each ss (λ z. shape_format (class_format (depth - 1) k) z.shape)) (λ vs. Group (item_of s.shape) [] (values_of vs)) (λ vs. TakesAll takes (targets_of_all (values_of vs)) old new)
+      (λ v. TakesAll takes (targets_of v) old new) x end at (λ vs p. p) h))
 
   -- One that is no array as an item.
-  pub item_taken : (inline : Shape → Format Value) (s : Shape) (old new : A) → s.array ≡ false → TakesRead takes (run (item_format inline (item_of s)) x end at) old new → TakesRead takes (run (shape_format inline s) x end at) old new
+  pub item_taken : (inline : Shape → Format Value) (s : Shape) (old new : A) → s.array ≡ false → TakesRead takes (run (item_format inline (item_of s)) x end at) old new
+      → TakesRead takes (run (shape_format inline s) x end at) old new
   item_taken inline s old new a h =
       let flat : Bool → Shape = λ b. record { class = s.class; constant = s.constant; array = b } in
       subst (λ b. TakesRead takes (run (if b then array_format (item_format inline (item_of s)) s else item_format inline (flat s.array)) x end at) old new) (sym a)
@@ -175,10 +187,12 @@ module _ {A : Type 0} (takes : ℕ × ℕ → A → A → Type 0) (x : List ℕ)
   items_taken inline s v old new a e h =
       subst (λ b. TakesRead takes (run (if b then array_format (item_format inline (item_of s)) s else item_format inline s) x end at) old new) (sym a)
       (subst (λ o. TakesRead takes (after_int x at unchecked (λ n b p. run (times n (item_format inline (item_of s)) >>= λ vs. Done (Group s b (values_of vs))) x end p) o) old new) (sym e)
-      (if_made (times v.value (item_format inline (item_of s))) (λ vs. Group s (slice_range x at v.end) (values_of vs)) (λ vs. TakesAll takes (targets_of_all (values_of vs)) old new) (λ v. TakesAll takes (targets_of v) old new) x end v.end (λ vs p. p) h))
+      (if_made (times v.value (item_format inline (item_of s))) (λ vs. Group s (slice_range x at v.end) (values_of vs)) (λ vs. TakesAll takes (targets_of_all (values_of vs)) old new)
+      (λ v. TakesAll takes (targets_of v) old new) x end v.end (λ vs p. p) h))
 
   -- A value and those after it.
-  pub cons_taken : (f : Format Value) (g : Format (List Value)) (to : ℕ) (old now new : A) → end_or_flaw (run f x end at) ≡ Ok to → TakesRead takes (run f x end at) old now → TakesReadAll takes (run g x end to) now new
+  pub cons_taken : (f : Format Value) (g : Format (List Value)) (to : ℕ) (old now new : A) → end_or_flaw (run f x end at) ≡ Ok to → TakesRead takes (run f x end at) old now
+      → TakesReadAll takes (run g x end to) now new
       → TakesReadAll takes (run (f >>= λ v. g >>= λ vs. Done (v ∷ vs)) x end at) old new
   cons_taken f g to old now new e h t =
       subst (λ (r : Answer (List Value)). TakesReadAll takes r old new) (sym (run-bind f (λ v. g >>= λ vs. Done (v ∷ vs)) x end at)) (by_answer (run f x end at) e h)
@@ -195,11 +209,13 @@ pub record TakesRemaining {A : Type 0} (takes : ℕ × ℕ → A → A → Type 
   pub then_all : (new : A) → TakesReadAll takes remaining now new → TakesReadAll takes all old new
 
 module _ {A : Type 0} (takes : ℕ × ℕ → A → A → Type 0) (all : Answer (List Value)) (x : List ℕ) (end : ℕ) (old : A) where
-  left_goes : (f : Format Value) (g : Format (List Value)) (at to : ℕ) (now new : A) → TakesRemaining takes all (run (f >>= λ v. g >>= λ vs. Done (v ∷ vs)) x end at) old now → end_or_flaw (run f x end at) ≡ Ok to → TakesRead takes (run f x end at) now new
+  left_goes : (f : Format Value) (g : Format (List Value)) (at to : ℕ) (now new : A) → TakesRemaining takes all (run (f >>= λ v. g >>= λ vs. Done (v ∷ vs)) x end at) old now
+      → end_or_flaw (run f x end at) ≡ Ok to → TakesRead takes (run f x end at) now new
       → TakesRemaining takes all (run g x end to) old new
   left_goes f g at to now new l e h = record { then_all = λ last t. l.then_all last (cons_taken takes x end at f g to now new last e h t) }
 
-  pub items_go : (n i : ℕ) (f : Format Value) (at to : ℕ) (now new : A) → i < n → TakesRemaining takes all (run (times (n - i) f) x end at) old now → end_or_flaw (run f x end at) ≡ Ok to → TakesRead takes (run f x end at) now new
+  pub items_go : (n i : ℕ) (f : Format Value) (at to : ℕ) (now new : A) → i < n → TakesRemaining takes all (run (times (n - i) f) x end at) old now → end_or_flaw (run f x end at) ≡ Ok to
+      → TakesRead takes (run f x end at) now new
       → TakesRemaining takes all (run (times (n - (i + 1)) f) x end to) old new
   items_go n i f at to now new h l e t =
       let d : n - i ≡ suc (n - (i + 1)) = omega arith in
@@ -209,7 +225,8 @@ module _ {A : Type 0} (takes : ℕ × ℕ → A → A → Type 0) (all : Answer 
   unfolding run
   items_end n i f at now h l = let d : n - i ≡ 0 = omega arith in l.then_all now (subst (λ m. TakesReadAll takes (run (times m f) x end at) now now) (sym d) refl)
 
-  pub each_goes : {X : Type 0} (f : X → Format Value) (xs : List X) (i : ℕ) (y : X) (at to : ℕ) (now new : A) → slice_get xs i ≡ Some y → TakesRemaining takes all (run (for_each (drop i xs) f) x end at) old now
+  pub each_goes : {X : Type 0} (f : X → Format Value) (xs : List X) (i : ℕ) (y : X) (at to : ℕ) (now new : A) → slice_get xs i ≡ Some y
+      → TakesRemaining takes all (run (for_each (drop i xs) f) x end at) old now
       → end_or_flaw (run (f y) x end at) ≡ Ok to → TakesRead takes (run (f y) x end at) now new → TakesRemaining takes all (run (for_each (drop (i + 1) xs) f) x end to) old new
   each_goes f [] i y at to now new q l e h = cc
   each_goes f (z ∷ xs) zero y at to now new q l e h =
@@ -219,7 +236,8 @@ module _ {A : Type 0} (takes : ℕ × ℕ → A → A → Type 0) (all : Answer 
 
 -- An array of items without bytes refers to nothing.
 module _ {A : Type 0} (takes : ℕ × ℕ → A → A → Type 0) (k : Classes) (x : List ℕ) (end at : ℕ) (a : A) where
-  hollow_items_taken : (s : Shape) (c : Class) → find_class k s.class ≡ Some c → kind_of c.name ≡ kinds.Composite → c.fields ≡ [] → s.constant ≡ false → (n to : ℕ) → TakesReadAll takes (run (times n (item_format (class_format 34 k) (item_of s))) x end to) a a
+  hollow_items_taken : (s : Shape) (c : Class) → find_class k s.class ≡ Some c → kind_of c.name ≡ kinds.Composite → c.fields ≡ [] → s.constant ≡ false → (n to : ℕ)
+      → TakesReadAll takes (run (times n (item_format (class_format 34 k) (item_of s))) x end to) a a
   unfolding run
   hollow_items_taken s c q e z o zero to = refl
   hollow_items_taken s c q e z o (suc n) to =
@@ -227,20 +245,24 @@ module _ {A : Type 0} (takes : ℕ × ℕ → A → A → Type 0) (k : Classes) 
       cons_taken takes x end to (item_format (class_format 34 k) (item_of s)) (times n (item_format (class_format 34 k) (item_of s))) to a a a (ap end_or_flaw i)
       (subst (λ (r : Answer Value). TakesRead takes r a a) (sym i) refl) (hollow_items_taken s c q e z o n to)
 
-  pub hollow_taken : (s : FieldLayout) (b : Bool) → IsFieldLayout k s → IfSome (slice_get k s.class_index) (λ c. IsTrue b ↔ IsHollowArray s.shape c) → b ≡ true → TakesRead takes (run (value_format k s.shape) x end at) a a
+  pub hollow_taken : (s : FieldLayout) (b : Bool) → IsFieldLayout k s → IfSome (slice_get k s.class_index) (λ c. IsTrue b ↔ IsHollowArray s.shape c) → b ≡ true
+      → TakesRead takes (run (value_format k s.shape) x end at) a a
   unfolding value_format
   hollow_taken s b i h t = by_int (int_at x at end) refl
     where
       by_int : (o : Option Var) → int_at x at end ≡ o → TakesRead takes (run (shape_format (class_format 34 k) s.shape) x end at) a a
       by_int None e = let c = layout_class k s i in let w = hollow_is k s.shape s.class_index b c.class c.there h t in
-          no_value (run (shape_format (class_format 34 k) s.shape) x end at) (record { offset = at; reason = Short }) (λ got. TakesAll takes (targets_of got.value) a a) (sym (array_short k s.shape x end at w.0 e))
+          no_value (run (shape_format (class_format 34 k) s.shape) x end at) (record { offset = at; reason = Short }) (λ got. TakesAll takes (targets_of got.value) a a)
+          (sym (array_short k s.shape x end at w.0 e))
       by_int (Some v) e = let c = layout_class k s i in let w = hollow_is k s.shape s.class_index b c.class c.there h t in
           items_taken takes x end at (class_format 34 k) s.shape v a a w.0 e (hollow_items_taken s.shape c.class c.found w.2.0 w.2.1 w.1 v.value v.end)
 
 -- If a value was read, its targets are those of the node.
-pub node_taken : {A : Type 0} (takes : ℕ × ℕ → A → A → Type 0) (k : Classes) (s : Shape) (x : List ℕ) (end at : ℕ) (old new : A) → Sound k → at ≤ end → end ≤ length x → (r : Result ℕ Flaw) → r ≡ end_or_flaw (run (value_format k s) x end at)
+pub node_taken : {A : Type 0} (takes : ℕ × ℕ → A → A → Type 0) (k : Classes) (s : Shape) (x : List ℕ) (end at : ℕ) (old new : A) → Sound k → at ≤ end → end ≤ length x → (r : Result ℕ Flaw)
+    → r ≡ end_or_flaw (run (value_format k s) x end at)
     → TakesRead takes (run (value_format k s) x end at) old new → IfOk r (λ to. TakesAll takes (targets k x (node_at s at to)) old new)
-node_taken takes k s x end at old new sound o h r e t = subst (λ z. IfOk z (λ to. TakesAll takes (targets k x (node_at s at to)) old new)) (sym e) (by_answer (run (value_format k s) x end at) (run_reads_or_fails (value_format k s) x end at o h) t)
+node_taken takes k s x end at old new sound o h r e t =
+    subst (λ z. IfOk z (λ to. TakesAll takes (targets k x (node_at s at to)) old new)) (sym e) (by_answer (run (value_format k s) x end at) (run_reads_or_fails (value_format k s) x end at o h) t)
   where
     by_answer : (a : Answer Value) → ReadsOrFails (value_format k s) x end at a → TakesRead takes a old new → IfOk (end_or_flaw a) (λ to. TakesAll takes (targets k x (node_at s at to)) old new)
     by_answer (Ok g) q t =

@@ -96,13 +96,15 @@ mutual
   in_within_all Nil t i = absurd (none_contained t i)
   in_within_all (Cons v vs) t i = later vs (Contains-append_cases (targets_of v) (targets_of_all vs) t i) (λ j. in_within v t j) (λ j. in_within_all vs t j)
     where
-      later : (vs : Values) → Contains (targets_of v) t ⊎ Contains (targets_of_all vs) t → (Contains (targets_of v) t → RefersWithin v t) → (Contains (targets_of_all vs) t → (i : ℕ) × (w : Value) × (slice_get (list_of vs) i ≡ Some w) × RefersWithin w t)
+      later : (vs : Values) → Contains (targets_of v) t ⊎ Contains (targets_of_all vs) t → (Contains (targets_of v) t → RefersWithin v t)
+          → (Contains (targets_of_all vs) t → (i : ℕ) × (w : Value) × (slice_get (list_of vs) i ≡ Some w) × RefersWithin w t)
           → (i : ℕ) × (w : Value) × (slice_get (v ∷ list_of vs) i ≡ Some w) × RefersWithin w t
       later vs (inl j) f g = (0, v, refl, f j)
       later vs (inr j) f g = let r = g j in (suc r.0, r.1, r.2, r.3)
 
 -- Two options that are there together, taken one step further.
-pub both_then : {A B C D : Type 0} (R : A → B → Type 0) (S : C → D → Type 0) (f : A → Option C) (g : B → Option D) (x : Option A) (y : Option B) → Both R x y → ((a : A) (b : B) → R a b → Both S (f a) (g b)) → Both S (option_and_then f x) (option_and_then g y)
+pub both_then : {A B C D : Type 0} (R : A → B → Type 0) (S : C → D → Type 0) (f : A → Option C) (g : B → Option D) (x : Option A) (y : Option B) → Both R x y
+    → ((a : A) (b : B) → R a b → Both S (f a) (g b)) → Both S (option_and_then f x) (option_and_then g y)
 both_then R S f g None None r h = tt
 both_then R S f g (Some a) (Some b) r h = h a b r
 both_then R S f g None (Some b) r h = absurd r
@@ -110,7 +112,8 @@ both_then R S f g (Some a) None r h = absurd r
 
 pub inside_is : (k : Classes) (c : List ℕ) (path : List Step) (n : NodeAt) (v : Value) → Sound k → IsNode k c n v → Both (IsNode k c) (inside k c n path) (within v path)
 inside_is k c [] n v s i = i
-inside_is k c (step ∷ path) n v s i = both_then (IsNode k c) (IsNode k c) (λ m. inside k c m path) (λ w. within w path) (child k c n step) (part v step) (child_is k c n v s i step) (λ m w j. inside_is k c path m w s j)
+inside_is k c (step ∷ path) n v s i = both_then (IsNode k c) (IsNode k c) (λ m. inside k c m path) (λ w. within w path) (child k c n step) (part v step) (child_is k c n v s i step)
+    (λ m w j. inside_is k c path m w s j)
 
 both_left : {A B : Type 0} (R : A → B → Type 0) (x : Option A) (y : Option B) (a : A) → Both R x y → x ≡ Some a → (b : B) × (y ≡ Some b) × R a b
 both_left R None y a r e = cc

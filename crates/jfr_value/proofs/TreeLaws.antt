@@ -22,7 +22,8 @@ More f g = (s : Shape) (b : List ℕ) (v : Value) → Exactly (f s) b v → Exac
 item_more : (f g : Shape → Format Value) → More f g → More (item_format f) (item_format g)
 item_more f g m s b v e = by_mark s.constant (m s b v) e
   where
-    by_mark : (t : Bool) → (Exactly (f s) b v → Exactly (g s) b v) → Exactly (if t then Int unchecked (λ key b. Done (Single s (leaf_kinds.Key key) b (Some key))) else f s) b v → Exactly (if t then Int unchecked (λ key b. Done (Single s (leaf_kinds.Key key) b (Some key))) else g s) b v
+    by_mark : (t : Bool) → (Exactly (f s) b v → Exactly (g s) b v) → Exactly (if t then Int unchecked (λ key b. Done (Single s (leaf_kinds.Key key) b (Some key))) else f s) b v
+        → Exactly (if t then Int unchecked (λ key b. Done (Single s (leaf_kinds.Key key) b (Some key))) else g s) b v
     by_mark true m e = e
     by_mark false m e = m e
 
@@ -34,11 +35,13 @@ array_more f g m s b v e =
 pub shape_more : (f g : Shape → Format Value) → More f g → More (shape_format f) (shape_format g)
 shape_more f g m s b v e = by_mark s.array e
   where
-    by_mark : (t : Bool) → Exactly (if t then array_format (item_format f (item_of s)) s else item_format f s) b v → Exactly (if t then array_format (item_format g (item_of s)) s else item_format g s) b v
+    by_mark : (t : Bool) → Exactly (if t then array_format (item_format f (item_of s)) s else item_format f s) b v
+        → Exactly (if t then array_format (item_format g (item_of s)) s else item_format g s) b v
     by_mark true e = array_more (item_format f (item_of s)) (item_format g (item_of s)) (item_more f g m (item_of s)) s b v e
     by_mark false e = item_more f g m s b v e
 
-kind_more : (x y : Format (List Value)) → ((b : List ℕ) (vs : List Value) → Exactly x b vs → Exactly y b vs) → (kd : Kind) (s : Shape) (b : List ℕ) (v : Value) → Exactly (kind_format kd s x) b v → Exactly (kind_format kd s y) b v
+kind_more : (x y : Format (List Value)) → ((b : List ℕ) (vs : List Value) → Exactly x b vs → Exactly y b vs) → (kd : Kind) (s : Shape) (b : List ℕ) (v : Value) → Exactly (kind_format kd s x) b v
+    → Exactly (kind_format kd s y) b v
 kind_more x y m kinds.Composite s b v e =
     let i = exact_bind x (λ vs. Done (Group s [] (values_of vs))) b v e in
     bind_exact y (λ vs. Done (Group s [] (values_of vs))) i.front i.rest b i.value v i.split (m i.front i.value i.first) i.second
@@ -54,7 +57,8 @@ module _ (k : Classes) where
       by_class None e m = absurd e
       by_class (Some c) e m =
           kind_more (fields_format (class_format n k) c.fields) (fields_format (class_format (suc n) k) c.fields)
-          (λ b vs. each_more (λ f. shape_format (class_format n k) f.shape) (λ f. shape_format (class_format (suc n) k) f.shape) (λ f. shape_more (class_format n k) (class_format (suc n) k) m f.shape) c.fields b vs)
+          (λ b vs. each_more (λ f. shape_format (class_format n k) f.shape) (λ f. shape_format (class_format (suc n) k) f.shape)
+          (λ f. shape_more (class_format n k) (class_format (suc n) k) m f.shape) c.fields b vs)
           (kind_of c.name) s b v e
 
 -- The value that is read has this shape and these bytes, and each part is a value by itself.
@@ -71,7 +75,8 @@ pub record ClassLayout (f : Shape → Format Value) (b : List ℕ) (vs : List Va
 abbrev pub Tells : (f : Shape → Format Value) → Type 0
 Tells f = (s : Shape) (b : List ℕ) (v : Value) → Exactly (f s) b v → (shape_of v ≡ s) × (bytes_of v ≡ b)
 
-row_more : (f : Shape → Format Value) (s : Shape) (h r b : List ℕ) (v : Value) (vs : List Value) → b ≡ h ++ r → Exactly (f s) h v → shape_of v ≡ s → bytes_of v ≡ h → ClassLayout f r vs → ClassLayout f b (v ∷ vs)
+row_more : (f : Shape → Format Value) (s : Shape) (h r b : List ℕ) (v : Value) (vs : List Value) → b ≡ h ++ r → Exactly (f s) h v → shape_of v ≡ s → bytes_of v ≡ h → ClassLayout f r vs
+    → ClassLayout f b (v ∷ vs)
 row_more f s h r b v vs e x t u i = record {
   bytes = ap (λ z. z ++ bytes_of_all (values_of vs)) u ∙ (ap (λ z. h ++ z) i.bytes ∙ sym e);
   each = (subst (λ z. Exactly (f z) (bytes_of v) v) (sym t) (subst (λ z. Exactly (f s) z v) (sym u) x), i.each);
@@ -86,7 +91,8 @@ each_row f t (g ∷ fs) b vs e =
     let r : i.rest ≡ j.front = j.split ∙ (ap (λ z. j.front ++ z) j.second.1 ∙ append-nil j.front) in
     subst (ClassLayout f b) (sym j.second.0) (row_more f g.shape i.front j.front b i.value j.value (i.split ∙ ap (λ z. i.front ++ z) r) i.first w.0 w.1 (each_row f t fs j.front j.value j.first))
 
-times_row : (f : Shape → Format Value) (x : Format Value) (s : Shape) → ((b : List ℕ) (v : Value) → Exactly x b v → (shape_of v ≡ s) × (bytes_of v ≡ b) × Exactly (f s) b v) → (n : ℕ) (b : List ℕ) (vs : List Value) → Exactly (times n x) b vs → ClassLayout f b vs
+times_row : (f : Shape → Format Value) (x : Format Value) (s : Shape) → ((b : List ℕ) (v : Value) → Exactly x b v → (shape_of v ≡ s) × (bytes_of v ≡ b) × Exactly (f s) b v)
+    → (n : ℕ) (b : List ℕ) (vs : List Value) → Exactly (times n x) b vs → ClassLayout f b vs
 times_row f x s t zero b vs e = subst (ClassLayout f b) (sym e.0) (record { bytes = sym e.1; each = tt })
 times_row f x s t (suc n) b vs e =
     let i = exact_bind x (λ a. times n x >>= λ rest. Done (a ∷ rest)) b vs e in
@@ -125,10 +131,12 @@ shape_whole f m s b v e = by_mark s.array e
     by_mark true e =
         let i = exact_bind (times e.2 (item_format f (item_of s))) (λ vs. Done (Group s e.0 (values_of vs))) e.1 v e.6 in
         let r : e.1 ≡ i.front = no_rest e.1 i.front i.rest i.split i.second.1 in
-        parts_whole (shape_format f) s e.0 i.front b i.value v i.second.0 (e.3 ∙ ap (λ z. e.0 ++ z) r) (times_row (shape_format f) (item_format f (item_of s)) (item_of s) item e.2 i.front i.value i.first)
+        parts_whole (shape_format f) s e.0 i.front b i.value v i.second.0 (e.3 ∙ ap (λ z. e.0 ++ z) r)
+        (times_row (shape_format f) (item_format f (item_of s)) (item_of s) item e.2 i.front i.value i.first)
     by_mark false e = item_whole f m s b v e
 
-single_kind : (f : Shape → Format Value) (kd : Kind) (s : Shape) (b : List ℕ) (v : Value) → Exactly (with_bytes [] (base_format kd) (λ key h. Done (Single s (leaf_kinds.Base kd) h key))) b v → Whole f s b v
+single_kind : (f : Shape → Format Value) (kd : Kind) (s : Shape) (b : List ℕ) (v : Value) → Exactly (with_bytes [] (base_format kd) (λ key h. Done (Single s (leaf_kinds.Base kd) h key))) b v
+    → Whole f s b v
 single_kind f kd s b v e =
     let i = exact_with (base_format kd) (λ key h. Done (Single s (leaf_kinds.Base kd) h key)) [] b v e in
     single_whole f s (leaf_kinds.Base kd) i.front b i.value v i.second.0 (no_rest b i.front i.rest i.split i.second.1)

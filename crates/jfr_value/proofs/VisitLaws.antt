@@ -38,7 +38,8 @@ takes_append takes [] ys a b c e h = subst (λ z. TakesAll takes ys z c) (sym e)
 takes_append takes (x ∷ xs) ys a b c g h = (g.0, g.1, takes_append takes xs ys g.0 b c g.2 h)
 
 -- What is taken for each member, if it has something, is taken for the list of what they have.
-pub takes_filtered : {A X Y : Type 0} (takes : Y → A → A → Type 0) (f : X → Option Y) (xs : List X) (old new : A) → TakesAll (λ x. TakesAll takes (option_to_list (f x))) xs old new → TakesAll takes (filter_map f xs) old new
+pub takes_filtered : {A X Y : Type 0} (takes : Y → A → A → Type 0) (f : X → Option Y) (xs : List X) (old new : A) → TakesAll (λ x. TakesAll takes (option_to_list (f x))) xs old new
+    → TakesAll takes (filter_map f xs) old new
 takes_filtered takes f [] old new h = h
 takes_filtered {Y = Y} takes f (x ∷ xs) old new h = by_one (f x) h.1 (takes_filtered takes f xs h.0 new h.2)
   where
@@ -65,15 +66,18 @@ module _ (k : Classes) (c : List ℕ) (at to end : ℕ) (s : Shape) (l : to ≤ 
     pub within : place < length k
     pub kind_is : kind ≡ kind_of class.name
 
-  pub inline_node : (v : Value) (place : ℕ) (kind : Kind) (form : Form) → IsNode k c (node_at s at to) v → s.array ≡ false → s.constant ≡ false → IsLayoutIfKnown k (record { shape = s; class_index = place; kind = kind; form = form }) → InlineNode place kind
+  pub inline_node : (v : Value) (place : ℕ) (kind : Kind) (form : Form) → IsNode k c (node_at s at to) v → s.array ≡ false → s.constant ≡ false
+      → IsLayoutIfKnown k (record { shape = s; class_index = place; kind = kind; form = form }) → InlineNode place kind
   inline_node v place kind form i a o p =
-      let known : IsSome (find_class k s.class) = subst (λ (z : Shape). IsSome (find_class k z.class)) (sym i.shape) (inline_known k v (ap (λ (z : Shape). z.array) (sym i.shape) ∙ a) (ap (λ (z : Shape). z.constant) (sym i.shape) ∙ o) i.fits) in
+      let known : IsSome (find_class k s.class) = subst (λ (z : Shape). IsSome (find_class k z.class)) (sym i.shape)
+      (inline_known k v (ap (λ (z : Shape). z.array) (sym i.shape) ∙ a) (ap (λ (z : Shape). z.constant) (sym i.shape) ∙ o) i.fits) in
       let q = p.of_class o known in
       let d = layout_class k (record { shape = s; class_index = place; kind = kind; form = form }) q in
       record { class = d.class; found = d.found; there = d.there; within = placed_within k s.class place q.class_index; kind_is = d.kind }
 
   -- A value of a base name: one leaf, that refers to its key.
-  base_node : (v : Value) (place : ℕ) (kind : Kind) → IsNode k c (node_at s at to) v → s.array ≡ false → s.constant ≡ false → InlineNode place kind → kind ≢ kinds.Composite → BaseForm k c at to s kind v
+  base_node : (v : Value) (place : ℕ) (kind : Kind) → IsNode k c (node_at s at to) v → s.array ≡ false → s.constant ≡ false → InlineNode place kind → kind ≢ kinds.Composite
+      → BaseForm k c at to s kind v
   base_node v place kind i a o d n = subst (λ z. BaseForm k c at to s z v) (sym d.kind_is) (base_form k c at to s v d.class i a o d.found (λ z. n (d.kind_is ∙ z)))
 
   base_leaves : (kind : Kind) (v : Value) → BaseForm k c at to s kind v → length (leaves_at None at v) ≡ 1
@@ -115,10 +119,12 @@ module _ (k : Classes) (c : List ℕ) (at to end : ℕ) (s : Shape) (l : to ≤ 
         targets = base_targets kind v (key_of i.0) n i.2;
       }
 
-  pub inline_text : (v : Value) (place : ℕ) (kind : Kind) (form : Form) → IsNode k c (node_at s at to) v → s.array ≡ false → s.constant ≡ false → IsLayoutIfKnown k (record { shape = s; class_index = place; kind = kind; form = form }) → kind ≡ kinds.Text → TextNode v
+  pub inline_text : (v : Value) (place : ℕ) (kind : Kind) (form : Form) → IsNode k c (node_at s at to) v → s.array ≡ false → s.constant ≡ false
+      → IsLayoutIfKnown k (record { shape = s; class_index = place; kind = kind; form = form }) → kind ≡ kinds.Text → TextNode v
   inline_text v place kind form i a o p x = text_node kind v (base_node v place kind i a o (inline_node v place kind form i a o p) (λ y. (let z : kinds.Text ≡ kinds.Composite = sym x ∙ y in cc))) x
 
-  pub inline_plain : (v : Value) (place : ℕ) (kind : Kind) (form : Form) → IsNode k c (node_at s at to) v → s.array ≡ false → s.constant ≡ false → IsLayoutIfKnown k (record { shape = s; class_index = place; kind = kind; form = form }) → kind ≢ kinds.Text → kind ≢ kinds.Composite → PlainNode kind v
+  pub inline_plain : (v : Value) (place : ℕ) (kind : Kind) (form : Form) → IsNode k c (node_at s at to) v → s.array ≡ false → s.constant ≡ false
+      → IsLayoutIfKnown k (record { shape = s; class_index = place; kind = kind; form = form }) → kind ≢ kinds.Text → kind ≢ kinds.Composite → PlainNode kind v
   inline_plain v place kind form i a o p x n = plain_node kind v (base_node v place kind i a o (inline_node v place kind form i a o p) n) x
 
   -- Parts that lie from an offset on, after `more` leaves.
@@ -128,7 +134,8 @@ module _ (k : Classes) (c : List ℕ) (at to end : ℕ) (s : Shape) (l : to ≤ 
     pub leaves : length (leaves_at None at v) ≡ more + length (leaves_from (λ n. None) from parts)
     pub targets : targets_of v ≡ targets_of_all parts
 
-  fields_of : (v : Value) (d : Class) → IsNode k c (node_at s at to) v → s.array ≡ false → s.constant ≡ false → find_class k s.class ≡ Some d → kind_of d.name ≡ kinds.Composite → PartsNode at 0 (map (λ f. f.shape) d.fields) v
+  fields_of : (v : Value) (d : Class) → IsNode k c (node_at s at to) v → s.array ≡ false → s.constant ≡ false → find_class k s.class ≡ Some d → kind_of d.name ≡ kinds.Composite
+      → PartsNode at 0 (map (λ f. f.shape) d.fields) v
   fields_of v d i a o q m =
       let f = fields_form k c at to s v d i a o q m in
       let x : length (leaves_at None at v) ≡ length (leaves_from (λ n. None) at f.parts) = ap (λ z. length (leaves_at None at z)) f.value ∙ no_count f.parts s.array a in
@@ -137,13 +144,15 @@ module _ (k : Classes) (c : List ℕ) (at to end : ℕ) (s : Shape) (l : to ≤ 
       no_count : (vs : Values) (x : Bool) → x ≡ false
           → length ((if x then record { kind = leaf_kinds.Count (worth_within 8 []); class = s.class; holder = None; at = at; spelled = [] } ∷ [] else []) ++ leaves_from (if x then (λ n. None) else (λ n. Some (record { class = s.class; field = n }))) (at + 0) vs) ≡ length (leaves_from (λ n. None) at vs)
       no_count vs true e = cc
-      no_count vs false e = let z : at + 0 ≡ at = omega arith in same_counts (λ n. Some (record { class = s.class; field = n })) (λ n. None) (at + 0) vs ∙ ap (λ y. length (leaves_from (λ n. None) y vs)) z
+      no_count vs false e = let z : at + 0 ≡ at =
+          omega arith in same_counts (λ n. Some (record { class = s.class; field = n })) (λ n. None) (at + 0) vs ∙ ap (λ y. length (leaves_from (λ n. None) y vs)) z
 
   shapes_there : (place : ℕ) (d : Class) → slice_get k place ≡ Some d → field_shapes k place ≡ map (λ f. f.shape) d.fields
   shapes_there place d e = ap (λ o. option_map_or (λ c. map (λ f. f.shape) c.fields) o []) e
 
   -- A composite value: its fields.
-  pub fields_node : (v : Value) (place : ℕ) (kind : Kind) → IsNode k c (node_at s at to) v → s.array ≡ false → s.constant ≡ false → InlineNode place kind → kind ≡ kinds.Composite → PartsNode at 0 (field_shapes k place) v
+  pub fields_node : (v : Value) (place : ℕ) (kind : Kind) → IsNode k c (node_at s at to) v → s.array ≡ false → s.constant ≡ false → InlineNode place kind → kind ≡ kinds.Composite
+      → PartsNode at 0 (field_shapes k place) v
   fields_node v place kind i a o d m = subst (λ z. PartsNode at 0 z v) (sym (shapes_there place d.class d.there)) (fields_of v d.class i a o d.found (sym d.kind_is ∙ m))
 
   rooms : (P : Shape → Type 0) (fs : List Field) → AllByRecursion (λ f. P f.shape) fs → AllByRecursion P (map (λ f. f.shape) fs)
@@ -151,9 +160,11 @@ module _ (k : Classes) (c : List ℕ) (at to end : ℕ) (s : Shape) (l : to ≤ 
   rooms P (f ∷ fs) a = (a.0, rooms P fs a.1)
 
   -- And the room for them.
-  pub depth_within : (place : ℕ) (kind : Kind) (levels : ℕ) → InlineNode place kind → kind ≡ kinds.Composite → s.constant ≡ false → DepthBound k levels s → AllByRecursion (DepthBound k (levels - 1)) (field_shapes k place)
+  pub depth_within : (place : ℕ) (kind : Kind) (levels : ℕ) → InlineNode place kind → kind ≡ kinds.Composite → s.constant ≡ false → DepthBound k levels s
+      → AllByRecursion (DepthBound k (levels - 1)) (field_shapes k place)
   depth_within place kind levels d m o r =
-      subst (AllByRecursion (DepthBound k (levels - 1))) (sym (shapes_there place d.class d.there)) (rooms (DepthBound k (levels - 1)) d.class.fields (inner_depth k levels s d.class r o d.found (sym d.kind_is ∙ m)).1)
+      subst (AllByRecursion (DepthBound k (levels - 1))) (sym (shapes_there place d.class d.there))
+      (rooms (DepthBound k (levels - 1)) d.class.fields (inner_depth k levels s d.class r o d.found (sym d.kind_is ∙ m)).1)
 
   -- An array: its count, and the items after it.
   record ArrayNode (v : Value) : Type 0 where
@@ -167,7 +178,13 @@ module _ (k : Classes) (c : List ℕ) (at to end : ℕ) (s : Shape) (l : to ≤ 
       record {
         count = f.count;
         found = f.found;
-        items = record { parts = f.parts; row = f.row; leaves = ap (λ z. length (leaves_at None at z)) f.value ∙ (counted f.head f.parts s.array a ∙ ap (λ y. 1 + length (leaves_from (λ n. None) y f.parts)) (sym f.ends)); targets = ap targets_of f.value };
+        items = record {
+          parts = f.parts;
+          row = f.row;
+          leaves = ap (λ z. length (leaves_at None at z)) f.value
+              ∙ (counted f.head f.parts s.array a ∙ ap (λ y. 1 + length (leaves_from (λ n. None) y f.parts)) (sym f.ends));
+          targets = ap targets_of f.value;
+        };
       }
     where
       counted : (h : List ℕ) (vs : Values) (x : Bool) → x ≡ true
@@ -207,7 +224,8 @@ module _ (k : Classes) (c : List ℕ) (at to : ℕ) where
       none Nil e = refl
       none (Cons v vs) e = cc
 
-  no_bytes : (n : ℕ) (s : Shape) (d : Class) (vs : Values) → AreValues k c at to (replicate n s) vs → s.array ≡ false → s.constant ≡ false → find_class k s.class ≡ Some d → IsHollow d → Nothing at to vs
+  no_bytes : (n : ℕ) (s : Shape) (d : Class) (vs : Values) → AreValues k c at to (replicate n s) vs → s.array ≡ false → s.constant ≡ false → find_class k s.class ≡ Some d → IsHollow d
+      → Nothing at to vs
   no_bytes n s d vs r a o q h = nothing (replicate n s) vs r (none n vs r.of_shapes r.fit)
     where
       none : (n : ℕ) (vs : Values) → shapes_of vs ≡ replicate n s → AllFit k vs → bytes_of_all vs ≡ []
@@ -227,7 +245,8 @@ module _ (k : Classes) (c : List ℕ) (at to : ℕ) where
       let p : shape_of v ≡ item_of s = (let x : shape_of v ∷ shapes_of vs ≡ item_of s ∷ replicate n (item_of s) = r.of_shapes in cc) in
       subst (λ (z : Shape). IsSome (find_class k z.class)) p (inline_known k v (ap (λ (z : Shape). z.array) p) (ap (λ (z : Shape). z.constant) p ∙ o) r.fit.0)
 
-  pub hollow_items : (n place : ℕ) (kind : Kind) (form : Form) (s : Shape) (vs : Values) → AreValues k c at to (replicate n (item_of s)) vs → n ≢ 0 → IsLayoutIfKnown k (record { shape = s; class_index = place; kind = kind; form = form }) → s.constant ≡ false → IfSome (slice_get k place) IsHollow → Nothing at to vs
+  pub hollow_items : (n place : ℕ) (kind : Kind) (form : Form) (s : Shape) (vs : Values) → AreValues k c at to (replicate n (item_of s)) vs → n ≢ 0
+      → IsLayoutIfKnown k (record { shape = s; class_index = place; kind = kind; form = form }) → s.constant ≡ false → IfSome (slice_get k place) IsHollow → Nothing at to vs
   hollow_items n place kind form s vs r m p o h =
       let q = (p.of_class o (items_known n s vs r m o)).class_index in
       let d = placed_some k s.class place q in
@@ -239,7 +258,8 @@ drop_map [] i f e = cc
 drop_map (g ∷ fs) zero f e = let h : g ≡ f = cc in ap (λ (z : Field). z.shape ∷ map (λ f. f.shape) fs) h
 drop_map (g ∷ fs) (suc i) f e = let h : suc i + 1 ≡ suc (i + 1) = omega arith in rw h (drop_map fs i f e)
 
-pub field_next : (k : Classes) (place number : ℕ) (f : Field) (s : Shape) → field_at k place number ≡ Some f → s ≡ f.shape → drop number (field_shapes k place) ≡ s ∷ drop (number + 1) (field_shapes k place)
+pub field_next : (k : Classes) (place number : ℕ) (f : Field) (s : Shape) → field_at k place number ≡ Some f → s ≡ f.shape
+    → drop number (field_shapes k place) ≡ s ∷ drop (number + 1) (field_shapes k place)
 field_next k place number f s e q =
     let t = field_there k place number f e in
     let h : field_shapes k place ≡ map (λ f. f.shape) t.0.fields = ap (λ o. option_map_or (λ c. map (λ f. f.shape) c.fields) o []) t.1 in

@@ -79,7 +79,8 @@ same_holders g zero s (Cons v vs) e = cc
 same_holders g (suc n) s Nil e = cc
 same_holders g (suc n) s (Cons v vs) e = (refl, same_holders g n s vs (let x : shape_of v ∷ shapes_of vs ≡ s ∷ replicate n s = e in cc))
 
-fields_hold : (class number : ℕ) (f : ℕ → Option Holder) (ss : List Shape) (vs : Values) → ((i : ℕ) → f i ≡ Some (record { class = class; field = number + i })) → shapes_of vs ≡ ss → AreHolders f (fields_from class number ss) vs
+fields_hold : (class number : ℕ) (f : ℕ → Option Holder) (ss : List Shape) (vs : Values) → ((i : ℕ) → f i ≡ Some (record { class = class; field = number + i })) → shapes_of vs ≡ ss
+    → AreHolders f (fields_from class number ss) vs
 fields_hold class number f [] Nil h e = tt
 fields_hold class number f [] (Cons v vs) h e = cc
 fields_hold class number f (s ∷ ss) Nil h e = cc
@@ -90,7 +91,8 @@ fields_hold class number f (s ∷ ss) (Cons v vs) h e =
       fields_hold class (number + 1) (λ n. f (suc n)) ss vs (λ i. h (suc i) ∙ (let z : number + suc i ≡ (number + 1) + i = omega arith in ap holder z)) q,
     )
 
-leaves_behind : (f : ℕ → Option Holder) (gs hs : List (Option Holder)) (at : ℕ) (vs us : Values) → AreHolders f gs vs → leaves_held (gs ++ hs) at (behind vs us) ≡ leaves_from f at vs ++ leaves_held hs (at + length (bytes_of_all vs)) us
+leaves_behind : (f : ℕ → Option Holder) (gs hs : List (Option Holder)) (at : ℕ) (vs us : Values) → AreHolders f gs vs
+    → leaves_held (gs ++ hs) at (behind vs us) ≡ leaves_from f at vs ++ leaves_held hs (at + length (bytes_of_all vs)) us
 leaves_behind f [] hs at Nil us a = let z : at ≡ at + 0 = omega arith in ap (λ y. leaves_held hs y us) z
 leaves_behind f (g ∷ gs) hs at Nil us a = absurd a
 leaves_behind f [] hs at (Cons v vs) us a = absurd a
@@ -131,7 +133,8 @@ pub record Taken (k : Classes) (c : List ℕ) (at end to : ℕ) (kind : LeafKind
   pub row : AreValues k c to end ss others
   pub leaves : leaves_held (g ∷ hs) at vs ≡ record { kind = kind; class = class; holder = g; at = at; spelled = slice_range c at to } ∷ leaves_held gs to others
 
-int_there : (c : List ℕ) (at end n : ℕ) (b : List ℕ) (w : Var) → Stands c at (at + length b) b → Spells b n → at + length b ≤ end → end ≤ length c → int_at c at end ≡ Some w → (n ≡ w.value) × (at + length b ≡ w.end)
+int_there : (c : List ℕ) (at end n : ℕ) (b : List ℕ) (w : Var) → Stands c at (at + length b) b → Spells b n → at + length b ≤ end → end ≤ length c → int_at c at end ≡ Some w
+    → (n ≡ w.value) × (at + length b ≡ w.end)
 int_there c at end n b w s p l h e =
     let i : IntAt c at (at + length b) n = record { order = s.order; within = s.within; spelled = subst (λ z. Spells z n) (sym s.bytes) p } in
     let o : at ≤ end = (let z = s.order in omega arith) in
@@ -176,7 +179,8 @@ no_base k d e b key q m i = subst (λ z. IsBase z b key) (ap (λ (z : Class). ki
 
 module _ (k : Classes) (c : List ℕ) (at end : ℕ) (s : Shape) (ss : List Shape) (g : Option Holder) (hs : List (Option Holder)) where
   -- A reference.
-  pub key_taken : (vs : Values) (w : Var) → AreValues k c at end (s ∷ ss) vs → s.array ≡ false → s.constant ≡ true → int_at c at end ≡ Some w → Taken k c at end w.end (leaf_kinds.Key w.value) s.class ss vs g hs hs
+  pub key_taken : (vs : Values) (w : Var) → AreValues k c at end (s ∷ ss) vs → s.array ≡ false → s.constant ≡ true → int_at c at end ≡ Some w
+      → Taken k c at end w.end (leaf_kinds.Key w.value) s.class ss vs g hs hs
   unfolding first_of
   key_taken Nil w r a o e = let h = r.of_shapes in cc
   key_taken (Cons (Single t kind b key) us) w r a o e = by_case f.fits
@@ -228,7 +232,8 @@ module _ (k : Classes) (c : List ℕ) (at end : ℕ) (s : Shape) (ss : List Shap
       f : First k c at end s ss (Cons (Single t kind b key) us)
       f = first_of k c at end s ss (Cons (Single t kind b key) us) r
 
-      by_case : IsSingle k t kind b key → (to : ℕ) × (end_or_flaw (run (base_format (kind_of d.name)) c end at) ≡ Ok to) × Taken k c at end to (leaf_kinds.Base (kind_of d.name)) s.class ss (Cons (Single t kind b key) us) g hs hs
+      by_case : IsSingle k t kind b key
+          → (to : ℕ) × (end_or_flaw (run (base_format (kind_of d.name)) c end at) ≡ Ok to) × Taken k c at end to (leaf_kinds.Base (kind_of d.name)) s.class ss (Cons (Single t kind b key) us) g hs hs
       by_case (inl p) = let z : t.constant ≡ false = constant_is t s false f.shape o in let y = p.1 in cc
       by_case (inr p) =
           let e : p.2 ≡ d = found_is k t s p.2 d f.shape p.3 q in
@@ -236,14 +241,16 @@ module _ (k : Classes) (c : List ℕ) (at end : ℕ) (s : Shape) (ss : List Shap
           let x = exact_run c end r.within (base_format (kind_of d.name)) at (at + length b) b key (is_base (kind_of d.name) b key i) f.holds f.row.order in (
             at + length b,
             ap end_or_flaw x,
-            single_taken k c at end (at + length b) s t kind (leaf_kinds.Base (kind_of d.name)) b key ss (Cons (Single t kind b key) us) us g hs refl f.shape (p.4 ∙ ap (λ (z : Class). leaf_kinds.Base (kind_of z.name)) e) refl f.holds f.row,
+            single_taken k c at end (at + length b) s t kind (leaf_kinds.Base (kind_of d.name)) b key ss (Cons (Single t kind b key) us) us g hs refl f.shape
+                (p.4 ∙ ap (λ (z : Class). leaf_kinds.Base (kind_of z.name)) e) refl f.holds f.row,
           )
   base_ends (Cons (Group t h ps) us) d r a o q m = by_case f.fits.0
     where
       f : First k c at end s ss (Cons (Group t h ps) us)
       f = first_of k c at end s ss (Cons (Group t h ps) us) r
 
-      by_case : IsHead k t h (shapes_of ps) → (to : ℕ) × (end_or_flaw (run (base_format (kind_of d.name)) c end at) ≡ Ok to) × Taken k c at end to (leaf_kinds.Base (kind_of d.name)) s.class ss (Cons (Group t h ps) us) g hs hs
+      by_case : IsHead k t h (shapes_of ps)
+          → (to : ℕ) × (end_or_flaw (run (base_format (kind_of d.name)) c end at) ≡ Ok to) × Taken k c at end to (leaf_kinds.Base (kind_of d.name)) s.class ss (Cons (Group t h ps) us) g hs hs
       by_case (inl p) = let z : t.array ≡ false = array_is t s false f.shape a in let y = p.0 in cc
       by_case (inr p) = let e : p.2 ≡ d = found_is k t s p.2 d f.shape p.3 q in absurd (m (ap (λ (z : Class). kind_of z.name) (sym e) ∙ p.4))
 
@@ -257,7 +264,8 @@ module _ (k : Classes) (c : List ℕ) (at end : ℕ) (s : Shape) (ss : List Shap
       f : First k c at end s ss (Cons (Single t kind b key) us)
       f = first_of k c at end s ss (Cons (Single t kind b key) us) r
 
-      by_case : IsSingle k t kind b key → (ws : Values) × AreValues k c at end (map (λ f. f.shape) d.fields ++ ss) ws × (leaves_held (g ∷ hs) at (Cons (Single t kind b key) us) ≡ leaves_held (fields_from s.class 0 (map (λ f. f.shape) d.fields) ++ hs) at ws) × (size_of_all (Cons (Single t kind b key) us) ≡ 2 + size_of_all ws)
+      by_case : IsSingle k t kind b key
+          → (ws : Values) × AreValues k c at end (map (λ f. f.shape) d.fields ++ ss) ws × (leaves_held (g ∷ hs) at (Cons (Single t kind b key) us) ≡ leaves_held (fields_from s.class 0 (map (λ f. f.shape) d.fields) ++ hs) at ws) × (size_of_all (Cons (Single t kind b key) us) ≡ 2 + size_of_all ws)
       by_case (inl p) = let z : t.constant ≡ false = constant_is t s false f.shape o in let y = p.1 in cc
       by_case (inr p) = absurd (no_base k p.2 d b key (found_is k t s p.2 d f.shape p.3 q) m p.5)
   fields_next (Cons (Group t h ps) us) d r a o q m = by_case f.fits
@@ -265,7 +273,8 @@ module _ (k : Classes) (c : List ℕ) (at end : ℕ) (s : Shape) (ss : List Shap
       f : First k c at end s ss (Cons (Group t h ps) us)
       f = first_of k c at end s ss (Cons (Group t h ps) us) r
 
-      by_case : IsHead k t h (shapes_of ps) × AllFit k ps → (ws : Values) × AreValues k c at end (map (λ f. f.shape) d.fields ++ ss) ws × (leaves_held (g ∷ hs) at (Cons (Group t h ps) us) ≡ leaves_held (fields_from s.class 0 (map (λ f. f.shape) d.fields) ++ hs) at ws) × (size_of_all (Cons (Group t h ps) us) ≡ 2 + size_of_all ws)
+      by_case : IsHead k t h (shapes_of ps) × AllFit k ps
+          → (ws : Values) × AreValues k c at end (map (λ f. f.shape) d.fields ++ ss) ws × (leaves_held (g ∷ hs) at (Cons (Group t h ps) us) ≡ leaves_held (fields_from s.class 0 (map (λ f. f.shape) d.fields) ++ hs) at ws) × (size_of_all (Cons (Group t h ps) us) ≡ 2 + size_of_all ws)
       by_case (inl p, i) = let z : t.array ≡ false = array_is t s false f.shape a in let y = p.0 in cc
       by_case (inr p, i) =
           let e : p.2 ≡ d = found_is k t s p.2 d f.shape p.3 q in
@@ -286,7 +295,8 @@ module _ (k : Classes) (c : List ℕ) (at end : ℕ) (s : Shape) (ss : List Shap
                 ∙ (ap (λ x. leaves_from (field t.class) x ps ++ leaves_held hs (at + length (h ++ bytes_of_all ps)) us) z
                 ∙ (ap (λ x. leaves_from (field t.class) at ps ++ leaves_held hs x us) y
                 ∙ (ap (λ (x : Shape). leaves_from (field x.class) at ps ++ leaves_held hs (at + length (bytes_of_all ps)) us) f.shape
-                ∙ sym (leaves_behind (field s.class) (fields_from s.class 0 (map (λ f. f.shape) d.fields)) hs at ps us (fields_hold s.class 0 (field s.class) (map (λ f. f.shape) d.fields) ps (λ j. (let w : j ≡ 0 + j = omega arith in ap (field s.class) w)) n))))),
+                ∙ sym (leaves_behind (field s.class) (fields_from s.class 0 (map (λ f. f.shape) d.fields)) hs at ps us
+                (fields_hold s.class 0 (field s.class) (map (λ f. f.shape) d.fields) ps (λ j. (let w : j ≡ 0 + j = omega arith in ap (field s.class) w)) n))))),
             (let i = size_behind ps us in omega arith),
           )
 
@@ -343,10 +353,18 @@ module _ (k : Classes) (c : List ℕ) (at end : ℕ) (s : Shape) (ss : List Shap
             others = us;
             shapes = n;
             fit = i;
-            row = record { order = omega arith; within = r.within; bytes = b; fit = fit_behind k ps us i r.fit.1; of_shapes = shapes_behind ps us ∙ (ap (λ z. z ++ shapes_of us) n ∙ ap (λ z. replicate w.value (item_of s) ++ z) f.row.of_shapes) };
+            row = record {
+              order = omega arith;
+              within = r.within;
+              bytes = b;
+              fit = fit_behind k ps us i r.fit.1;
+              of_shapes = shapes_behind ps us
+                  ∙ (ap (λ z. z ++ shapes_of us) n ∙ ap (λ z. replicate w.value (item_of s) ++ z) f.row.of_shapes);
+            };
             rest = subst (λ z. AreValues k c z end ss us) q f.row;
             leaves =
-                ap (λ z. ((if z then leaf (worth_within 8 h) t.class h ∷ [] else []) ++ leaves_from (if z then (λ n. g) else field) (at + length h) ps) ++ after (at + length (h ++ bytes_of_all ps))) p.0
+                ap (λ z. ((if z then leaf (worth_within 8 h) t.class h ∷ [] else []) ++ leaves_from (if z then (λ n. g) else field) (at + length h) ps) ++ after (at + length (h ++ bytes_of_all ps)))
+                p.0
                 ∙ (ap (λ z. (leaf z t.class h ∷ items (at + length h)) ++ after (at + length (h ++ bytes_of_all ps))) worth
                 ∙ (ap (λ (z : Shape). (leaf w.value z.class h ∷ items (at + length h)) ++ after (at + length (h ++ bytes_of_all ps))) f.shape
                 ∙ (ap (λ z. (leaf w.value s.class z ∷ items (at + length h)) ++ after (at + length (h ++ bytes_of_all ps))) spelled
@@ -354,14 +372,16 @@ module _ (k : Classes) (c : List ℕ) (at end : ℕ) (s : Shape) (ss : List Shap
                 ∙ ap (λ z. leaf w.value s.class (slice_range c at w.end) ∷ (items w.end ++ after z)) q))));
           }
 
-  pub array_taken : (vs : Values) (w : Var) → AreValues k c at end (s ∷ ss) vs → s.array ≡ true → int_at c at end ≡ Some w → Taken k c at end w.end (leaf_kinds.Count w.value) s.class (replicate w.value (item_of s) ++ ss) vs g hs (replicate w.value g ++ hs)
+  pub array_taken : (vs : Values) (w : Var) → AreValues k c at end (s ∷ ss) vs → s.array ≡ true → int_at c at end ≡ Some w
+      → Taken k c at end w.end (leaf_kinds.Count w.value) s.class (replicate w.value (item_of s) ++ ss) vs g hs (replicate w.value g ++ hs)
   array_taken vs w r a e =
       let x = counted vs w r a e in
       record {
         others = behind x.items x.others;
         row = x.row;
         leaves = x.leaves
-            ∙ ap (λ z. record { kind = leaf_kinds.Count w.value; class = s.class; holder = g; at = at; spelled = slice_range c at w.end } ∷ z) (sym (leaves_behind (λ n. g) (replicate w.value g) hs w.end x.items x.others (same_holders g w.value (item_of s) x.items x.shapes)));
+            ∙ ap (λ z. record { kind = leaf_kinds.Count w.value; class = s.class; holder = g; at = at; spelled = slice_range c at w.end } ∷ z)
+            (sym (leaves_behind (λ n. g) (replicate w.value g) hs w.end x.items x.others (same_holders g w.value (item_of s) x.items x.shapes)));
       }
 
   pub array_there : (vs : Values) → AreValues k c at end (s ∷ ss) vs → s.array ≡ true → int_at c at end ≡ None → ⊥
@@ -398,16 +418,19 @@ module _ (k : Classes) (c : List ℕ) (at end : ℕ) (s : Shape) (ss : List Shap
       let b : bytes_of v ≡ [] = hollow_bytes k v d (ap (λ (z : Shape). z.array) p) (ap (λ (z : Shape). z.constant) p ∙ o) (ap (λ (z : Shape). find_class k z.class) p ∙ q) h f.0 in
       ap (λ z. z ++ bytes_of_all ps) b ∙ hollow_all d o q h n ps r f.1
 
-  no_bytes : (place n : ℕ) (ps : Values) → IsClassIndexIfKnown k s place → s.constant ≡ false → place < length k → IfSome (slice_get k place) IsHollow → shapes_of ps ≡ replicate n (item_of s) → AllFit k ps → bytes_of_all ps ≡ []
+  no_bytes : (place n : ℕ) (ps : Values) → IsClassIndexIfKnown k s place → s.constant ≡ false → place < length k → IfSome (slice_get k place) IsHollow → shapes_of ps ≡ replicate n (item_of s)
+      → AllFit k ps → bytes_of_all ps ≡ []
   no_bytes place n Nil p o l h e f = refl
   no_bytes place zero (Cons v ps) p o l h e f = cc
   no_bytes place (suc n) (Cons v ps) p o l h e f =
       let q : shape_of v ≡ item_of s = (let x : shape_of v ∷ shapes_of ps ≡ item_of s ∷ replicate n (item_of s) = e in cc) in
-      let known : IsSome (find_class k s.class) = subst (λ (z : Shape). IsSome (find_class k z.class)) q (inline_known k v (ap (λ (z : Shape). z.array) q) (ap (λ (z : Shape). z.constant) q ∙ o) f.0) in
+      let known : IsSome (find_class k s.class) =
+      subst (λ (z : Shape). IsSome (find_class k z.class)) q (inline_known k v (ap (λ (z : Shape). z.array) q) (ap (λ (z : Shape). z.constant) q ∙ o) f.0) in
       let d = get_within k place l in
       hollow_all d.0 o (placed_class k s.class place (p o known) ∙ d.1) (subst (λ z. IfSome z IsHollow) d.1 h) (suc n) (Cons v ps) e f
 
-  pub hollow_taken : (vs : Values) (w : Var) (place : ℕ) → AreValues k c at end (s ∷ ss) vs → s.array ≡ true → int_at c at end ≡ Some w → IsClassIndexIfKnown k s place → s.constant ≡ false → place < length k → IfSome (slice_get k place) IsHollow
+  pub hollow_taken : (vs : Values) (w : Var) (place : ℕ) → AreValues k c at end (s ∷ ss) vs → s.array ≡ true → int_at c at end ≡ Some w → IsClassIndexIfKnown k s place → s.constant ≡ false
+      → place < length k → IfSome (slice_get k place) IsHollow
       → Taken k c at end w.end (leaf_kinds.Count w.value) s.class ss vs g hs hs
   hollow_taken vs w place r a e p o l h =
       let x = counted vs w r a e in
@@ -435,24 +458,33 @@ pub record Placed (k : Classes) (s : Shape) (place : ℕ) : Type 0 where
   pub there : slice_get k place ≡ Some class
   pub within : place < length k
 
-pub inline_placed : (k : Classes) (c : List ℕ) (at end : ℕ) (s : Shape) (ss : List Shape) (vs : Values) (place : ℕ) → AreValues k c at end (s ∷ ss) vs → s.array ≡ false → s.constant ≡ false → IsClassIndexIfKnown k s place → Placed k s place
+pub inline_placed : (k : Classes) (c : List ℕ) (at end : ℕ) (s : Shape) (ss : List Shape) (vs : Values) (place : ℕ) → AreValues k c at end (s ∷ ss) vs → s.array ≡ false → s.constant ≡ false
+    → IsClassIndexIfKnown k s place → Placed k s place
 inline_placed k c at end s ss vs place r a o p =
     let f = first_of k c at end s ss vs r in
-    let known : IsSome (find_class k s.class) = subst (λ (z : Shape). IsSome (find_class k z.class)) f.shape (inline_known k f.value (array_is (shape_of f.value) s false f.shape a) (constant_is (shape_of f.value) s false f.shape o) f.fits) in
+    let known : IsSome (find_class k s.class) = subst (λ (z : Shape). IsSome (find_class k z.class)) f.shape
+    (inline_known k f.value (array_is (shape_of f.value) s false f.shape a) (constant_is (shape_of f.value) s false f.shape o) f.fits) in
     let q = p o known in
     let d = placed_some k s.class place q in
     record { class = d.0; found = placed_class k s.class place q ∙ d.1; there = d.1; within = placed_within k s.class place q }
 
-pub base_found : (k : Classes) (c : List ℕ) (at end : ℕ) (s : Shape) (ss : List Shape) (g : Option Holder) (hs : List (Option Holder)) (vs : Values) (d : Class) (kind : Kind) → AreValues k c at end (s ∷ ss) vs → s.array ≡ false → s.constant ≡ false → find_class k s.class ≡ Some d → kind ≡ kind_of d.name → kind ≢ kinds.Composite
+pub base_found : (k : Classes) (c : List ℕ) (at end : ℕ) (s : Shape) (ss : List Shape) (g : Option Holder) (hs : List (Option Holder)) (vs : Values) (d : Class) (kind : Kind)
+    → AreValues k c at end (s ∷ ss) vs → s.array ≡ false → s.constant ≡ false → find_class k s.class ≡ Some d → kind ≡ kind_of d.name → kind ≢ kinds.Composite
     → (to : ℕ) × (end_or_flaw (run (base_format kind) c end at) ≡ Ok to) × Taken k c at end to (leaf_kinds.Base kind) s.class ss vs g hs hs
 base_found k c at end s ss g hs vs d kind r a o q e m =
-    subst (λ z. (to : ℕ) × (end_or_flaw (run (base_format z) c end at) ≡ Ok to) × Taken k c at end to (leaf_kinds.Base z) s.class ss vs g hs hs) (sym e) (base_ends k c at end s ss g hs vs d r a o q (λ z. m (e ∙ z)))
+    subst (λ z. (to : ℕ) × (end_or_flaw (run (base_format z) c end at) ≡ Ok to) × Taken k c at end to (leaf_kinds.Base z) s.class ss vs g hs hs) (sym e)
+    (base_ends k c at end s ss g hs vs d r a o q (λ z. m (e ∙ z)))
 
 -- An array whose items are walked over, or have no bytes.
-pub array_found : (k : Classes) (c : List ℕ) (at end : ℕ) (s : Shape) (ss : List Shape) (g : Option Holder) (hs : List (Option Holder)) (vs : Values) (w : Var) (place remaining : ℕ) → AreValues k c at end (s ∷ ss) vs → s.array ≡ true → int_at c at end ≡ Some w → IsClassIndexIfKnown k s place
-    → (remaining ≡ w.value) ⊎ ((remaining ≡ 0) × (s.constant ≡ false) × (place < length k) × IfSome (slice_get k place) IsHollow) → Taken k c at end w.end (leaf_kinds.Count w.value) s.class (replicate remaining (item_of s) ++ ss) vs g hs (replicate remaining g ++ hs)
-array_found k c at end s ss g hs vs w place remaining r a e p (inl q) = subst (λ z. Taken k c at end w.end (leaf_kinds.Count w.value) s.class (replicate z (item_of s) ++ ss) vs g hs (replicate z g ++ hs)) (sym q) (array_taken k c at end s ss g hs vs w r a e)
-array_found k c at end s ss g hs vs w place remaining r a e p (inr q) = subst (λ z. Taken k c at end w.end (leaf_kinds.Count w.value) s.class (replicate z (item_of s) ++ ss) vs g hs (replicate z g ++ hs)) (sym q.0) (hollow_taken k c at end s ss g hs vs w place r a e p q.1 q.2 q.3)
+pub array_found : (k : Classes) (c : List ℕ) (at end : ℕ) (s : Shape) (ss : List Shape) (g : Option Holder) (hs : List (Option Holder)) (vs : Values) (w : Var) (place remaining : ℕ)
+    → AreValues k c at end (s ∷ ss) vs → s.array ≡ true → int_at c at end ≡ Some w → IsClassIndexIfKnown k s place
+    → (remaining ≡ w.value) ⊎ ((remaining ≡ 0) × (s.constant ≡ false) × (place < length k) × IfSome (slice_get k place) IsHollow)
+    → Taken k c at end w.end (leaf_kinds.Count w.value) s.class (replicate remaining (item_of s) ++ ss) vs g hs (replicate remaining g ++ hs)
+array_found k c at end s ss g hs vs w place remaining r a e p (inl q) =
+    subst (λ z. Taken k c at end w.end (leaf_kinds.Count w.value) s.class (replicate z (item_of s) ++ ss) vs g hs (replicate z g ++ hs)) (sym q) (array_taken k c at end s ss g hs vs w r a e)
+array_found k c at end s ss g hs vs w place remaining r a e p (inr q) = subst
+    (λ z. Taken k c at end w.end (leaf_kinds.Count w.value) s.class (replicate z (item_of s) ++ ss) vs g hs (replicate z g ++ hs)) (sym q.0)
+    (hollow_taken k c at end s ss g hs vs w place r a e p q.1 q.2 q.3)
 
 -- If no shapes are left, no leaves are.
 pub no_leaves : (k : Classes) (c : List ℕ) (at end : ℕ) (hs : List (Option Holder)) (vs : Values) → AreValues k c at end [] vs → leaves_held hs at vs ≡ []
@@ -467,35 +499,42 @@ rows_exact k (t ∷ ss) Nil s f e = cc
 rows_exact k (t ∷ ss) (Cons v vs) s f e =
     let q : shape_of v ≡ t = (let x : shape_of v ∷ shapes_of vs ≡ t ∷ ss = e in cc) in
     let r : shapes_of vs ≡ ss = (let x : shape_of v ∷ shapes_of vs ≡ t ∷ ss = e in cc) in
-    bind_exact (value_format k t) (λ a. for_each ss (value_format k) >>= λ rest. Done (a ∷ rest)) (bytes_of v) (bytes_of_all vs) (bytes_of v ++ bytes_of_all vs) v (v ∷ list_of vs) refl (subst (λ z. Exactly (value_format k z) (bytes_of v) v) q (fits_good k v s f.0))
-    (bind_exact (for_each ss (value_format k)) (λ rest. Done (v ∷ rest)) (bytes_of_all vs) [] (bytes_of_all vs) (list_of vs) (v ∷ list_of vs) (sym (append-nil (bytes_of_all vs))) (rows_exact k ss vs s f.1 r) (refl, refl))
+    bind_exact (value_format k t) (λ a. for_each ss (value_format k) >>= λ rest. Done (a ∷ rest)) (bytes_of v) (bytes_of_all vs) (bytes_of v ++ bytes_of_all vs) v (v ∷ list_of vs) refl
+    (subst (λ z. Exactly (value_format k z) (bytes_of v) v) q (fits_good k v s f.0))
+    (bind_exact (for_each ss (value_format k)) (λ rest. Done (v ∷ rest)) (bytes_of_all vs) [] (bytes_of_all vs) (list_of vs) (v ∷ list_of vs) (sym (append-nil (bytes_of_all vs)))
+    (rows_exact k ss vs s f.1 r) (refl, refl))
 
 pub remaining_is : (k : Classes) (c : List ℕ) (end : ℕ) (cursor : Cursor) (vs : Values) → Sound k → AreRemaining k c end cursor vs → remaining_values k c end cursor ≡ vs
 unfolding remaining_values
 remaining_is k c end cursor vs s r =
-    ap got_values (exact_run c end r.within (for_each (remaining_shapes k cursor.stack) (value_format k)) cursor.at end (bytes_of_all vs) (list_of vs) (rows_exact k (remaining_shapes k cursor.stack) vs s r.fit r.of_shapes) (record { order = r.order; within = r.within; bytes = r.bytes }) (omega arith))
+    ap got_values (exact_run c end r.within (for_each (remaining_shapes k cursor.stack) (value_format k)) cursor.at end (bytes_of_all vs) (list_of vs)
+    (rows_exact k (remaining_shapes k cursor.stack) vs s r.fit r.of_shapes) (record { order = r.order; within = r.within; bytes = r.bytes }) (omega arith))
     ∙ values_again vs
 
 -- A walk that goes on.
 pub walk_on : (k : Classes) (c : List ℕ) (end : ℕ) (cursor : Cursor) (ws : Values) → Sound k → AreFrames k 0 cursor.stack → AreRemaining k c end cursor ws → IsWalk k c end cursor
 walk_on k c end cursor ws s f l = record { sound = s; frames = f; remaining = subst (AreRemaining k c end cursor) (sym (remaining_is k c end cursor ws s l)) l }
 
-pub leaves_are_remaining : (k : Classes) (c : List ℕ) (end : ℕ) (cursor : Cursor) (ws : Values) → Sound k → AreRemaining k c end cursor ws → remaining_leaves k c end cursor ≡ leaves_held (remaining_holders k cursor.stack) cursor.at ws
+pub leaves_are_remaining : (k : Classes) (c : List ℕ) (end : ℕ) (cursor : Cursor) (ws : Values) → Sound k → AreRemaining k c end cursor ws
+    → remaining_leaves k c end cursor ≡ leaves_held (remaining_holders k cursor.stack) cursor.at ws
 leaves_are_remaining k c end cursor ws s l = ap (leaves_held (remaining_holders k cursor.stack) cursor.at) (remaining_is k c end cursor ws s l)
 
 -- A walk that begins at a node.
 abbrev pub whole : Shape → ℕ → Frame
 whole s place = Items (record { shape = s; place = place; levels = 33; holder = None }) 1
 
-pub walk_begins : (k : Classes) (c : List ℕ) (n : NodeAt) (v : Value) (place : ℕ) (cursor : Cursor) → Sound k → IsNode k c n v → IsClassIndexIfKnown k n.shape place → cursor.at ≡ n.at → cursor.stack ≡ whole n.shape place ∷ []
+pub walk_begins : (k : Classes) (c : List ℕ) (n : NodeAt) (v : Value) (place : ℕ) (cursor : Cursor) → Sound k → IsNode k c n v → IsClassIndexIfKnown k n.shape place → cursor.at ≡ n.at
+    → cursor.stack ≡ whole n.shape place ∷ []
     → AreFrames k 0 cursor.stack × AreRemaining k c n.end cursor (Cons v Nil)
 walk_begins k c n v place cursor s i p a e =
-    let r : AreValues k c n.at n.end (n.shape ∷ []) (Cons v Nil) = record { order = i.order; within = i.within; bytes = i.bytes ∙ sym (append-nil (bytes_of v)); fit = (i.fits, tt); of_shapes = ap (λ z. z ∷ []) (sym i.shape) } in (
+    let r : AreValues k c n.at n.end (n.shape ∷ []) (Cons v Nil) =
+    record { order = i.order; within = i.within; bytes = i.bytes ∙ sym (append-nil (bytes_of v)); fit = (i.fits, tt); of_shapes = ap (λ z. z ∷ []) (sym i.shape) } in (
       subst (λ (z : List Frame). AreFrames k 0 z) (sym e) ((either_height n.shape.array 67 (omega arith), p, λ o d q m. sound_inline k n.shape.class d s q), tt),
       subst (λ (z : List Frame). AreValues k c cursor.at n.end (remaining_shapes k z) (Cons v Nil)) (sym e) (subst (λ z. AreValues k c z n.end (n.shape ∷ []) (Cons v Nil)) (sym a) r),
     )
 
-pub first_leaves : (k : Classes) (c : List ℕ) (n : NodeAt) (v : Value) (place : ℕ) (cursor : Cursor) → Sound k → IsNode k c n v → cursor.at ≡ n.at → cursor.stack ≡ whole n.shape place ∷ [] → leaves_held (remaining_holders k cursor.stack) cursor.at (Cons v Nil) ≡ leaves k c n
+pub first_leaves : (k : Classes) (c : List ℕ) (n : NodeAt) (v : Value) (place : ℕ) (cursor : Cursor) → Sound k → IsNode k c n v → cursor.at ≡ n.at → cursor.stack ≡ whole n.shape place ∷ []
+    → leaves_held (remaining_holders k cursor.stack) cursor.at (Cons v Nil) ≡ leaves k c n
 first_leaves k c n v place cursor s i a e =
     ap (λ (z : List Frame). leaves_held (remaining_holders k z) cursor.at (Cons v Nil)) e
     ∙ (ap (λ z. leaves_held (None ∷ []) z (Cons v Nil)) a

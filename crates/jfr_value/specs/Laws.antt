@@ -71,4 +71,5 @@ abbrev pub LeavesInOrder : Classes → List ℕ → NodeAt → Value → Option 
 LeavesInOrder k c n (Single s kind b key) holder = leaves_in holder k c n ≡ record { kind = kind; class = s.class; holder = holder; at = n.at; spelled = b } ∷ []
 LeavesInOrder k c n (Group s h vs) holder =
     leaves_in holder k c n
-    ≡ (if s.array then record { kind = leaf_kinds.Count (worth_within 8 h); class = s.class; holder = holder; at = n.at; spelled = h } ∷ [] else []) ++ leaves_in_each (part_holder s holder) k c (children k c n)
+    ≡ (if s.array then record { kind = leaf_kinds.Count (worth_within 8 h); class = s.class; holder = holder; at = n.at; spelled = h } ∷ [] else []) ++ leaves_in_each (part_holder s holder) k c
+    (children k c n)

@@ -34,7 +34,8 @@ part_holder s h = if s.array then (λ n. h) else (λ n. Some (record { class = s
 abbrev mutual
   pub leaves_at : Option Holder → ℕ → Value → List LeafAt
   leaves_at holder at (Single s kind b key) = record { kind = kind; class = s.class; holder = holder; at = at; spelled = b } ∷ []
-  leaves_at holder at (Group s h vs) = (if s.array then record { kind = leaf_kinds.Count (worth_within 8 h); class = s.class; holder = holder; at = at; spelled = h } ∷ [] else []) ++ leaves_from (part_holder s holder) (at + length h) vs
+  leaves_at holder at (Group s h vs) = (if s.array then record { kind = leaf_kinds.Count (worth_within 8 h); class = s.class; holder = holder; at = at; spelled = h } ∷ [] else []) ++ leaves_from
+      (part_holder s holder) (at + length h) vs
 
   pub leaves_from : (ℕ → Option Holder) → ℕ → Values → List LeafAt
   leaves_from holders at Nil = []

@@ -59,7 +59,8 @@ pub record AreToVisit (admits : LeafAt → Type 0) (k : Classes) (c : List ℕ) 
 
 -- Of these leaves, the first ones were taken, with a step for each. Values of these shapes and with these holders are
 -- left from an offset on, and their leaves are the others.
-pub record Passed {A : Type 0} (takes : LeafAt → A → A → Type 0) (k : Classes) (c : List ℕ) (end : ℕ) (all : List LeafAt) (old : A) (before : ℕ) (hs : List (Option Holder)) (us : List Shape) (to : ℕ) (new : A) (after : ℕ) : Type 0 where
+pub record Passed {A : Type 0} (takes : LeafAt → A → A → Type 0) (k : Classes) (c : List ℕ) (end : ℕ) (all : List LeafAt) (old : A) (before : ℕ) (hs : List (Option Holder)) (us : List Shape) (to : ℕ)
+    (new : A) (after : ℕ) : Type 0 where
   pub first : List LeafAt
   pub others : Values
   pub row : AreValues k c to end us others

@@ -107,8 +107,10 @@ abbrev mutual
 -- to it.
 abbrev pub GoesOn : Classes → List ℕ → ℕ → List (Option Holder) → ℕ → Values → ℕ → Cursor → Progress → Type 0
 GoesOn k c end holders at vs size cursor Ended = (ws : Values) × AreRemaining k c end cursor ws × (leaves_held holders at vs ≡ []) × (leaves_held (remaining_holders k cursor.stack) cursor.at ws ≡ [])
-GoesOn k c end holders at vs size cursor (Found leaf) = (ws : Values) × AreRemaining k c end cursor ws × (leaves_held holders at vs ≡ leaf_of leaf ∷ leaves_held (remaining_holders k cursor.stack) cursor.at ws)
-GoesOn k c end holders at vs size cursor Onward = (ws : Values) × AreRemaining k c end cursor ws × (leaves_held holders at vs ≡ leaves_held (remaining_holders k cursor.stack) cursor.at ws) × (size_of_all ws + length cursor.stack < size)
+GoesOn k c end holders at vs size cursor (Found leaf) =
+    (ws : Values) × AreRemaining k c end cursor ws × (leaves_held holders at vs ≡ leaf_of leaf ∷ leaves_held (remaining_holders k cursor.stack) cursor.at ws)
+GoesOn k c end holders at vs size cursor Onward =
+    (ws : Values) × AreRemaining k c end cursor ws × (leaves_held holders at vs ≡ leaves_held (remaining_holders k cursor.stack) cursor.at ws) × (size_of_all ws + length cursor.stack < size)
 
 -- The cursor of a walk: the classes are sound, each frame fits its height, and the remaining values exist.
 pub record IsWalk (k : Classes) (c : List ℕ) (end : ℕ) (cursor : Cursor) : Type 0 where

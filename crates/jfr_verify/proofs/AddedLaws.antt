@@ -18,7 +18,8 @@ pub new_append : (marks : List Bool) (parent : Parent) (xs ys : List ℕ) → ne
 new_append marks parent [] ys = refl
 new_append marks parent (x ∷ xs) ys = by_mark (is_marked marks x) refl (new_append (slice_set marks x true) parent xs ys)
   where
-    by_mark : (b : Bool) → is_marked marks x ≡ b → new_lines (slice_set marks x true) parent (xs ++ ys) ≡ new_lines (slice_set marks x true) parent xs ++ new_lines (marked_at (slice_set marks x true) xs) parent ys
+    by_mark : (b : Bool) → is_marked marks x ≡ b
+        → new_lines (slice_set marks x true) parent (xs ++ ys) ≡ new_lines (slice_set marks x true) parent xs ++ new_lines (marked_at (slice_set marks x true) xs) parent ys
         → new_lines marks parent (x ∷ (xs ++ ys)) ≡ new_lines marks parent (x ∷ xs) ++ new_lines (marked_at (slice_set marks x true) xs) parent ys
     by_mark true e h = rw e h
     by_mark false e h = rw e (ap (λ z. record { entry = x; parent = parent } ∷ z) h)
@@ -28,9 +29,11 @@ pub listed_more : (f : List Bool) (ls now : List Line) (n : ℕ) (l : Line) → 
     → slice_set f n true ≡ marked_at (replicate (length (slice_set f n true)) false) (map (λ l. l.entry) now)
 listed_more f ls now n l e h k =
     let none : List Bool = replicate (length f) false in
-    let each : map (λ (l : Line). l.entry) now ≡ map (λ (l : Line). l.entry) ls ++ n ∷ [] = ap (map (λ (l : Line). l.entry)) h ∙ (map-append (λ (l : Line). l.entry) ls (l ∷ []) ∙ ap (λ z. map (λ (l : Line). l.entry) ls ++ z ∷ []) k) in
+    let each : map (λ (l : Line). l.entry) now ≡ map (λ (l : Line). l.entry) ls ++ n ∷ [] =
+    ap (map (λ (l : Line). l.entry)) h ∙ (map-append (λ (l : Line). l.entry) ls (l ∷ []) ∙ ap (λ z. map (λ (l : Line). l.entry) ls ++ z ∷ []) k) in
     ap (λ z. slice_set z n true) e
-    ∙ (sym (all_append none (map (λ (l : Line). l.entry) ls) (n ∷ [])) ∙ (ap (marked_at none) (sym each) ∙ ap (λ z. marked_at (replicate z false) (map (λ (l : Line). l.entry) now)) (sym (length-set f n true))))
+    ∙ (sym (all_append none (map (λ (l : Line). l.entry) ls) (n ∷ []))
+    ∙ (ap (marked_at none) (sym each) ∙ ap (λ z. marked_at (replicate z false) (map (λ (l : Line). l.entry) now)) (sym (length-set f n true))))
 
 -- At first there are no lines.
 pub listed_none : (f : List Bool) (ls : List Line) (n : ℕ) → f ≡ replicate n false → length f ≡ n → ls ≡ [] → f ≡ marked_at (replicate (length f) false) (map (λ l. l.entry) ls)

@@ -37,12 +37,22 @@ module _ (p : Parts) where
     where
       by_event : (o : Option EventAt) → slice_get (events_of p) i ≡ o → Node before (OfEvent i) ⊎ ((m : NodeAt) → IsParent p before (OfEvent i) m → ⊥)
       by_event None e = inr (λ m s. (let z : None ≡ Some s.0 = sym e ∙ s.1 in cc))
-      by_event (Some x) e = inl (record { node = x.node; holds = (x, e, refl); one = λ m s. (let z : x ≡ s.0 = (let a : slice_get (events_of p) i ≡ Some s.0 = s.1 in cc) in ap (λ (w : EventAt). w.node) z ∙ s.2) })
+      by_event (Some x) e = inl (record {
+        node = x.node;
+        holds = (x, e, refl);
+        one = λ m s.
+            (let z : x ≡ s.0 = (let a : slice_get (events_of p) i ≡ Some s.0 = s.1 in cc) in ap (λ (w : EventAt). w.node) z ∙ s.2);
+      })
   node_of before (OfEntry i) = by_before (dec_contains dec_nat before i)
     where
       by_entry : Contains before i → (o : Option EntryAt) → slice_get p.entries i ≡ o → Node before (OfEntry i) ⊎ ((m : NodeAt) → IsParent p before (OfEntry i) m → ⊥)
       by_entry c None e = inr (λ m s. (let z : None ≡ Some s.0 = sym e ∙ s.2 in cc))
-      by_entry c (Some x) e = inl (record { node = entry_node x; holds = (x, c, e, refl); one = λ m s. (let z : x ≡ s.0 = (let a : slice_get p.entries i ≡ Some s.0 = s.2 in cc) in ap entry_node z ∙ s.3) })
+      by_entry c (Some x) e = inl (record {
+        node = entry_node x;
+        holds = (x, c, e, refl);
+        one = λ m s.
+            (let z : x ≡ s.0 = (let a : slice_get p.entries i ≡ Some s.0 = s.2 in cc) in ap entry_node z ∙ s.3);
+      })
 
       by_before : Dec (Contains before i) → Node before (OfEntry i) ⊎ ((m : NodeAt) → IsParent p before (OfEntry i) m → ⊥)
       by_before (inl c) = by_entry c (slice_get p.entries i) refl
@@ -51,14 +61,16 @@ module _ (p : Parts) where
   dec_valid : (before : List ℕ) (l : Line) → Dec (IsValidLine p before l)
   dec_valid before l = by_fresh (dec_contains dec_nat before l.entry)
     where
-      by_target : (Contains before l.entry → ⊥) → (e : EntryAt) → slice_get p.entries l.entry ≡ Some e → (n : Node before l.parent) → Dec (Contains (targets p.classes p.bytes n.node) (e.class, e.key)) → Dec (IsValidLine p before l)
+      by_target : (Contains before l.entry → ⊥) → (e : EntryAt) → slice_get p.entries l.entry ≡ Some e → (n : Node before l.parent) → Dec (Contains (targets p.classes p.bytes n.node) (e.class, e.key))
+          → Dec (IsValidLine p before l)
       by_target f e g n (inl c) = inl (record { fresh = f; entry = e; there = g; node = n.node; parent = n.holds; refers = c })
       by_target f e g n (inr f') = inr (λ h.
           let z : h.entry ≡ e = (let a : slice_get p.entries l.entry ≡ Some h.entry = h.there in cc) in
           let w : h.node ≡ n.node = sym (n.one h.node h.parent) in
           f' (subst (λ (y : EntryAt). Contains (targets p.classes p.bytes n.node) (y.class, y.key)) z (subst (λ y. Contains (targets p.classes p.bytes y) (h.entry.class, h.entry.key)) w h.refers)))
 
-      by_node : (Contains before l.entry → ⊥) → (e : EntryAt) → slice_get p.entries l.entry ≡ Some e → Node before l.parent ⊎ ((m : NodeAt) → IsParent p before l.parent m → ⊥) → Dec (IsValidLine p before l)
+      by_node : (Contains before l.entry → ⊥) → (e : EntryAt) → slice_get p.entries l.entry ≡ Some e → Node before l.parent ⊎ ((m : NodeAt) → IsParent p before l.parent m → ⊥)
+          → Dec (IsValidLine p before l)
       by_node f e g (inl n) = by_target f e g n (dec_contains dec_key (targets p.classes p.bytes n.node) (e.class, e.key))
       by_node f e g (inr f') = inr (λ h. f' h.node h.parent)
 
@@ -89,14 +101,16 @@ module _ (p : Parts) where
       entries_of : List Line → List ℕ
       entries_of ls = map (λ (l : Line). l.entry) ls
 
-      by_each : (g : Got (List Line)) → lines_of_count r (length p.entries) ≡ Some g → Dec ((t : ℕ) → t < length p.entries → Contains (map (λ l. l.entry) g.value) t) → Dec (AreValidLines p [] g.value) → Prefix r ⊎ ((n : ℕ) → IsReceiptOf (take n r) p → ⊥)
+      by_each : (g : Got (List Line)) → lines_of_count r (length p.entries) ≡ Some g → Dec ((t : ℕ) → t < length p.entries → Contains (map (λ l. l.entry) g.value) t) → Dec (AreValidLines p [] g.value)
+          → Prefix r ⊎ ((n : ℕ) → IsReceiptOf (take n r) p → ⊥)
       by_each g e (inl a) (inl h) = let w = was_read r (length p.entries) g e in inl (g.place, w.within, record { lines = g.value; spelled = w.exact; count = w.many; each = a; valid = h })
       by_each g e (inl a) (inr f) = inr (λ n s. f (subst (AreValidLines p []) (same_lines p r g n s e) s.valid))
       by_each g e (inr f) d = inr (λ n s. f (subst (λ ls. (t : ℕ) → t < length p.entries → Contains (map (λ l. l.entry) ls) t) (same_lines p r g n s e) s.each))
 
       by_read : (o : Option (Got (List Line))) → lines_of_count r (length p.entries) ≡ o → Prefix r ⊎ ((n : ℕ) → IsReceiptOf (take n r) p → ⊥)
       by_read None e = inr (none_read p r e)
-      by_read (Some g) e = by_each g e (dec_below (λ t. Contains (map (λ l. l.entry) g.value) t) (λ t. dec_contains dec_nat (map (λ l. l.entry) g.value) t) (length p.entries)) (dec_all_valid [] g.value)
+      by_read (Some g) e = by_each g e (dec_below (λ t. Contains (map (λ l. l.entry) g.value) t) (λ t. dec_contains dec_nat (map (λ l. l.entry) g.value) t) (length p.entries))
+          (dec_all_valid [] g.value)
 
 module _ (p q : Parts) where
   -- There are marks of the copies, or none.
@@ -108,20 +122,24 @@ module _ (p q : Parts) where
     where
       go : (left k from : ℕ) (marks : List Bool) → left + k ≡ length q.entries → InCopies p q k from marks → Marked ⊎ ((marks : List Bool) → AreAmong p q marks → ⊥)
       go zero k from marks e i = let c = copies_end p q k from marks (omega (arith, e)) i in inl (marks, c.0, c.1)
-      go (suc left) k from marks e i = by_next (next_copy p q k from) refl (λ place n. go left (k + 1) (place + 1) (slice_set marks place true) (omega (arith, e)) (copies_next p q k from place marks i n))
+      go (suc left) k from marks e i = by_next (next_copy p q k from) refl
+          (λ place n. go left (k + 1) (place + 1) (slice_set marks place true) (omega (arith, e)) (copies_next p q k from place marks i n))
         where
-          by_next : (o : Option ℕ) → next_copy p q k from ≡ o → ((place : ℕ) → next_copy p q k from ≡ Some place → Marked ⊎ ((marks : List Bool) → AreAmong p q marks → ⊥)) → Marked ⊎ ((marks : List Bool) → AreAmong p q marks → ⊥)
+          by_next : (o : Option ℕ) → next_copy p q k from ≡ o → ((place : ℕ) → next_copy p q k from ≡ Some place → Marked ⊎ ((marks : List Bool) → AreAmong p q marks → ⊥))
+              → Marked ⊎ ((marks : List Bool) → AreAmong p q marks → ⊥)
           by_next None n f = inr (none_copied p q k from marks (omega (arith, e)) i n)
           by_next (Some place) n f = f place n
 
   pub verdict : (kept : List EventAt) (r : List ℕ) → (x : Result ℕ Doubt) × Checked p q kept r x
   verdict kept r = by_classes (dec_all (Contains p.classes) (λ c. dec_contains dec_class p.classes c) q.classes)
     where
-      by_prefix : HasClasses p.classes q.classes → contents p kept ≡ contents q (events_of q) → (m : Marked) → AreClosed p kept m.0 → Prefix q r ⊎ ((n : ℕ) → IsReceiptOf (take n r) q → ⊥) → (x : Result ℕ Doubt) × Checked p q kept r x
+      by_prefix : HasClasses p.classes q.classes → contents p kept ≡ contents q (events_of q) → (m : Marked) → AreClosed p kept m.0 → Prefix q r ⊎ ((n : ℕ) → IsReceiptOf (take n r) q → ⊥)
+          → (x : Result ℕ Doubt) × Checked p q kept r x
       by_prefix h e m c (inl s) = (Ok s.0, (s.1, record { classes = h; events = e; marks = m.0; among = m.1; closed = c; shown = s.2 }))
       by_prefix h e m c (inr f) = (Err ReceiptBad, (h, e, m.0, m.1, c, f))
 
-      by_closed : HasClasses p.classes q.classes → contents p kept ≡ contents q (events_of q) → (m : Marked) → (b : Bool) → Decided (AreClosed p kept m.0) b → (x : Result ℕ Doubt) × Checked p q kept r x
+      by_closed : HasClasses p.classes q.classes → contents p kept ≡ contents q (events_of q) → (m : Marked) → (b : Bool) → Decided (AreClosed p kept m.0) b
+          → (x : Result ℕ Doubt) × Checked p q kept r x
       by_closed h e m true c = by_prefix h e m c (prefix_or q r)
       by_closed h e m false c = (Err EntryMissing, (h, e, m.0, m.1, c))
 

@@ -29,7 +29,8 @@ children_append : (ps : List Parent) (p : Parent) (xs ys : List ℕ) → childre
 children_append ps p [] ys = refl
 children_append ps p (x ∷ xs) ys = by_test (is_parent_of ps p x) (children_append ps p xs ys)
   where
-    by_test : (b : Bool) → children ps p (xs ++ ys) ≡ children ps p xs ++ children ps p ys → cond b (x ∷ children ps p (xs ++ ys)) (children ps p (xs ++ ys)) ≡ cond b (x ∷ children ps p xs) (children ps p xs) ++ children ps p ys
+    by_test : (b : Bool) → children ps p (xs ++ ys) ≡ children ps p xs ++ children ps p ys
+        → cond b (x ∷ children ps p (xs ++ ys)) (children ps p (xs ++ ys)) ≡ cond b (x ∷ children ps p xs) (children ps p xs) ++ children ps p ys
     by_test true e = ap (λ z. x ∷ z) e
     by_test false e = e
 
@@ -47,10 +48,12 @@ confirms_then xs ys a b c p q = record {
   parent = q.parent ∙ p.parent;
 }
 
-pub confirms_all : (es : List EntryAt) (ts : List (ℕ × ℕ)) (old new : Claims) → TakesAll (λ t a b. Confirms (those (number_in_force es) (t ∷ [])) a b) ts old new → Confirms (those (number_in_force es) ts) old new
+pub confirms_all : (es : List EntryAt) (ts : List (ℕ × ℕ)) (old new : Claims) → TakesAll (λ t a b. Confirms (those (number_in_force es) (t ∷ [])) a b) ts old new
+    → Confirms (those (number_in_force es) ts) old new
 confirms_all es = takes_those Confirms confirms_none confirms_then (number_in_force es)
 
-pub confirms_more : (is : List ℕ) (at : ℕ) (old here new : Claims) → at < length is → Confirms (take at is) old here → Confirms (slice_index_or is at 0 ∷ []) here new → Confirms (take (at + 1) is) old new
+pub confirms_more : (is : List ℕ) (at : ℕ) (old here new : Claims) → at < length is → Confirms (take at is) old here → Confirms (slice_index_or is at 0 ∷ []) here new
+    → Confirms (take (at + 1) is) old new
 confirms_more is at old here new h p q = subst (λ z. Confirms z old new) (sym (take_more is at 0 h)) (confirms_then (take at is) (slice_index_or is at 0 ∷ []) old here new p q)
 
 same_is : (a b : Parent) → same_parent a b ≡ true → b ≡ a
@@ -77,7 +80,8 @@ in_children : (ps : List Parent) (p : Parent) (xs : List ℕ) (t : ℕ) → In (
 in_children ps p [] t i = absurd i
 in_children ps p (x ∷ xs) t i = by_test (is_parent_of ps p x) refl i (λ j. in_children ps p xs t j)
   where
-    by_test : (b : Bool) → is_parent_of ps p x ≡ b → In (cond b (x ∷ children ps p xs) (children ps p xs)) t → (In (children ps p xs) t → In xs t × (slice_get ps t ≡ Some p)) → In (x ∷ xs) t × (slice_get ps t ≡ Some p)
+    by_test : (b : Bool) → is_parent_of ps p x ≡ b → In (cond b (x ∷ children ps p xs) (children ps p xs)) t → (In (children ps p xs) t → In xs t × (slice_get ps t ≡ Some p))
+        → In (x ∷ xs) t × (slice_get ps t ≡ Some p)
     by_test true e (inl q) f = (inl q, subst (λ z. slice_get ps z ≡ Some p) q (parent_is ps p x e))
     by_test true e (inr j) f = let r = f j in (inr r.0, r.1)
     by_test false e j f = let r = f j in (inr r.0, r.1)
@@ -139,7 +143,8 @@ module _ (p : Parts) where
       by_case t (inl m) = inl m
       by_case t (inr i) = let r = in_children a.parents.items parent is t i in inr (parent, r.1, f t r.0)
 
-  here_of : (parent : Parent) (is : List ℕ) (a b : Claims) (t : ℕ) → t < length a.confirmed.items → ConfirmsOf parent is a b → In is t → slice_get a.parents.items t ≡ Some parent → IsMarked b.confirmed.items t
+  here_of : (parent : Parent) (is : List ℕ) (a b : Claims) (t : ℕ) → t < length a.confirmed.items → ConfirmsOf parent is a b → In is t → slice_get a.parents.items t ≡ Some parent
+      → IsMarked b.confirmed.items t
   here_of parent is a b t w h i e = subst (λ z. IsMarked z t) (sym h.confirmed) (all_here a.confirmed.items (children a.parents.items parent is) t w (children_in a.parents.items parent is t i e))
 
   below_next : (n i : ℕ) → i < n + 1 → (i < n) ⊎ (i ≡ n)
@@ -155,24 +160,29 @@ module _ (p : Parts) where
   pub events_start : (a : Claims) → ConfirmsEvents p 0 a a
   events_start a = record { more = more_none a; all = λ i t h. absurd (omega arith) }
 
-  pub events_next : (n : ℕ) (e : EventAt) (old a b : Claims) → slice_get (events_of p) n ≡ Some e → length old.confirmed.items ≡ length p.entries → ConfirmsEvents p n old a → ConfirmsOf (OfEvent n) (node_entries p.entries p.classes p.bytes e.node) a b → ConfirmsEvents p (n + 1) old b
+  pub events_next : (n : ℕ) (e : EventAt) (old a b : Claims) → slice_get (events_of p) n ≡ Some e → length old.confirmed.items ≡ length p.entries → ConfirmsEvents p n old a
+      → ConfirmsOf (OfEvent n) (node_entries p.entries p.classes p.bytes e.node) a b → ConfirmsEvents p (n + 1) old b
   events_next n e old a b g s h o =
       let m = more_of (OfEvent n) (node_entries p.entries p.classes p.bytes e.node) a b (λ t i. (e, g, in_contains (node_entries p.entries p.classes p.bytes e.node) t i)) o in
       record { more = more_then old a b h.more m; all = λ i t w q r. by_case i t (below_next n i w) q r }
     where
       by_case : (i t : ℕ) → (i < n) ⊎ (i ≡ n) → slice_get old.parents.items t ≡ Some (OfEvent i) → RefersTo p (OfEvent i) t → IsMarked b.confirmed.items t
-      by_case i t (inl w) q r = subst (λ z. IsMarked z t) (sym o.confirmed) (all_stay a.confirmed.items (children a.parents.items (OfEvent n) (node_entries p.entries p.classes p.bytes e.node)) t (h.all i t w q r))
+      by_case i t (inl w) q r = subst (λ z. IsMarked z t) (sym o.confirmed)
+          (all_stay a.confirmed.items (children a.parents.items (OfEvent n) (node_entries p.entries p.classes p.bytes e.node)) t (h.all i t w q r))
       by_case i t (inr w) q r =
           let x : slice_get (events_of p) n ≡ Some r.0 = ap (slice_get (events_of p)) (sym w) ∙ r.1 in
           let y : r.0 ≡ e = (let z : Some r.0 ≡ Some e = sym x ∙ g in cc) in
-          let k : In (node_entries p.entries p.classes p.bytes e.node) t = subst (λ (z : EventAt). In (node_entries p.entries p.classes p.bytes z.node) t) y (contains_in (node_entries p.entries p.classes p.bytes r.0.node) t r.2) in
+          let k : In (node_entries p.entries p.classes p.bytes e.node) t =
+          subst (λ (z : EventAt). In (node_entries p.entries p.classes p.bytes z.node) t) y (contains_in (node_entries p.entries p.classes p.bytes r.0.node) t r.2) in
           let l = those_within _ t k in
-          here_of (OfEvent n) (node_entries p.entries p.classes p.bytes e.node) a b t (omega (arith, l, s, h.more.size)) o k (ap (λ z. slice_get z t) h.more.parents ∙ (q ∙ ap (λ z. Some (OfEvent z)) w))
+          here_of (OfEvent n) (node_entries p.entries p.classes p.bytes e.node) a b t (omega (arith, l, s, h.more.size)) o k
+          (ap (λ z. slice_get z t) h.more.parents ∙ (q ∙ ap (λ z. Some (OfEvent z)) w))
 
   pub entries_start : (a : Claims) → ConfirmsEntries p 0 a a
   entries_start a = record { more = more_none a; all = λ i t h. absurd (omega arith) }
 
-  pub entries_next : (n : ℕ) (old a b : Claims) → length old.confirmed.items ≡ length p.entries → ConfirmsEntries p n old a → ConfirmsOf (OfEntry n) (next_entries p n) a b → ConfirmsEntries p (n + 1) old b
+  pub entries_next : (n : ℕ) (old a b : Claims) → length old.confirmed.items ≡ length p.entries → ConfirmsEntries p n old a → ConfirmsOf (OfEntry n) (next_entries p n) a b
+      → ConfirmsEntries p (n + 1) old b
   entries_next n old a b s h o =
       let m = more_of (OfEntry n) (next_entries p n) a b (λ t i. in_contains (next_entries p n) t i) o in
       record { more = more_then old a b h.more m; all = λ i t w q r. by_case i t (below_next n i w) q r }
@@ -202,7 +212,8 @@ module _ (p : Parts) where
       by_get None q k = absurd k
       by_get (Some e) q k = slice_get_within p.entries i e q
 
-  pub children_ends : (ps : List Parent) (a b c : Claims) (all : Bool) → a.parents.items ≡ ps → a.confirmed.items ≡ replicate (length p.entries) false → ConfirmsEvents p (length (events_of p)) a b → ConfirmsEntries p (length p.entries) b c
+  pub children_ends : (ps : List Parent) (a b c : Claims) (all : Bool) → a.parents.items ≡ ps → a.confirmed.items ≡ replicate (length p.entries) false → ConfirmsEvents p (length (events_of p)) a b
+      → ConfirmsEntries p (length p.entries) b c
       → all ≡ list_all (λ flag. flag) c.confirmed.items → Decided (AreConfirmed p ps) all
   children_ends ps a b c all q z e f s = subst (Decided (AreConfirmed p ps)) (sym s) (by_flag (list_all (λ flag. flag) c.confirmed.items) refl)
     where

@@ -42,7 +42,8 @@ checks_then xs ys a b c p q = record {
       ∙ (and_assoc a.closed (are_marked a.marks.items xs) (are_marked a.marks.items ys) ∙ ap (λ z. a.closed && z) (sym (all_append a.marks.items xs ys)))));
 }
 
-pub checks_all : (es : List EntryAt) (ts : List (ℕ × ℕ)) (old new : ClosedCheck) → TakesAll (λ t a b. ChecksMarks (those (number_in_force es) (t ∷ [])) a b) ts old new → ChecksMarks (those (number_in_force es) ts) old new
+pub checks_all : (es : List EntryAt) (ts : List (ℕ × ℕ)) (old new : ClosedCheck) → TakesAll (λ t a b. ChecksMarks (those (number_in_force es) (t ∷ [])) a b) ts old new
+    → ChecksMarks (those (number_in_force es) ts) old new
 checks_all es = takes_those ChecksMarks checks_none checks_then (number_in_force es)
 
 module _ (p : Parts) where
@@ -59,8 +60,10 @@ module _ (p : Parts) where
       let q : n + 1 ≡ suc n = omega arith in
       record {
         marks = c.marks ∙ h.marks;
-        closed = c.closed ∙ (ap (λ z. z && are_marked a.marks.items (marked_refs p a.marks.items n)) h.closed ∙ (ap (λ z. (old.closed && entries_closed p old.marks.items n) && are_marked z (marked_refs p z n)) h.marks
-            ∙ (and_assoc old.closed (entries_closed p old.marks.items n) (are_marked old.marks.items (marked_refs p old.marks.items n)) ∙ ap (λ z. old.closed && entries_closed p old.marks.items z) (sym q))));
+        closed = c.closed ∙ (ap (λ z. z && are_marked a.marks.items (marked_refs p a.marks.items n)) h.closed
+            ∙ (ap (λ z. (old.closed && entries_closed p old.marks.items n) && are_marked z (marked_refs p z n)) h.marks
+            ∙ (and_assoc old.closed (entries_closed p old.marks.items n) (are_marked old.marks.items (marked_refs p old.marks.items n))
+            ∙ ap (λ z. old.closed && entries_closed p old.marks.items z) (sym q))));
       }
 
   -- What the first events refer to was checked.
@@ -70,20 +73,24 @@ module _ (p : Parts) where
   abbrev refers : EventAt → List ℕ
   refers e = node_entries p.entries p.classes p.bytes e.node
 
-  pub kept_one : (flags marks : List Bool) (n : ℕ) → length flags ≡ length (events_of p) → n < length flags → are_marked marks (roots p (first_kept flags (n + 1))) ≡ (are_marked marks (roots p (first_kept flags n)) && are_marked marks (kept_refs p flags n))
+  pub kept_one : (flags marks : List Bool) (n : ℕ) → length flags ≡ length (events_of p) → n < length flags
+      → are_marked marks (roots p (first_kept flags (n + 1))) ≡ (are_marked marks (roots p (first_kept flags n)) && are_marked marks (kept_refs p flags n))
   kept_one flags marks n l h =
       let b = present flags n h in
       let e = present (events_of p) n (omega (arith, l)) in
       let q : n + 1 ≡ suc n = omega arith in
       ap (λ z. are_marked marks (roots p (first_kept flags z))) q ∙ (ap (λ z. are_marked marks (roots p z)) (marked_one flags (events_of p) n b.0 e.0 b.1 e.1) ∙ by_flag b.0 e.0 b.1 e.1)
     where
-      by_flag : (b : Bool) (e : EventAt) → slice_get flags n ≡ Some b → slice_get (events_of p) n ≡ Some e → are_marked marks (roots p (first_kept flags n ++ (if b then e ∷ [] else []))) ≡ (are_marked marks (roots p (first_kept flags n)) && are_marked marks (kept_refs p flags n))
+      by_flag : (b : Bool) (e : EventAt) → slice_get flags n ≡ Some b → slice_get (events_of p) n ≡ Some e
+          → are_marked marks (roots p (first_kept flags n ++ (if b then e ∷ [] else []))) ≡ (are_marked marks (roots p (first_kept flags n)) && are_marked marks (kept_refs p flags n))
       by_flag true e f g =
           let k : kept_refs p flags n ≡ refers e = ap (λ o. if unwrap_or o false then option_map_or refers (slice_get (events_of p) n) [] else []) f ∙ ap (λ o. option_map_or refers o []) g in
-          ap (are_marked marks) (roots_one p (first_kept flags n) e) ∙ (all_append marks (roots p (first_kept flags n)) (refers e) ∙ ap (λ z. are_marked marks (roots p (first_kept flags n)) && are_marked marks z) (sym k))
+          ap (are_marked marks) (roots_one p (first_kept flags n) e)
+          ∙ (all_append marks (roots p (first_kept flags n)) (refers e) ∙ ap (λ z. are_marked marks (roots p (first_kept flags n)) && are_marked marks z) (sym k))
       by_flag false e f g =
           let k : kept_refs p flags n ≡ [] = ap (λ o. if unwrap_or o false then option_map_or refers (slice_get (events_of p) n) [] else []) f in
-          ap (λ z. are_marked marks (roots p z)) (append-nil (first_kept flags n)) ∙ (sym (and_true (are_marked marks (roots p (first_kept flags n)))) ∙ ap (λ z. are_marked marks (roots p (first_kept flags n)) && are_marked marks z) (sym k))
+          ap (λ z. are_marked marks (roots p z)) (append-nil (first_kept flags n))
+          ∙ (sym (and_true (are_marked marks (roots p (first_kept flags n)))) ∙ ap (λ z. are_marked marks (roots p (first_kept flags n)) && are_marked marks z) (sym k))
 
   marked_split : (fs : List Bool) (es : List EventAt) (n : ℕ) → marked fs es ≡ marked (take n fs) (take n es) ++ marked (drop n fs) (drop n es)
   marked_split fs es zero = refl
@@ -97,22 +104,27 @@ module _ (p : Parts) where
   marked_split (true ∷ fs) (y ∷ es) (suc n) = ap (λ z. y ∷ z) (marked_split fs es n)
   marked_split (false ∷ fs) (y ∷ es) (suc n) = marked_split fs es n
 
-  pub kept_false : (flags marks : List Bool) (n : ℕ) → length flags ≡ length (events_of p) → n < length flags → are_marked marks (kept_refs p flags n) ≡ false → events_closed p marks (kept_by p flags) ≡ false
+  pub kept_false : (flags marks : List Bool) (n : ℕ) → length flags ≡ length (events_of p) → n < length flags → are_marked marks (kept_refs p flags n) ≡ false
+      → events_closed p marks (kept_by p flags) ≡ false
   kept_false flags marks n l h e =
-      let s : are_marked marks (roots p (first_kept flags (n + 1))) ≡ false = kept_one flags marks n l h ∙ (ap (λ z. are_marked marks (roots p (first_kept flags n)) && z) e ∙ and_false (are_marked marks (roots p (first_kept flags n)))) in
+      let s : are_marked marks (roots p (first_kept flags (n + 1))) ≡ false =
+      kept_one flags marks n l h ∙ (ap (λ z. are_marked marks (roots p (first_kept flags n)) && z) e ∙ and_false (are_marked marks (roots p (first_kept flags n)))) in
       ap (λ z. are_marked marks (roots p z)) (marked_split flags (events_of p) (n + 1))
       ∙ (ap (are_marked marks) (roots_append p (first_kept flags (n + 1)) (marked (drop (n + 1) flags) (drop (n + 1) (events_of p))))
-      ∙ (all_append marks (roots p (first_kept flags (n + 1))) (roots p (marked (drop (n + 1) flags) (drop (n + 1) (events_of p)))) ∙ ap (λ z. z && are_marked marks (roots p (marked (drop (n + 1) flags) (drop (n + 1) (events_of p))))) s))
+      ∙ (all_append marks (roots p (first_kept flags (n + 1))) (roots p (marked (drop (n + 1) flags) (drop (n + 1) (events_of p))))
+      ∙ ap (λ z. z && are_marked marks (roots p (marked (drop (n + 1) flags) (drop (n + 1) (events_of p))))) s))
     where
       and_false : (a : Bool) → (a && false) ≡ false
       and_false true = refl
       and_false false = refl
 
-  pub kept_true : (flags marks : List Bool) (n : ℕ) → length flags ≡ length (events_of p) → n < length flags → are_marked marks (roots p (first_kept flags n)) ≡ true → are_marked marks (kept_refs p flags n) ≡ true → are_marked marks (roots p (first_kept flags (n + 1))) ≡ true
+  pub kept_true : (flags marks : List Bool) (n : ℕ) → length flags ≡ length (events_of p) → n < length flags → are_marked marks (roots p (first_kept flags n)) ≡ true
+      → are_marked marks (kept_refs p flags n) ≡ true → are_marked marks (roots p (first_kept flags (n + 1))) ≡ true
   kept_true flags marks n l h a b = kept_one flags marks n l h ∙ (ap (λ z. z && are_marked marks (kept_refs p flags n)) a ∙ b)
 
   -- If all events are kept, all references are checked.
-  pub kept_all : (flags marks : List Bool) (numbers : List ℕ) → list_all (λ keep. keep) flags ≡ true → length flags ≡ length (events_of p) → numbers ≡ roots p (events_of p) → are_marked marks numbers ≡ events_closed p marks (kept_by p flags)
+  pub kept_all : (flags marks : List Bool) (numbers : List ℕ) → list_all (λ keep. keep) flags ≡ true → length flags ≡ length (events_of p) → numbers ≡ roots p (events_of p)
+      → are_marked marks numbers ≡ events_closed p marks (kept_by p flags)
   kept_all flags marks numbers a l e = ap (are_marked marks) (e ∙ ap (roots p) (sym (all_kept flags (events_of p) a l)))
     where
       all_kept : (fs : List Bool) (es : List EventAt) → list_all (λ keep. keep) fs ≡ true → length fs ≡ length es → marked fs es ≡ es
@@ -182,6 +194,7 @@ module _ (p : Parts) where
   is_closed kept ms c = ap (λ z. z && entries_closed p ms (length p.entries)) (marked_each ms (roots p kept) c.events) ∙ each_entries ms (length p.entries) c.entries
 
   -- The computation decides the fact.
-  pub closed_decided : (kept : List EventAt) (ms : List Bool) → length ms ≡ length p.entries → (b : Bool) → b ≡ (events_closed p ms kept && entries_closed p ms (length p.entries)) → Decided (AreClosed p kept ms) b
+  pub closed_decided : (kept : List EventAt) (ms : List Bool) → length ms ≡ length p.entries → (b : Bool) → b ≡ (events_closed p ms kept && entries_closed p ms (length p.entries))
+      → Decided (AreClosed p kept ms) b
   closed_decided kept ms l true e = closed_is kept ms l (sym e)
   closed_decided kept ms l false e = λ c. (let h = is_closed kept ms c in let z : false ≡ true = e ∙ h in cc)

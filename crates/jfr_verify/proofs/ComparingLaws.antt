@@ -51,21 +51,24 @@ same_parts : (x y : Parts) (r : Result Parts Flaw) → r ≡ Ok x → r ≡ Ok y
 same_parts x y r e f = let h : ◌≡◌ {A = Result Parts Flaw} (Ok x) (Ok y) = sym e ∙ f in cc
 
 -- A pair is accepted.
-pub pair_passes : (g : Given) (p q : Parts) (b : Vec ℕ Global) (bs : List (Vec ℕ Global)) (qs : List Parts) (r : List ℕ) (n m : ℕ) (bytes : List ℕ) → bytes ≡ b.items → (t : Taken b bs qs) → read_parts bytes ≡ Ok q → Checked p q (kept_of g p) r (Ok m)
+pub pair_passes : (g : Given) (p q : Parts) (b : Vec ℕ Global) (bs : List (Vec ℕ Global)) (qs : List Parts) (r : List ℕ) (n m : ℕ) (bytes : List ℕ) → bytes ≡ b.items → (t : Taken b bs qs)
+    → read_parts bytes ≡ Ok q → Checked p q (kept_of g p) r (Ok m)
     → (k : Recording) (y : Verdict) → ComparedWith g k t.later (drop m r) (n + 1) y → ComparedWith g (read_on (n + 1) (Ok p) k) qs r n y
 pair_passes g p q b bs qs r n m bytes s t e c k y h =
     let same : q ≡ t.first = same_parts q t.first (read_parts bytes) e (ap read_parts s ∙ t.read) in
     subst (λ z. ComparedWith g (read_on (n + 1) (Ok p) k) z r n y) (sym t.all) (Ok m, subst (λ z. Checked p z (kept_of g p) r (Ok m)) same c, h)
 
 -- There is a doubt about a pair.
-pub pair_fails : (g : Given) (p q : Parts) (b : Vec ℕ Global) (bs : List (Vec ℕ Global)) (qs : List Parts) (r : List ℕ) (n number : ℕ) (fault : CheckFault) (bytes : List ℕ) → number ≡ n + 1 → bytes ≡ b.items → Taken b bs qs → read_parts bytes ≡ Ok q → Answered p q (kept_of g p) r (Err fault) → Stops g (Ok p) qs r n (after_check number fault)
+pub pair_fails : (g : Given) (p q : Parts) (b : Vec ℕ Global) (bs : List (Vec ℕ Global)) (qs : List Parts) (r : List ℕ) (n number : ℕ) (fault : CheckFault) (bytes : List ℕ) → number ≡ n + 1
+    → bytes ≡ b.items → Taken b bs qs → read_parts bytes ≡ Ok q → Answered p q (kept_of g p) r (Err fault) → Stops g (Ok p) qs r n (after_check number fault)
 pair_fails g p q b bs qs r n number (checks.Doubt d) bytes at s t e c = λ k.
     let same : q ≡ t.first = same_parts q t.first (read_parts bytes) e (ap read_parts s ∙ t.read) in
     subst (λ z. ComparedWith g (read_on (n + 1) (Ok p) k) z r n (Doubted number d)) (sym t.all) (Err d, subst (λ z. Checked p z (kept_of g p) r (Err d)) same c, ap (λ m. Doubted m d) at)
 pair_fails g p q b bs qs r n number checks.Memory bytes at s t e c = tt
 
 -- The rooms don't matter.
-pub steps_in : (r : Result (Unit {0}) Verdict) (n : ℕ) (next other : Result Parts Flaw) (qs : List Parts) (a b : Comparer) (i j : Buffers) → other ≡ next → Steps r n next qs (record a { input_buffers = i }) b → Steps r n other qs a (record b { input_buffers = j })
+pub steps_in : (r : Result (Unit {0}) Verdict) (n : ℕ) (next other : Result Parts Flaw) (qs : List Parts) (a b : Comparer) (i j : Buffers) → other ≡ next
+    → Steps r n next qs (record a { input_buffers = i }) b → Steps r n other qs a (record b { input_buffers = j })
 steps_in (Ok x) n next other qs a b i j e h = subst (λ z. Steps (Ok x) n z qs a (record b { input_buffers = j })) (sym e) h
 steps_in (Err x) n next other qs a b i j e h = subst (λ z. Steps (Err x) n z qs a (record b { input_buffers = j })) (sym e) h
 
@@ -82,7 +85,8 @@ pub record Going (name : List ℕ) (g : Given) (qs : List Parts) (r : List ℕ) 
   pub outputs : HasOutputs s later
   pub left : HasUnread c (λ k. (y : Verdict) → ComparedWith g k later s.receipts.now count y → ComparedWith g (recording_of bytes) qs r 0 y) w v
 
-pub start : (name : List ℕ) (g : Given) (qs : List Parts) (r : List ℕ) (s : Comparer) (c : Cutter) (w v : World) → s.receipts.now ≡ r → HasOutputs s qs → c.number ≡ 1 → OpenedIn name (Ok c) w v → Going name g qs r s c w v
+pub start : (name : List ℕ) (g : Given) (qs : List Parts) (r : List ℕ) (s : Comparer) (c : Cutter) (w v : World) → s.receipts.now ≡ r → HasOutputs s qs → c.number ≡ 1 → OpenedIn name (Ok c) w v
+    → Going name g qs r s c w v
 start name g qs r s c w v same h n o =
     let x = from_some (file w name) (λ y. HasUnread c (λ k. recording_of y ≡ k) w v) o in
     record {
@@ -136,17 +140,24 @@ module _ (name : List ℕ) (qs : List Parts) (r : List ℕ) (s : Comparer) (c d 
       let rest : Recording = unread_recording d h.unread in
       let here : c.number ≡ k.count + 1 = k.number in
       let more : d.number ≡ c.number + 1 = gave.number in
-      let t = subst (λ b. Steps (Err x) k.count (read_parts b) k.later s z) same (steps k.count k.later (omega (arith, at, here, more)) k.outputs) in
-      (h.same, stopped x _ _ (λ f. some_at (file w name) k.bytes (λ a. ComparedWith s.filter.now (recording_of a) qs r 0 x) k.file_is (h.claim x (subst (λ m. ComparedWith s.filter.now (read_on m (read_parts d.bytes) rest) k.later s.receipts.now k.count x) (sym here) (f rest)))) t)
+      let t = subst (λ b. Steps (Err x) k.count (read_parts b) k.later s z) same (steps k.count k.later (omega (arith, at, here, more)) k.outputs) in (
+        h.same,
+        stopped x _ _ (λ f. some_at (file w name) k.bytes (λ a. ComparedWith s.filter.now (recording_of a) qs r 0 x) k.file_is
+            (h.claim x (subst (λ m. ComparedWith s.filter.now (read_on m (read_parts d.bytes) rest) k.later s.receipts.now k.count x) (sym here) (f rest)))) t,
+      )
 
   -- The input ended.
   go_end : (x : Verdict) (count : ℕ) → count + 1 ≡ d.number → d.number ≡ c.number → Found c fronts.End [] v u
-      → ((qs : List Parts) → HasOutputs s qs → ComparedWith s.filter.now (record { parts = []; refusal = None }) qs s.receipts.now count x) → Going name s.filter.now qs r s c w v → InputRead s.filter.now name qs r x w u
+      → ((qs : List Parts) → HasOutputs s qs → ComparedWith s.filter.now (record { parts = []; refusal = None }) qs s.receipts.now count x) → Going name s.filter.now qs r s c w v
+      → InputRead s.filter.now name qs r x w u
   go_end x count at same n ends k =
       let h = end_left c d _ w v u k.left n in
       let here : c.number ≡ k.count + 1 = k.number in
-      let e : count ≡ k.count = omega (arith, at, same, here) in
-      (h.0, decided x _ (some_at (file w name) k.bytes (λ a. ComparedWith s.filter.now (recording_of a) qs r 0 x) k.file_is (h.1 x (subst (λ m. ComparedWith s.filter.now (record { parts = []; refusal = None }) k.later s.receipts.now m x) e (ends k.later k.outputs)))))
+      let e : count ≡ k.count = omega (arith, at, same, here) in (
+        h.0,
+        decided x _ (some_at (file w name) k.bytes (λ a. ComparedWith s.filter.now (recording_of a) qs r 0 x) k.file_is
+            (h.1 x (subst (λ m. ComparedWith s.filter.now (record { parts = []; refusal = None }) k.later s.receipts.now m x) e (ends k.later k.outputs)))),
+      )
 
   -- What follows is refused.
   go_refused : (f : Refusal) → f.chunk ≡ c.number → Refuses c f v u → Going name s.filter.now qs r s c w v → InputRead s.filter.now name qs r (Refused f) w u

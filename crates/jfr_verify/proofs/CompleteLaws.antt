@@ -31,7 +31,8 @@ contents_of : (p q : Parts) (es fs : List EventAt) → SameRecords p q es fs →
 contents_of p q [] [] s = refl
 contents_of p q [] (f ∷ fs) s = absurd s
 contents_of p q (e ∷ es) [] s = absurd s
-contents_of p q (e ∷ es) (f ∷ fs) s = pair e.record_of.type_id f.record_of.type_id (record_bytes p.bytes e.record_of) (record_bytes q.bytes f.record_of) (contents p es) (contents q fs) s.0.class s.0.bytes (contents_of p q es fs s.1)
+contents_of p q (e ∷ es) (f ∷ fs) s = pair e.record_of.type_id f.record_of.type_id (record_bytes p.bytes e.record_of) (record_bytes q.bytes f.record_of) (contents p es)
+    (contents q fs) s.0.class s.0.bytes (contents_of p q es fs s.1)
   where
     one : ℕ → List ℕ → List (ℕ × List ℕ) → List (ℕ × List ℕ)
     one a xs rest = (a, xs) ∷ rest
@@ -54,7 +55,8 @@ in_filtered t (y ∷ ys) x i = by_test (t y) i (in_filtered t ys x)
 -- The classes of the output are classes of the input.
 has_left : (names : Names) (p : Parts) (kept : List EventAt) (o : Option (List ℕ)) → HasClasses p.classes (option_map_or (λ x. staying (stays_in names p kept) p.classes) o p.classes)
 has_left names p kept None = All-contains_itself p.classes
-has_left names p kept (Some x) = all_of_members (Contains p.classes) (staying (stays_in names p kept) p.classes) (λ c i. in_contains p.classes c (in_filtered (λ (d : Class). stays_in names p kept d.id) p.classes c i))
+has_left names p kept (Some x) = all_of_members (Contains p.classes) (staying (stays_in names p kept) p.classes)
+    (λ c i. in_contains p.classes c (in_filtered (λ (d : Class). stays_in names p kept d.id) p.classes c i))
 
 module _ (p : Parts) (a : AreParts p) (flags : List Bool) where
   abbrev kept : List EventAt
@@ -80,7 +82,8 @@ module _ (p : Parts) (a : AreParts p) (flags : List Bool) where
   marks_closed : AreClosed p kept marks
   marks_closed = record {
     events = all_of_members (IsMarked marks) (roots p kept) (λ i h. (marked_is i).0 (reach_path p (has_nodes p a) kept kept_node (root h)));
-    entries = λ n m. all_of_members (IsMarked marks) (next_entries p n) (λ i h. (marked_is i).0 (reach_path p (has_nodes p a) kept kept_node (more (path_reach p (has_nodes p a) kept kept_node n ((marked_is n).1 m)) h)));
+    entries = λ n m. all_of_members (IsMarked marks) (next_entries p n)
+        (λ i h. (marked_is i).0 (reach_path p (has_nodes p a) kept kept_node (more (path_reach p (has_nodes p a) kept kept_node n ((marked_is n).1 m)) h)));
   }
 
   pub kept_passes : (names : Names) (k : IsKept names p kept) → (AllReached k.parts → IsReceiptOf (receipt_of k.parts) k.parts) → Passes p k.parts kept (receipt_of k.parts)

@@ -29,7 +29,8 @@ beside_right R None (Some c) b r e = absurd r
 beside_right R (Some a) None b r e = absurd r
 
 -- A mark after all others adds the entry at the end.
-set_last : (marks : List Bool) (xs : List EntryAt) (n : ℕ) (x : EntryAt) → ((i : ℕ) → IsMarked marks i → i < n) → n < length marks → slice_get xs n ≡ Some x → marked (slice_set marks n true) xs ≡ marked marks xs ++ x ∷ []
+set_last : (marks : List Bool) (xs : List EntryAt) (n : ℕ) (x : EntryAt) → ((i : ℕ) → IsMarked marks i → i < n) → n < length marks → slice_get xs n ≡ Some x
+    → marked (slice_set marks n true) xs ≡ marked marks xs ++ x ∷ []
 set_last [] xs n x f h e = absurd (omega arith)
 set_last (m ∷ ms) [] n x f h e = cc
 set_last (m ∷ ms) (y ∷ ys) zero x f h e =
@@ -74,25 +75,39 @@ module _ (p q : Parts) where
   next_is : (number from place : ℕ) → next_copy p q number from ≡ Some place → Next number from place
   next_is number from place e = by_copy (slice_get q.entries number) refl e
     where
-      by_same : (f : EntryAt) (n : ℕ) (x : EntryAt) (b : Bool) → slice_get q.entries number ≡ Some f → number_in_force p.entries (f.class, f.key) ≡ Some n → nat_lt n from ≡ false → slice_get p.entries n ≡ Some x → is_copy p q x f ≡ b → (if b then Some n else None) ≡ Some place → Next number from place
+      by_same : (f : EntryAt) (n : ℕ) (x : EntryAt) (b : Bool) → slice_get q.entries number ≡ Some f → number_in_force p.entries (f.class, f.key) ≡ Some n → nat_lt n from ≡ false
+          → slice_get p.entries n ≡ Some x → is_copy p q x f ≡ b → (if b then Some n else None) ≡ Some place → Next number from place
       by_same f n x true g h l i c e =
           let k : n ≡ place = cc in
-          record { copy = f; holds = g; entry = x; here = subst (λ z. slice_get p.entries z ≡ Some x) k i; force = h ∙ ap (λ z. Some z) k; order = (let o : from ≤ n = grind (arith, l) in omega arith); same = c }
+          record {
+            copy = f;
+            holds = g;
+            entry = x;
+            here = subst (λ z. slice_get p.entries z ≡ Some x) k i;
+            force = h
+                ∙ ap (λ z. Some z) k;
+            order = (let o : from ≤ n = grind (arith, l) in omega arith);
+            same = c;
+          }
       by_same f n x false g h l i c e = cc
 
-      by_entry : (f : EntryAt) (n : ℕ) (o : Option EntryAt) → slice_get q.entries number ≡ Some f → number_in_force p.entries (f.class, f.key) ≡ Some n → nat_lt n from ≡ false → slice_get p.entries n ≡ o → option_and_then (λ e. if is_copy p q e f then Some n else None) o ≡ Some place → Next number from place
+      by_entry : (f : EntryAt) (n : ℕ) (o : Option EntryAt) → slice_get q.entries number ≡ Some f → number_in_force p.entries (f.class, f.key) ≡ Some n → nat_lt n from ≡ false
+          → slice_get p.entries n ≡ o → option_and_then (λ e. if is_copy p q e f then Some n else None) o ≡ Some place → Next number from place
       by_entry f n None g h l i e = cc
       by_entry f n (Some x) g h l i e = by_same f n x (is_copy p q x f) g h l i refl e
 
-      by_order : (f : EntryAt) (n : ℕ) (b : Bool) → slice_get q.entries number ≡ Some f → number_in_force p.entries (f.class, f.key) ≡ Some n → nat_lt n from ≡ b → (if b then None else option_and_then (λ e. if is_copy p q e f then Some n else None) (slice_get p.entries n)) ≡ Some place → Next number from place
+      by_order : (f : EntryAt) (n : ℕ) (b : Bool) → slice_get q.entries number ≡ Some f → number_in_force p.entries (f.class, f.key) ≡ Some n → nat_lt n from ≡ b
+          → (if b then None else option_and_then (λ e. if is_copy p q e f then Some n else None) (slice_get p.entries n)) ≡ Some place → Next number from place
       by_order f n true g h l e = cc
       by_order f n false g h l e = by_entry f n (slice_get p.entries n) g h l refl e
 
-      by_force : (f : EntryAt) (o : Option ℕ) → slice_get q.entries number ≡ Some f → number_in_force p.entries (f.class, f.key) ≡ o → option_and_then (copy_if p q from f) o ≡ Some place → Next number from place
+      by_force : (f : EntryAt) (o : Option ℕ) → slice_get q.entries number ≡ Some f → number_in_force p.entries (f.class, f.key) ≡ o → option_and_then (copy_if p q from f) o ≡ Some place
+          → Next number from place
       by_force f None g h e = cc
       by_force f (Some n) g h e = by_order f n (nat_lt n from) g h refl e
 
-      by_copy : (o : Option EntryAt) → slice_get q.entries number ≡ o → option_and_then (λ f. option_and_then (copy_if p q from f) (number_in_force p.entries (f.class, f.key))) o ≡ Some place → Next number from place
+      by_copy : (o : Option EntryAt) → slice_get q.entries number ≡ o → option_and_then (λ f. option_and_then (copy_if p q from f) (number_in_force p.entries (f.class, f.key))) o ≡ Some place
+          → Next number from place
       by_copy None g e = cc
       by_copy (Some f) g e = by_force f (number_in_force p.entries (f.class, f.key)) g refl e
 
@@ -107,7 +122,8 @@ module _ (p q : Parts) where
   copy_of : (e f : EntryAt) → e.class ≡ f.class → e.key ≡ f.key → is_copy p q e f ≡ true → IsCopied p q e f
   copy_of e f a b c = by_parts (e.checkpoint == f.checkpoint) refl (bytes_eq (node_bytes p.bytes (entry_node e)) (node_bytes q.bytes (entry_node f))) refl c
     where
-      by_parts : (s : Bool) → (e.checkpoint == f.checkpoint) ≡ s → (t : Bool) → bytes_eq (node_bytes p.bytes (entry_node e)) (node_bytes q.bytes (entry_node f)) ≡ t → (s && t) ≡ true → IsCopied p q e f
+      by_parts : (s : Bool) → (e.checkpoint == f.checkpoint) ≡ s → (t : Bool) → bytes_eq (node_bytes p.bytes (entry_node e)) (node_bytes q.bytes (entry_node f)) ≡ t → (s && t) ≡ true
+          → IsCopied p q e f
       by_parts true s true t h = record { class = a; key = b; checkpoint = grind (arith, s); value = (bytes_eq-Decides (node_bytes p.bytes (entry_node e)) (node_bytes q.bytes (entry_node f))).0 t }
       by_parts true s false t h = cc
       by_parts false s t u h = cc
@@ -115,7 +131,8 @@ module _ (p q : Parts) where
   of_copy : (e f : EntryAt) → IsCopied p q e f → is_copy p q e f ≡ true
   of_copy e f c =
       let s : (e.checkpoint == f.checkpoint) ≡ true = (let z : e.checkpoint ≡ f.checkpoint = c.checkpoint in grind (arith, z)) in
-      ap (λ z. z && bytes_eq (node_bytes p.bytes (entry_node e)) (node_bytes q.bytes (entry_node f))) s ∙ (bytes_eq-Decides (node_bytes p.bytes (entry_node e)) (node_bytes q.bytes (entry_node f))).1 c.value
+      ap (λ z. z && bytes_eq (node_bytes p.bytes (entry_node e)) (node_bytes q.bytes (entry_node f))) s
+      ∙ (bytes_eq-Decides (node_bytes p.bytes (entry_node e)) (node_bytes q.bytes (entry_node f))).1 c.value
 
   -- The number after the last entry that is marked.
   abbrev IsFrom : ℕ → ℕ → Type 0
@@ -166,7 +183,9 @@ module _ (p q : Parts) where
         size = length-set marks place true ∙ h.size;
         below = λ i m. by_below i (set_only marks place i m);
         in_force = λ i m. by_force force i (set_only marks place i m);
-        copied = subst (λ z. AreCopied p q z (take (k + 1) q.entries)) (sym l) (subst (AreCopied p q (marked marks p.entries ++ n.entry ∷ [])) (sym (take_next q.entries k n.copy n.holds)) (copied_one p q (marked marks p.entries) (take k q.entries) n.entry n.copy h.copied c));
+        copied = subst (λ z. AreCopied p q z (take (k + 1) q.entries)) (sym l)
+            (subst (AreCopied p q (marked marks p.entries ++ n.entry ∷ [])) (sym (take_next q.entries k n.copy n.holds))
+            (copied_one p q (marked marks p.entries) (take k q.entries) n.entry n.copy h.copied c));
         from_is = subst (λ z. IsFrom z (place + 1)) (let z : suc k ≡ k + 1 = omega arith in z) (n.copy, place, n.holds, n.force, refl);
       }
     where
@@ -196,7 +215,8 @@ module _ (p q : Parts) where
       let i : IsInForce p.entries k.place = a.in_force k.place k.is_marked in
       let w : i.entry ≡ c.0 = (let x : slice_get p.entries k.place ≡ Some i.entry = i.holds in cc) in
       let l : number_in_force p.entries (c.0.class, c.0.key) ≡ Some k.place = subst (λ (z : EntryAt). number_in_force p.entries (z.class, z.key) ≡ Some k.place) w i.last in
-      let l' : number_in_force p.entries (f.class, f.key) ≡ Some k.place = subst (λ z. number_in_force p.entries (z, f.key) ≡ Some k.place) c.2.class (subst (λ z. number_in_force p.entries (c.0.class, z) ≡ Some k.place) c.2.key l) in
+      let l' : number_in_force p.entries (f.class, f.key) ≡ Some k.place =
+      subst (λ z. number_in_force p.entries (z, f.key) ≡ Some k.place) c.2.class (subst (λ z. number_in_force p.entries (c.0.class, z) ≡ Some k.place) c.2.key l) in
       record { place = k.place; entry = c.0; here = g; is_marked = k.is_marked; number_is = k.number_is; copied = c.2; force = l' }
 
   in_order : (marks : List Bool) (number from : ℕ) (f : EntryAt) → AreAmong p q marks → (x : Placed marks number f) → IsFrom number from → from ≤ x.place
@@ -217,7 +237,16 @@ module _ (p q : Parts) where
   none_copied k from marks h i e other a =
       let f = present q.entries k h in
       let x = placed other a k f.0 f.1 in
-      let n = is_next k from x.place (record { copy = f.0; holds = f.1; entry = x.entry; here = x.here; force = x.force; order = in_order other k from f.0 a x i.from_is; same = of_copy x.entry f.0 x.copied }) in
+      let n = is_next k from x.place (record {
+        copy = f.0;
+        holds = f.1;
+        entry = x.entry;
+        here = x.here;
+        force = x.force;
+        order = in_order other k from f.0 a x i.from_is;
+        same = of_copy x.entry f.0
+            x.copied;
+      }) in
       (let z : None ≡ Some x.place = sym e ∙ n in cc)
 
   all_of : {X : Type 0} (xs : List X) (n : ℕ) → length xs ≤ n → take n xs ≡ xs

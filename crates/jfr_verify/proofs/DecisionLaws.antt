@@ -101,7 +101,8 @@ dec_text : (a b : List ℕ) → Dec (a ≡ b)
 dec_text = dec_list dec_nat
 
 dec_shape : (s t : Shape) → Dec (s ≡ t)
-dec_shape s t = dec_map join (λ q. (ap (λ (z : Shape). z.class) q, (ap (λ (z : Shape). z.constant) q, ap (λ (z : Shape). z.array) q))) (dec_both (dec_nat s.class t.class) (dec_both (dec_bool s.constant t.constant) (dec_bool s.array t.array)))
+dec_shape s t = dec_map join (λ q. (ap (λ (z : Shape). z.class) q, (ap (λ (z : Shape). z.constant) q, ap (λ (z : Shape). z.array) q)))
+    (dec_both (dec_nat s.class t.class) (dec_both (dec_bool s.constant t.constant) (dec_bool s.array t.array)))
   where
     made : ℕ → Bool → Bool → Shape
     made a b c = record { class = a; constant = b; array = c }
@@ -119,8 +120,12 @@ dec_field f g = dec_map join (λ q. (ap (λ (z : Field). z.name) q, ap (λ (z : 
     join z = ap (λ w. made w f.shape) z.0 ∙ ap (made g.name) z.1
 
 pub dec_class : (c d : Class) → Dec (c ≡ d)
-dec_class c d = dec_map join (λ q. (ap (λ (z : Class). z.id) q, (ap (λ (z : Class). z.name) q, (ap (λ (z : Class). z.super_name) q, (ap (λ (z : Class). z.fields) q, ap (λ (z : Class). z.categories) q)))))
-    (dec_both (dec_nat c.id d.id) (dec_both (dec_text c.name d.name) (dec_both (dec_option dec_text c.super_name d.super_name) (dec_both (dec_list dec_field c.fields d.fields) (dec_list dec_text c.categories d.categories)))))
+dec_class c d = dec_map join (λ q. (
+  ap (λ (z : Class). z.id) q,
+  (ap (λ (z : Class). z.name) q, (ap (λ (z : Class). z.super_name) q, (ap (λ (z : Class). z.fields) q, ap (λ (z : Class). z.categories) q))),
+))
+    (dec_both (dec_nat c.id d.id) (dec_both (dec_text c.name d.name)
+    (dec_both (dec_option dec_text c.super_name d.super_name) (dec_both (dec_list dec_field c.fields d.fields) (dec_list dec_text c.categories d.categories)))))
   where
     made : ℕ → List ℕ → Option (List ℕ) → List Field → List (List ℕ) → Class
     made a b s f g = record { id = a; name = b; super_name = s; fields = f; categories = g }

@@ -34,7 +34,8 @@ event_stands p n e w a g =
     record { order = omega arith; within = r.within; small = omega (arith, r.within, s) }
 
 -- If the record of an event has this number, it lies in the chunk.
-pub record_stands : (p : Parts) (n at : ℕ) (r : Framed) → Whole p.bytes → AreParts p → option_map (slice_get p.records) (Some at) ≡ option_map (λ e. Some e.record_of) (slice_get (events_of p) n) → Some r ≡ slice_get p.records at → Stands p r
+pub record_stands : (p : Parts) (n at : ℕ) (r : Framed) → Whole p.bytes → AreParts p → option_map (slice_get p.records) (Some at) ≡ option_map (λ e. Some e.record_of) (slice_get (events_of p) n)
+    → Some r ≡ slice_get p.records at → Stands p r
 record_stands p n at r w a h g = by_event (slice_get (events_of p) n) refl h
   where
     by_event : (o : Option EventAt) → slice_get (events_of p) n ≡ o → option_map (slice_get p.records) (Some at) ≡ option_map (λ e. Some e.record_of) o → Stands p r
@@ -101,7 +102,8 @@ module _ (p q : Parts) (flags : List Bool) where
   contents_more (x ∷ xs) e rest = ap (λ z. content p x ∷ z) (contents_more xs e rest)
 
   -- One more kept event, with all that follow.
-  marked_after : (ms : List Bool) (xs : List EventAt) (n : ℕ) (e : EventAt) → slice_get ms n ≡ Some true → slice_get xs n ≡ Some e → (rest : List EventAt) × (marked ms xs ≡ marked (take n ms) (take n xs) ++ e ∷ rest)
+  marked_after : (ms : List Bool) (xs : List EventAt) (n : ℕ) (e : EventAt) → slice_get ms n ≡ Some true → slice_get xs n ≡ Some e
+      → (rest : List EventAt) × (marked ms xs ≡ marked (take n ms) (take n xs) ++ e ∷ rest)
   marked_after [] xs n e m g = cc
   marked_after (m ∷ ms) [] n e t g = cc
   marked_after (true ∷ ms) (x ∷ xs) zero e m g = let h : x ≡ e = cc in (marked ms xs, ap (λ z. z ∷ marked ms xs) h)
@@ -122,11 +124,14 @@ module _ (p q : Parts) (flags : List Bool) where
   pub same_next : (n at next : ℕ) → n < length flags → length flags ≡ length (events_of p) → InSame n at → next_event p q flags n at ≡ Some next → InSame (n + 1) next
   same_next n at next h s i e = by_flag (slice_get flags n) refl e
     where
-      by_same : (x : EventAt) (b : Bool) → slice_get (events_of p) n ≡ Some x → slice_get flags n ≡ Some true → same_event p q n at ≡ b → (if b then Some (at + 1) else None) ≡ Some next → InSame (n + 1) next
+      by_same : (x : EventAt) (b : Bool) → slice_get (events_of p) n ≡ Some x → slice_get flags n ≡ Some true → same_event p q n at ≡ b → (if b then Some (at + 1) else None) ≡ Some next
+          → InSame (n + 1) next
       by_same x false g f b e = cc
       by_same x true g f b e =
-          let o : slice_get wanted at ≡ Some (content p x) = wanted_at at ∙ both_is (content p x) (option_map (content q) (slice_get (events_of q) at)) (sym (ap (λ z. both_same (option_map (content p) z) (option_map (content q) (slice_get (events_of q) at))) g) ∙ b) in
-          let k : contents p (first (suc n)) ≡ take (at + 1) wanted = ap (contents p) (marked_one flags (events_of p) n true x f g) ∙ (contents_more (first n) x [] ∙ (ap (λ z. z ++ content p x ∷ []) i.same ∙ sym (take_next wanted at (content p x) o))) in
+          let o : slice_get wanted at ≡ Some (content p x) = wanted_at at ∙ both_is (content p x) (option_map (content q) (slice_get (events_of q) at))
+          (sym (ap (λ z. both_same (option_map (content p) z) (option_map (content q) (slice_get (events_of q) at))) g) ∙ b) in
+          let k : contents p (first (suc n)) ≡ take (at + 1) wanted =
+          ap (contents p) (marked_one flags (events_of p) n true x f g) ∙ (contents_more (first n) x [] ∙ (ap (λ z. z ++ content p x ∷ []) i.same ∙ sym (take_next wanted at (content p x) o))) in
           let l : at + 1 ≡ next = cc in
           let w : at < length wanted = slice_get_within wanted at (content p x) o in
           record {
@@ -152,9 +157,11 @@ module _ (p q : Parts) (flags : List Bool) where
       by_same x true g f b e = cc
       by_same x false g f b e =
           let r = marked_after flags (events_of p) n x f g in
-          let k : take at wanted ++ content p x ∷ contents p r.0 ≡ wanted = ap (λ z. z ++ content p x ∷ contents p r.0) (sym i.same) ∙ (sym (contents_more (first n) x r.0) ∙ (sym (ap (contents p) r.1) ∙ all)) in
+          let k : take at wanted ++ content p x ∷ contents p r.0 ≡ wanted =
+          ap (λ z. z ++ content p x ∷ contents p r.0) (sym i.same) ∙ (sym (contents_more (first n) x r.0) ∙ (sym (ap (contents p) r.1) ∙ all)) in
           let o : slice_get wanted at ≡ Some (content p x) = ap (λ z. slice_get z at) (sym k) ∙ get_after wanted at (content p x) (contents p r.0) i.within in
-          let t : same_event p q n at ≡ true = ap (λ z. both_same (option_map (content p) z) (option_map (content q) (slice_get (events_of q) at))) g ∙ (ap (both_same (Some (content p x))) (sym (wanted_at at) ∙ o) ∙ is_self (content p x)) in
+          let t : same_event p q n at ≡ true = ap (λ z. both_same (option_map (content p) z) (option_map (content q) (slice_get (events_of q) at))) g
+          ∙ (ap (both_same (Some (content p x))) (sym (wanted_at at) ∙ o) ∙ is_self (content p x)) in
           (let z : false ≡ true = sym b ∙ t in cc)
 
       by_flag : (o : Option Bool) → slice_get flags n ≡ o → (if unwrap_or o false then (if same_event p q n at then Some (at + 1) else None) else Some at) ≡ None → ⊥

@@ -23,6 +23,7 @@ all_in_force p q marks a number l =
     let i : IsInForce p.entries k.place = a.in_force k.place k.is_marked in
     let w : i.entry ≡ c.0 = (let x : slice_get p.entries k.place ≡ Some i.entry = i.holds in cc) in
     let t : number_in_force p.entries (c.0.class, c.0.key) ≡ Some k.place = subst (λ (z : EntryAt). number_in_force p.entries (z.class, z.key) ≡ Some k.place) w i.last in
-    let h : number_in_force q.entries (c.0.class, c.0.key) ≡ Some number = sym (copied_force p q (marked marks p.entries) q.entries (c.0.class, c.0.key) a.copied) ∙ (marked_force marks p.entries (c.0.class, c.0.key) k.place t k.is_marked ∙ ap (λ z. Some z) k.number_is) in
+    let h : number_in_force q.entries (c.0.class, c.0.key) ≡ Some number = sym (copied_force p q (marked marks p.entries) q.entries (c.0.class, c.0.key) a.copied)
+    ∙ (marked_force marks p.entries (c.0.class, c.0.key) k.place t k.is_marked ∙ ap (λ z. Some z) k.number_is) in
     let u : number_in_force q.entries (f.0.class, c.0.key) ≡ Some number = subst (λ z. number_in_force q.entries (z, c.0.key) ≡ Some number) c.2.class h in
     record { entry = f.0; holds = f.1; last = subst (λ z. number_in_force q.entries (f.0.class, z) ≡ Some number) c.2.key u }

@@ -102,7 +102,8 @@ module _ (p : Parts) (keep : List Bool) where
         lines = ap (λ z. items ++ event_lines p flags rank z) (sym k) ∙ h.lines;
       }
 
-  pub in_kept_ends : (n rank : ℕ) (flags : List Bool) (items : List Line) → length keep ≤ n → InKept n rank flags items → (flags ≡ marked_at (no_marks p) (roots p (kept_by p keep))) × (items ≡ event_lines p (no_marks p) 0 (kept_by p keep))
+  pub in_kept_ends : (n rank : ℕ) (flags : List Bool) (items : List Line) → length keep ≤ n → InKept n rank flags items
+      → (flags ≡ marked_at (no_marks p) (roots p (kept_by p keep))) × (items ≡ event_lines p (no_marks p) 0 (kept_by p keep))
   in_kept_ends n rank flags items l h =
       let k : from n ≡ [] = none_from keep (events_of p) n l in
       (ap (λ z. marked_at flags (roots p z)) (sym k) ∙ h.marks, sym (append-nil items) ∙ (ap (λ z. items ++ event_lines p flags rank z) (sym k) ∙ h.lines))
@@ -141,6 +142,7 @@ refers_within {A = A} f keep es n x h = by_event (kept_at keep es n) refl h
     by_event (Some e) k h = kept_within keep es n e k
 
 -- All the lines of the kept events.
-pub kept_lines_end : (p : Parts) (kept : List EventAt) (flags : List Bool) (first items : List Line) → flags ≡ marked_at (no_marks p) (roots p kept) → first ≡ event_lines p (no_marks p) 0 kept → items ≡ lines_from (length p.entries) p flags first → items ≡ kept_lines p kept
+pub kept_lines_end : (p : Parts) (kept : List EventAt) (flags : List Bool) (first items : List Line) → flags ≡ marked_at (no_marks p) (roots p kept) → first ≡ event_lines p (no_marks p) 0 kept
+    → items ≡ lines_from (length p.entries) p flags first → items ≡ kept_lines p kept
 unfolding kept_lines
 kept_lines_end p kept flags first items a b e = e ∙ (ap (λ z. lines_from (length p.entries) p z first) a ∙ ap (lines_from (length p.entries) p (marked_at (no_marks p) (roots p kept))) b)

@@ -47,7 +47,8 @@ module _ (p : Parts) where
   IsParented before parent n = (more : List ℕ) → ((i : ℕ) → In before i → In more i) → IsParent p more parent n
 
   -- New lines are valid.
-  new_valid : (before : List ℕ) (marks : List Bool) (parent : Parent) (n : NodeAt) (is : List ℕ) → IsParented before parent n → ((i : ℕ) → In is i → In (node_entries p.entries p.classes p.bytes n) i) → ((i : ℕ) → In is i → i < length marks) → ((i : ℕ) → In before i → IsMarked marks i) → AreValidLines p before (new_lines marks parent is)
+  new_valid : (before : List ℕ) (marks : List Bool) (parent : Parent) (n : NodeAt) (is : List ℕ) → IsParented before parent n → ((i : ℕ) → In is i → In (node_entries p.entries p.classes p.bytes n) i)
+      → ((i : ℕ) → In is i → i < length marks) → ((i : ℕ) → In before i → IsMarked marks i) → AreValidLines p before (new_lines marks parent is)
   new_valid before marks parent n [] r f u b = tt
   new_valid before marks parent n (i ∷ is) r f u b = by_mark (is_marked marks i) refl
       (new_valid before (slice_set marks i true) parent n is r (λ j k. f j (inr k)) below (λ j k. set_stays marks i j (b j k)))
@@ -70,14 +71,23 @@ module _ (p : Parts) where
       line e =
           let t = in_those (number_in_force p.entries) (targets p.classes p.bytes n) i (f i (inl refl)) in
           let l : IsLast p.entries t.0 i = (last_is p.entries t.0 i).0 t.2 in
-          record { fresh = λ k. clash (is_marked marks i) (b i (contains_in before i k)) e; entry = l.entry; there = l.holds; node = n; parent = r before (λ j k. k); refers = subst (Contains (targets p.classes p.bytes n)) (sym l.has) (in_contains (targets p.classes p.bytes n) t.0 t.1) }
+          record {
+            fresh = λ k. clash (is_marked marks i) (b i (contains_in before i k)) e;
+            entry = l.entry;
+            there = l.holds;
+            node = n;
+            parent = r before (λ j k. k);
+            refers = subst
+                (Contains (targets p.classes p.bytes n)) (sym l.has) (in_contains (targets p.classes p.bytes n) t.0 t.1);
+          }
 
       by_mark : (b : Bool) → is_marked marks i ≡ b → Rest before → Rest (i ∷ before) → AreValidLines p before (new_lines marks parent (i ∷ is))
       by_mark true e x y = rw e x
       by_mark false e x y = rw e (line e, y)
 
   -- What has a line is marked.
-  new_after : (before : List ℕ) (marks : List Bool) (parent : Parent) (is : List ℕ) → ((i : ℕ) → In is i → i < length marks) → ((i : ℕ) → In before i → IsMarked marks i) → (i : ℕ) → In (after before (new_lines marks parent is)) i → IsMarked (marked_at marks is) i
+  new_after : (before : List ℕ) (marks : List Bool) (parent : Parent) (is : List ℕ) → ((i : ℕ) → In is i → i < length marks) → ((i : ℕ) → In before i → IsMarked marks i) → (i : ℕ)
+      → In (after before (new_lines marks parent is)) i → IsMarked (marked_at marks is) i
   new_after before marks parent [] u b i k = b i k
   new_after before marks parent (j ∷ is) u b i k = by_mark (is_marked marks j) refl k
       (new_after before (slice_set marks j true) parent is below (λ i k. set_stays marks j i (b i k)) i)
@@ -110,7 +120,8 @@ module _ (p : Parts) where
       by_new (inl k) = inl k
       by_new (inr k) = inr (inl k)
 
-      by_mark : (b : Bool) → is_marked marks j ≡ b → IsMarked (slice_set marks j true) i ⊎ In (entries (new_lines (slice_set marks j true) parent is)) i → IsMarked marks i ⊎ In (entries (new_lines marks parent (j ∷ is))) i
+      by_mark : (b : Bool) → is_marked marks j ≡ b → IsMarked (slice_set marks j true) i ⊎ In (entries (new_lines (slice_set marks j true) parent is)) i
+          → IsMarked marks i ⊎ In (entries (new_lines marks parent (j ∷ is))) i
       by_mark true e (inl k) = inl (by_set (set_only marks j i k) e)
       by_mark true e (inr k) = rw e (inr k)
       by_mark false e (inl k) = rw e (by_new (set_only marks j i k))
@@ -118,12 +129,15 @@ module _ (p : Parts) where
 
   new_count : (marks : List Bool) (parent : Parent) (is : List ℕ) → ((i : ℕ) → In is i → i < length marks) → marked_count (marked_at marks is) ≡ marked_count marks + length (new_lines marks parent is)
   new_count marks parent [] f = omega arith
-  new_count marks parent (j ∷ is) f = by_mark (is_marked marks j) refl (new_count (slice_set marks j true) parent is (λ i k. (let l : length (slice_set marks j true) ≡ length marks = length-set marks j true in let h : i < length marks = f i (inr k) in omega arith)))
+  new_count marks parent (j ∷ is) f = by_mark (is_marked marks j) refl
+      (new_count (slice_set marks j true) parent is
+      (λ i k. (let l : length (slice_set marks j true) ≡ length marks = length-set marks j true in let h : i < length marks = f i (inr k) in omega arith)))
     where
       rest : ℕ
       rest = length (new_lines (slice_set marks j true) parent is)
 
-      by_mark : (b : Bool) → is_marked marks j ≡ b → marked_count (marked_at (slice_set marks j true) is) ≡ marked_count (slice_set marks j true) + rest → marked_count (marked_at (slice_set marks j true) is) ≡ marked_count marks + length (new_lines marks parent (j ∷ is))
+      by_mark : (b : Bool) → is_marked marks j ≡ b → marked_count (marked_at (slice_set marks j true) is) ≡ marked_count (slice_set marks j true) + rest
+          → marked_count (marked_at (slice_set marks j true) is) ≡ marked_count marks + length (new_lines marks parent (j ∷ is))
       by_mark true e k = rw e (k ∙ ap (λ z. marked_count z + rest) (set_old marks j e))
       by_mark false e k = let c : marked_count (slice_set marks j true) ≡ marked_count marks + 1 = count_set marks j (f j (inl refl)) e in rw e (omega (arith, k, c))
 
@@ -141,7 +155,8 @@ module _ (p : Parts) where
   making_more before marks ls parent n r m =
       let is : List ℕ = node_entries p.entries p.classes p.bytes n in
       let new : List Line = new_lines marks parent is in
-      let b : (i : ℕ) → In is i → i < length marks = λ i k. (let t = in_those (number_in_force p.entries) (targets p.classes p.bytes n) i k in let w = force_within p.entries t.0 i t.2 in omega (arith, m.size)) in
+      let b : (i : ℕ) → In is i → i < length marks =
+      λ i k. (let t = in_those (number_in_force p.entries) (targets p.classes p.bytes n) i k in let w = force_within p.entries t.0 i t.2 in omega (arith, m.size)) in
       let c = new_count marks parent is b in
       record {
         size = all_size marks is ∙ m.size;
@@ -157,18 +172,22 @@ module _ (p : Parts) where
         where
           by_old : In before i ⊎ In (entries ls) i → In before i ⊎ In (entries (ls ++ new_lines marks parent (node_entries p.entries p.classes p.bytes n))) i
           by_old (inl j) = inl j
-          by_old (inr j) = inr (subst (λ z. In z i) (sym (entries_append ls (new_lines marks parent (node_entries p.entries p.classes p.bytes n)))) (in_left (entries ls) (entries (new_lines marks parent (node_entries p.entries p.classes p.bytes n))) i j))
-      by_case i (inr k) = inr (subst (λ z. In z i) (sym (entries_append ls (new_lines marks parent (node_entries p.entries p.classes p.bytes n)))) (in_right (entries ls) (entries (new_lines marks parent (node_entries p.entries p.classes p.bytes n))) i k))
+          by_old (inr j) = inr (subst (λ z. In z i) (sym (entries_append ls (new_lines marks parent (node_entries p.entries p.classes p.bytes n))))
+              (in_left (entries ls) (entries (new_lines marks parent (node_entries p.entries p.classes p.bytes n))) i j))
+      by_case i (inr k) = inr (subst (λ z. In z i) (sym (entries_append ls (new_lines marks parent (node_entries p.entries p.classes p.bytes n))))
+          (in_right (entries ls) (entries (new_lines marks parent (node_entries p.entries p.classes p.bytes n))) i k))
 
   -- The lines for events.
-  making_events : (marks : List Bool) (ls : List Line) (number : ℕ) (es : List EventAt) → ((i : ℕ) (e : EventAt) → slice_get es i ≡ Some e → slice_get (events_of p) (number + i) ≡ Some e) → Making [] marks ls
+  making_events : (marks : List Bool) (ls : List Line) (number : ℕ) (es : List EventAt) → ((i : ℕ) (e : EventAt) → slice_get es i ≡ Some e → slice_get (events_of p) (number + i) ≡ Some e)
+      → Making [] marks ls
       → Making [] (marked_at marks (roots p es)) (ls ++ event_lines p marks number es)
   making_events marks ls number [] f m = subst (Making [] marks) (sym (append-nil ls)) m
   making_events marks ls number (e ∷ es) f m =
       let is : List ℕ = node_entries p.entries p.classes p.bytes e.node in
       let new : List Line = new_lines marks (OfEvent number) is in
       let k = making_more [] marks ls (OfEvent number) e.node (λ more g. (e, (let q : number + 0 ≡ number = omega arith in ap (slice_get (events_of p)) (sym q) ∙ f 0 e refl), refl)) m in
-      let j = making_events (marked_at marks is) (ls ++ new) (suc number) es (λ i x q. (let w : number + suc i ≡ suc number + i = omega arith in ap (slice_get (events_of p)) (sym w) ∙ f (suc i) x q)) k in
+      let j = making_events (marked_at marks is) (ls ++ new) (suc number) es (λ i x q. (let w : number + suc i ≡ suc number + i = omega arith in ap (slice_get (events_of p)) (sym w) ∙ f (suc i) x q))
+      k in
       let r : roots p (e ∷ es) ≡ is ++ roots p es = those_append (number_in_force p.entries) (targets p.classes p.bytes e.node) (all_targets p (nodes_of es)) in
       let s : marked_at marks (roots p (e ∷ es)) ≡ marked_at (marked_at marks is) (roots p es) = ap (marked_at marks) r ∙ all_append marks is (roots p es) in
       subst (λ z. Making [] z (ls ++ event_lines p marks number (e ∷ es))) (sym s)
@@ -203,17 +222,20 @@ module _ (p : Parts) where
       let n : ℕ = length p.entries in
       let size : length (no_marks p) ≡ n = length-replicate n false in
       record {
-        making = making_events (no_marks p) [] 0 (events_of p) (λ i e q. (let z : 0 + i ≡ i = omega arith in ap (slice_get (events_of p)) z ∙ q)) (record { size = size; counted = count_none n; listed = λ i k. absurd (none_marked n i k); all_marked = λ i k. absurd k; valid = tt });
+        making = making_events (no_marks p) [] 0 (events_of p) (λ i e q. (let z : 0 + i ≡ i = omega arith in ap (slice_get (events_of p)) z ∙ q))
+            (record { size = size; counted = count_none n; listed = λ i k. absurd (none_marked n i k); all_marked = λ i k. absurd k; valid = tt });
         rooted = λ i k. all_here (no_marks p) (roots p (events_of p)) i (let b = targets_below (all_targets p (nodes_of (events_of p))) i k in omega arith) k;
         closed = λ j k. absurd k;
       }
 
   -- The entry of one more line was looked at: its targets are those of its node.
-  going_next : (before : List ℕ) (marks : List Bool) (l : Line) (ls : List Line) → Going before marks (l ∷ ls) → Going (l.entry ∷ before) (marked_at marks (next_entries p l.entry)) (ls ++ new_lines marks (OfEntry l.entry) (next_entries p l.entry))
+  going_next : (before : List ℕ) (marks : List Bool) (l : Line) (ls : List Line) → Going before marks (l ∷ ls)
+      → Going (l.entry ∷ before) (marked_at marks (next_entries p l.entry)) (ls ++ new_lines marks (OfEntry l.entry) (next_entries p l.entry))
   going_next before marks l ls g =
       let h : IsValidLine p before l = g.making.valid.0 in
       let e : EntryAt = h.entry in
-      let q : next_entries p l.entry ≡ node_entries p.entries p.classes p.bytes (entry_node e) = ap (λ o. those (number_in_force p.entries) (option_map_or (λ e. targets p.classes p.bytes (entry_node e)) o [])) h.there in
+      let q : next_entries p l.entry ≡ node_entries p.entries p.classes p.bytes (entry_node e) =
+      ap (λ o. those (number_in_force p.entries) (option_map_or (λ e. targets p.classes p.bytes (entry_node e)) o [])) h.there in
       let m = making_more (l.entry ∷ before) marks ls (OfEntry l.entry) (entry_node e)
       (λ more f. (e, in_contains more l.entry (f l.entry (in_after (l.entry ∷ before) ls l.entry (inl refl))), h.there, refl)) (making_next before marks l ls g.making) in
       record {

@@ -26,10 +26,12 @@ class_by c d a b e f g = λ i. record { id = a i; name = b i; super_name = e i; 
 
 module _ (xs ys : List (List ℕ)) (c d : Class) (m n : ClassNames) (by_m : IsNamedBy xs c m) (by_n : IsNamedBy ys d n) where
   -- The last part decides.
-  pub classes_decided : c.id ≡ d.id → map (λ f. f.shape) c.fields ≡ map (λ f. f.shape) d.fields → text_at xs m.name ≡ text_at ys n.name → option_map (text_at xs) m.super_name ≡ option_map (text_at ys) n.super_name
+  pub classes_decided : c.id ≡ d.id → map (λ f. f.shape) c.fields ≡ map (λ f. f.shape) d.fields → text_at xs m.name ≡ text_at ys n.name
+      → option_map (text_at xs) m.super_name ≡ option_map (text_at ys) n.super_name
       → map (text_at xs) m.fields.items ≡ map (text_at ys) n.fields.items → (r : Bool) → Decided (map (text_at xs) m.categories.items ≡ map (text_at ys) n.categories.items) r → Decided (c ≡ d) r
   classes_decided a b e f g true h =
-      class_by c d a (sym by_m.name ∙ (e ∙ by_n.name)) (sym by_m.super_name ∙ (f ∙ by_n.super_name)) (fields_by c.fields d.fields (sym by_m.fields ∙ (g ∙ by_n.fields)) b) (sym by_m.categories ∙ (h ∙ by_n.categories))
+      class_by c d a (sym by_m.name ∙ (e ∙ by_n.name)) (sym by_m.super_name ∙ (f ∙ by_n.super_name)) (fields_by c.fields d.fields (sym by_m.fields ∙ (g ∙ by_n.fields)) b)
+      (sym by_m.categories ∙ (h ∙ by_n.categories))
   classes_decided a b e f g false h = λ q. h (by_m.categories ∙ (ap (λ (z : Class). z.categories) q ∙ sym by_n.categories))
 
 -- The facts of each class.

@@ -54,7 +54,8 @@ opened_at name c w s n g h =
     some_at (file w name) x.0 (λ y. HasUnread c (λ k. recording_of y ≡ k) w (opened name w)) x.1 (opened_left c x.0 name w s n g x.1)
 
 -- So it is on a place whose files contracts may see.
-pub open_told : (name : List ℕ) (c : Cutter) (b a : Option World) → c.start ≡ 0 → c.number ≡ 1 → c.given ≡ false → IfSome b (λ w. IsSome (file w name)) → a ≡ option_map (opened name) b → IfKnown b a (OpenedIn name (Ok c))
+pub open_told : (name : List ℕ) (c : Cutter) (b a : Option World) → c.start ≡ 0 → c.number ≡ 1 → c.given ≡ false → IfSome b (λ w. IsSome (file w name)) → a ≡ option_map (opened name) b
+    → IfKnown b a (OpenedIn name (Ok c))
 open_told name c None a s n g h e = tt
 open_told name c (Some w) a s n g h e = subst (λ (o : Option World). IfKnown (Some w) o (OpenedIn name (Ok c))) (sym e) (opened_at name c w s n g h)
 
@@ -87,24 +88,30 @@ module _ (name : List ℕ) (bs : List (Vec ℕ Global)) (c d : Cutter) (w v u : 
   pub keep_end : (made : Vec (Vec ℕ Global) Global) → made.items ≡ bs → Found c fronts.End [] v u → OutputRead name (Ok made) w u
   keep_end made same n =
       let h = end_left c d (λ z. recording_of k.bytes ≡ after_parts k.parts z) w v u k.left n in
-      let parts : (recording_of k.bytes).parts ≡ k.parts = ap (λ (z : Recording). z.parts) h.1 ∙ append-nil k.parts in
-      (h.0, some_at (file w name) k.bytes _ k.file_is (ap (λ (z : Recording). z.refusal) h.1, subst (λ z. AreOutputs made.items z) (sym parts) (subst (λ z. AreOutputs z k.parts) (sym same) k.outputs)))
+      let parts : (recording_of k.bytes).parts ≡ k.parts = ap (λ (z : Recording). z.parts) h.1 ∙ append-nil k.parts in (
+        h.0,
+        some_at (file w name) k.bytes _ k.file_is
+            (ap (λ (z : Recording). z.refusal) h.1, subst (λ z. AreOutputs made.items z) (sym parts) (subst (λ z. AreOutputs z k.parts) (sym same) k.outputs)),
+      )
 
   pub keep_refused : (r : Refusal) → r.chunk ≡ c.number → Refuses c r v u → OutputRead name (Err (Doubted r.chunk OutRefused)) w u
   keep_refused r e n =
       let h = refused_left c d (λ z. recording_of k.bytes ≡ after_parts k.parts z) w v u k.left r e n in
       (h.0, some_at (file w name) k.bytes _ k.file_is (some_at (recording_of k.bytes).refusal r (λ z. z.chunk ≡ r.chunk) (ap (λ (z : Recording). z.refusal) h.1) refl))
 
-  keep_flawed : (flaw : Flaw) (bytes : List ℕ) (number : ℕ) → bytes ≡ d.bytes → number + 1 ≡ d.number → GaveChunk c d → Found c (fronts.Chunk d.bytes) d.bytes v u → read_parts bytes ≡ Err flaw → OutputRead name (Err (Doubted number OutRefused)) w u
+  keep_flawed : (flaw : Flaw) (bytes : List ℕ) (number : ℕ) → bytes ≡ d.bytes → number + 1 ≡ d.number → GaveChunk c d → Found c (fronts.Chunk d.bytes) d.bytes v u → read_parts bytes ≡ Err flaw
+      → OutputRead name (Err (Doubted number OutRefused)) w u
   keep_flawed flaw bytes number same e gave n read =
       let h = next_left c d (λ z. recording_of k.bytes ≡ after_parts k.parts z) w v u k.left gave n in
       let fails : read_parts d.bytes ≡ Err flaw = ap read_parts (sym same) ∙ read in
       let at : number ≡ c.number = let f : d.number ≡ c.number + 1 = gave.number in omega (arith, e, f) in
-      let refusal : (recording_of k.bytes).refusal ≡ Some (at_chunk c.number flaw) = ap (λ (z : Recording). z.refusal) (h.claim ∙ ap (λ r. after_parts k.parts (read_on c.number r (unread_recording d h.unread))) fails) in
+      let refusal : (recording_of k.bytes).refusal ≡ Some (at_chunk c.number flaw) =
+      ap (λ (z : Recording). z.refusal) (h.claim ∙ ap (λ r. after_parts k.parts (read_on c.number r (unread_recording d h.unread))) fails) in
       (h.same, some_at (file w name) k.bytes _ k.file_is (some_at (recording_of k.bytes).refusal (at_chunk c.number flaw) (λ z. z.chunk ≡ number) refusal (sym at)))
 
   -- The chunk isn't kept.
-  pub keep_stopped : (fault : readings.ReadFault) (x : Verdict) (bytes : List ℕ) (number : ℕ) → x ≡ after_output number fault → bytes ≡ d.bytes → number + 1 ≡ d.number → GaveChunk c d → Found c (fronts.Chunk d.bytes) d.bytes v u → TellsFlaw (read_parts bytes) fault → OutputRead name (Err x) w u
+  pub keep_stopped : (fault : readings.ReadFault) (x : Verdict) (bytes : List ℕ) (number : ℕ) → x ≡ after_output number fault → bytes ≡ d.bytes → number + 1 ≡ d.number → GaveChunk c d
+      → Found c (fronts.Chunk d.bytes) d.bytes v u → TellsFlaw (read_parts bytes) fault → OutputRead name (Err x) w u
   keep_stopped (faults.Flawed flaw) x bytes number is same e gave n read = subst (λ z. OutputRead name (Err z) w u) (sym is) (keep_flawed flaw bytes number same e gave n read)
   keep_stopped faults.Memory x bytes number is same e gave n read = subst (λ z. OutputRead name (Err z) w u) (sym is) ((n.took.files ∙ k.left.same.0, n.took.output ∙ k.left.same.1), tt)
 

@@ -106,7 +106,12 @@ module _ (count : ℕ) (ls : List Line) (seen : List Bool) (parents : List Paren
       by_flag (Some true) q e = cc
       by_flag (Some false) q e =
           let w = slice_get_within seen l.entry false q in
-          record { below = omega (arith, w, h.size); fresh = λ k. clash (is_marked seen l.entry) (h.in_marked l.entry (contains_in (after [] ls) l.entry k)) (get_index seen l.entry false q); parent = before_is l.parent e }
+          record {
+            below = omega (arith, w, h.size);
+            fresh = λ k. clash (is_marked seen l.entry) (h.in_marked l.entry (contains_in (after [] ls) l.entry k))
+                (get_index seen l.entry false q);
+            parent = before_is l.parent e;
+          }
 
   pub ordered_next : IsOrdered count (after [] ls) l → is_next seen l ≡ true
   ordered_next i =
@@ -149,13 +154,16 @@ module _ (count : ℕ) (ls : List Line) (seen : List Bool) (parents : List Paren
       by_own m (inl k) = get_other parents l.entry m.entry l.parent (λ e. i.fresh (in_contains (after [] ls) l.entry (subst (In (after [] ls)) e (member_after [] ls m k)))) ∙ h.own m k
       by_own m (inr e) = subst (λ (z : Line). slice_get (slice_set parents l.entry l.parent) z.entry ≡ Some z.parent) e (get_same parents l.entry l.parent (omega (arith, i.below, h.parents_size)))
 
-pub owners_next : (count : ℕ) (all : List Line) (k : ℕ) (l : Line) (seen more : List Bool) (parents now : List Parent) → slice_get all k ≡ Some l → InOwners count (take k all) seen parents → is_next seen l ≡ true
+pub owners_next : (count : ℕ) (all : List Line) (k : ℕ) (l : Line) (seen more : List Bool) (parents now : List Parent) → slice_get all k ≡ Some l → InOwners count (take k all) seen parents
+    → is_next seen l ≡ true
     → more ≡ slice_set seen l.entry true → now ≡ slice_set parents l.entry l.parent → InOwners count (take (k + 1) all) more now
 owners_next count all k l seen more parents now g h e a b =
-    subst (λ z. InOwners count z more now) (sym (take_next all k l g)) (subst (λ z. InOwners count (take k all ++ l ∷ []) z now) (sym a) (subst (InOwners count (take k all ++ l ∷ []) (slice_set seen l.entry true)) (sym b)
+    subst (λ z. InOwners count z more now) (sym (take_next all k l g))
+    (subst (λ z. InOwners count (take k all ++ l ∷ []) z now) (sym a) (subst (InOwners count (take k all ++ l ∷ []) (slice_set seen l.entry true)) (sym b)
     (owners_one count (take k all) seen parents h l (next_ordered count (take k all) seen parents h l e))))
 
-pub owners_stop : (count : ℕ) (all : List Line) (k : ℕ) (l : Line) (seen : List Bool) (parents : List Parent) → slice_get all k ≡ Some l → InOwners count (take k all) seen parents → is_next seen l ≡ false → AreOrdered count [] all → ⊥
+pub owners_stop : (count : ℕ) (all : List Line) (k : ℕ) (l : Line) (seen : List Bool) (parents : List Parent) → slice_get all k ≡ Some l → InOwners count (take k all) seen parents
+    → is_next seen l ≡ false → AreOrdered count [] all → ⊥
 owners_stop count all k l seen parents g h e a = no (is_next seen l) (ordered_next count (take k all) seen parents h l (ordered_at count [] all k l a g)) e
   where
     no : (t : Bool) → t ≡ true → t ≡ false → ⊥
@@ -174,7 +182,8 @@ all_of [] n e = by_number n
 all_of (x ∷ xs) zero e = cc
 all_of (x ∷ xs) (suc n) e = ap (λ z. x ∷ z) (all_of xs n (omega arith))
 
-pub owners_end : (count : ℕ) (all : List Line) (k : ℕ) (seen : List Bool) (parents : List Parent) → k ≡ length all → InOwners count (take k all) seen parents → AreOrdered count [] all × AreParentsOf parents all × (length parents ≡ count)
+pub owners_end : (count : ℕ) (all : List Line) (k : ℕ) (seen : List Bool) (parents : List Parent) → k ≡ length all → InOwners count (take k all) seen parents
+    → AreOrdered count [] all × AreParentsOf parents all × (length parents ≡ count)
 owners_end count all k seen parents e h =
     let i = subst (λ z. InOwners count z seen parents) (all_of all k (sym e)) h in
     (i.ordered, all_own parents all i.own, i.parents_size)

@@ -84,7 +84,8 @@ is_read r n count ls e l =
 abbrev line_entries : List Line → List ℕ
 line_entries ls = map (λ l. l.entry) ls
 
-ordered_count : (count : ℕ) (before : List ℕ) (marks : List Bool) (ls : List Line) → length marks ≡ count → ((i : ℕ) → IsMarked marks i → In before i) → AreOrdered count before ls → marked_count (marked_at marks (line_entries ls)) ≡ marked_count marks + length ls
+ordered_count : (count : ℕ) (before : List ℕ) (marks : List Bool) (ls : List Line) → length marks ≡ count → ((i : ℕ) → IsMarked marks i → In before i) → AreOrdered count before ls
+    → marked_count (marked_at marks (line_entries ls)) ≡ marked_count marks + length ls
 ordered_count count before marks [] s f a = omega arith
 ordered_count count before marks (l ∷ ls) s f a =
     let u : is_marked marks l.entry ≡ false = by_mark (is_marked marks l.entry) refl in
@@ -142,11 +143,13 @@ module _ (p : Parts) where
       in_contains (targets p.classes p.bytes n) (e.class, e.key) (subst (In (targets p.classes p.bytes n)) (sym l.has ∙ ap (λ (z : EntryAt). (z.class, z.key)) q) u.1)
 
   -- The other way round, if the entry is in force.
-  key_refers : AllInForce p → (n : NodeAt) (t : ℕ) (e : EntryAt) → slice_get p.entries t ≡ Some e → Contains (targets p.classes p.bytes n) (e.class, e.key) → In (node_entries p.entries p.classes p.bytes n) t
+  key_refers : AllInForce p → (n : NodeAt) (t : ℕ) (e : EntryAt) → slice_get p.entries t ≡ Some e → Contains (targets p.classes p.bytes n) (e.class, e.key)
+      → In (node_entries p.entries p.classes p.bytes n) t
   key_refers f n t e g k =
       let i : IsInForce p.entries t = f t (slice_get_within p.entries t e g) in
       let q : i.entry ≡ e = (let z : slice_get p.entries t ≡ Some i.entry = i.holds in cc) in
-      those_in (number_in_force p.entries) (targets p.classes p.bytes n) (e.class, e.key) t (contains_in (targets p.classes p.bytes n) (e.class, e.key) k) (subst (λ (z : EntryAt). number_in_force p.entries (z.class, z.key) ≡ Some t) q i.last)
+      those_in (number_in_force p.entries) (targets p.classes p.bytes n) (e.class, e.key) t (contains_in (targets p.classes p.bytes n) (e.class, e.key) k)
+      (subst (λ (z : EntryAt). number_in_force p.entries (z.class, z.key) ≡ Some t) q i.last)
 
   next_is : (i : ℕ) (e : EntryAt) → slice_get p.entries i ≡ Some e → next_entries p i ≡ node_entries p.entries p.classes p.bytes (entry_node e)
   next_is i e g = ap (λ o. those (number_in_force p.entries) (option_map_or (λ e. targets p.classes p.bytes (entry_node e)) o [])) g
@@ -154,7 +157,8 @@ module _ (p : Parts) where
   next_some : (i t : ℕ) → In (next_entries p i) t → (e : EntryAt) × (slice_get p.entries i ≡ Some e)
   next_some i t k = by_get (slice_get p.entries i) refl k
     where
-      by_get : (o : Option EntryAt) → slice_get p.entries i ≡ o → In (those (number_in_force p.entries) (option_map_or (λ e. targets p.classes p.bytes (entry_node e)) o [])) t → (e : EntryAt) × (slice_get p.entries i ≡ Some e)
+      by_get : (o : Option EntryAt) → slice_get p.entries i ≡ o → In (those (number_in_force p.entries) (option_map_or (λ e. targets p.classes p.bytes (entry_node e)) o [])) t
+          → (e : EntryAt) × (slice_get p.entries i ≡ Some e)
       by_get None q k = absurd k
       by_get (Some e) q k = (e, q)
 
@@ -185,7 +189,11 @@ module _ (p : Parts) where
   -- The other way round.
   valid_ordered : (before : List ℕ) (ls : List Line) → AreValidLines p before ls → AreOrdered (length p.entries) before ls
   valid_ordered before [] h = tt
-  valid_ordered before (l ∷ ls) h = (record { below = slice_get_within p.entries l.entry h.0.entry h.0.there; fresh = h.0.fresh; parent = by_parent l.parent h.0.parent }, valid_ordered (l.entry ∷ before) ls h.1)
+  valid_ordered before (l ∷ ls) h = (
+    record { below = slice_get_within p.entries l.entry h.0.entry h.0.there; fresh = h.0.fresh; parent = by_parent l.parent h.0.parent },
+    valid_ordered
+        (l.entry ∷ before) ls h.1,
+  )
     where
       by_parent : (a : Parent) → IsParent p before a h.0.node → IsBefore before a
       by_parent (OfEvent i) q = tt
@@ -199,7 +207,8 @@ module _ (p : Parts) where
 
       by_parent : (a : Parent) → IsParent p before a h.node → RefersTo p a l.entry
       by_parent (OfEvent i) q = (q.0, q.1, in_contains (node_entries p.entries p.classes p.bytes q.0.node) l.entry (subst (λ z. In (node_entries p.entries p.classes p.bytes z) l.entry) (sym q.2) k))
-      by_parent (OfEntry i) q = in_contains (next_entries p i) l.entry (subst (λ z. In z l.entry) (sym (next_is i q.0 q.2)) (subst (λ z. In (node_entries p.entries p.classes p.bytes z) l.entry) (sym q.3) k))
+      by_parent (OfEntry i) q = in_contains (next_entries p i) l.entry
+          (subst (λ z. In z l.entry) (sym (next_is i q.0 q.2)) (subst (λ z. In (node_entries p.entries p.classes p.bytes z) l.entry) (sym q.3) k))
 
   all_refer : AllInForce p → (before : List ℕ) (ls : List Line) → AreValidLines p before ls → (l : Line) → In ls l → RefersTo p l.parent l.entry
   all_refer f before [] h l k = absurd k
@@ -227,7 +236,8 @@ module _ (p : Parts) where
     none_ordered g e f n s = f (subst (AreOrdered (length p.entries) []) (same_lines g n s e) (valid_ordered [] s.lines s.valid))
 
     -- A claim fails.
-    pub none_confirmed : AllInForce p → (g : Got (List Line)) (parents : List Parent) → lines_of_count r (length p.entries) ≡ Some g → AreParentsOf parents g.value → (AreConfirmed p parents → ⊥) → ReceiptPrefix p r None
+    pub none_confirmed : AllInForce p → (g : Got (List Line)) (parents : List Parent) → lines_of_count r (length p.entries) ≡ Some g → AreParentsOf parents g.value → (AreConfirmed p parents → ⊥)
+        → ReceiptPrefix p r None
     none_confirmed forced g parents e o f n s =
         let q = same_lines g n s e in
         f (λ t h. (
@@ -237,7 +247,8 @@ module _ (p : Parts) where
         (l.0.parent, v, subst (RefersTo p l.0.parent) l.2 (all_refer forced [] s.lines s.valid l.0 l.1))))
 
     -- The lines are a receipt.
-    pub some_receipt : (g : Got (List Line)) (parents : List Parent) → lines_of_count r (length p.entries) ≡ Some g → AreOrdered (length p.entries) [] g.value → AreParentsOf parents g.value → AreConfirmed p parents → ReceiptPrefix p r (Some g.place)
+    pub some_receipt : (g : Got (List Line)) (parents : List Parent) → lines_of_count r (length p.entries) ≡ Some g → AreOrdered (length p.entries) [] g.value → AreParentsOf parents g.value
+        → AreConfirmed p parents → ReceiptPrefix p r (Some g.place)
     some_receipt g parents e a o f =
         let w = was_read r (length p.entries) g e in (
           w.within,
@@ -272,10 +283,12 @@ module _ (p : Parts) where
     pub by_none : (count : ℕ) (o : Option LinesRead) → count ≡ length p.entries → option_map as_got o ≡ lines_of_count r count → o ≡ None → ReceiptPrefix p r None
     by_none count o c e q = none_read (read_for count o None c e q)
 
-    pub by_unordered : (count : ℕ) (o : Option LinesRead) (l : LinesRead) (x : Option (Vec Parent Global)) → count ≡ length p.entries → option_map as_got o ≡ lines_of_count r count → o ≡ Some l → ParentsOf count l.lines.items x → x ≡ None → ReceiptPrefix p r None
+    pub by_unordered : (count : ℕ) (o : Option LinesRead) (l : LinesRead) (x : Option (Vec Parent Global)) → count ≡ length p.entries → option_map as_got o ≡ lines_of_count r count → o ≡ Some l
+        → ParentsOf count l.lines.items x → x ≡ None → ReceiptPrefix p r None
     by_unordered count o l x c e q w n = none_ordered (as_got l) (read_for count o (Some l) c e q) (subst (λ z. AreOrdered z [] l.lines.items → ⊥) c (subst (ParentsOf count l.lines.items) n w))
 
-    pub by_confirmed : AllInForce p → (count : ℕ) (o : Option LinesRead) (l : LinesRead) (x : Option (Vec Parent Global)) (v : Vec Parent Global) (b : Bool) → count ≡ length p.entries → option_map as_got o ≡ lines_of_count r count → o ≡ Some l → ParentsOf count l.lines.items x → x ≡ Some v → Decided (AreConfirmed p v.items) b
+    pub by_confirmed : AllInForce p → (count : ℕ) (o : Option LinesRead) (l : LinesRead) (x : Option (Vec Parent Global)) (v : Vec Parent Global) (b : Bool) → count ≡ length p.entries
+        → option_map as_got o ≡ lines_of_count r count → o ≡ Some l → ParentsOf count l.lines.items x → x ≡ Some v → Decided (AreConfirmed p v.items) b
         → ReceiptPrefix p r (if b then Some l.end else None)
     by_confirmed forced count o l x v b c e q w n h = by_flag b h
       where

@@ -46,7 +46,8 @@ marked_same {X = X} (m ∷ ms) (n ∷ ns) (x ∷ xs) h = by_mark m n (h 0 (omega
     by_mark false true k e = let z : false ≡ true = k.1 refl in cc
 
 -- One more member, which is marked or not.
-pub marked_one : {X : Type 0} (ms : List Bool) (xs : List X) (n : ℕ) (b : Bool) (x : X) → slice_get ms n ≡ Some b → slice_get xs n ≡ Some x → marked (take (suc n) ms) (take (suc n) xs) ≡ marked (take n ms) (take n xs) ++ (if b then x ∷ [] else [])
+pub marked_one : {X : Type 0} (ms : List Bool) (xs : List X) (n : ℕ) (b : Bool) (x : X) → slice_get ms n ≡ Some b → slice_get xs n ≡ Some x
+    → marked (take (suc n) ms) (take (suc n) xs) ≡ marked (take n ms) (take n xs) ++ (if b then x ∷ [] else [])
 marked_one [] xs n b x f g = cc
 marked_one (m ∷ ms) [] n b x f g = cc
 marked_one {X = X} (m ∷ ms) (y ∷ xs) zero b x f g = let q : m ≡ b = cc in let r : y ≡ x = cc in by_mark b q r

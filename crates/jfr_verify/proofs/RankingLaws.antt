@@ -39,7 +39,8 @@ pub record Ranking (marks : List Bool) (n rank : ℕ) (ranks : List ℕ) : Type 
 pub ranking_starts : (marks : List Bool) (ranks : List ℕ) → ranks ≡ [] → Ranking marks 0 0 ranks
 ranking_starts marks ranks e = record { size = ap length e; each = λ i h. absurd (omega (arith, h)); count = refl }
 
-pub ranking_next : (marks : List Bool) (n rank next : ℕ) (ranks more : List ℕ) → n < length marks → Ranking marks n rank ranks → more ≡ ranks ++ rank ∷ [] → next ≡ rank + one_if (slice_index_or marks n false) → Ranking marks (n + 1) next more
+pub ranking_next : (marks : List Bool) (n rank next : ℕ) (ranks more : List ℕ) → n < length marks → Ranking marks n rank ranks → more ≡ ranks ++ rank ∷ []
+    → next ≡ rank + one_if (slice_index_or marks n false) → Ranking marks (n + 1) next more
 ranking_next marks n rank next ranks more h r e f = record {
   size = ap length e ∙ (let l = length-append ranks (rank ∷ []) in let s = r.size in omega arith);
   each = λ i k. ap (λ z. slice_index_or z i 0) e ∙ by_order i k (cases_lt i n);

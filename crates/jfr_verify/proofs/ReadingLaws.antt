@@ -57,7 +57,8 @@ module _ (r : List ℕ) where
   pub each_starts : (first count : ℕ) → first ≤ length r → InEach first count 0 first []
   each_starts first count h = record { within = h; same = (let q : count - 0 ≡ count = omega arith in ap (each_in r first) (sym q)) ∙ sym (then_nothing (each_in r first (count - 0))) }
 
-  pub each_next : (first count turn end to : ℕ) (ls : List Line) (l : Line) → suc turn ≤ count → InEach first count turn end ls → Some (record { value = l; place = to }) ≡ line_in r end → to ≤ length r → InEach first count (turn + 1) to (ls ++ l ∷ [])
+  pub each_next : (first count turn end to : ℕ) (ls : List Line) (l : Line) → suc turn ≤ count → InEach first count turn end ls → Some (record { value = l; place = to }) ≡ line_in r end
+      → to ≤ length r → InEach first count (turn + 1) to (ls ++ l ∷ [])
   each_next first count turn end to ls l h i e w =
       let n : ℕ = count - (turn + 1) in
       let q : count - turn ≡ suc n = omega arith in
@@ -84,7 +85,8 @@ module _ (r : List ℕ) where
   each_count zero at g e = let h : record { value = []; place = at } ≡ g = cc in ap (λ (z : Got (List Line)). length z.value) (sym h)
   each_count (suc n) at g e = by_line (line_in r at) refl (λ l h k. each_count n l h k)
     where
-      by_rest : (o : Option (Got (List Line))) (l : Got Line) → each_in r l.place n ≡ o → then_lines (l.value ∷ []) o ≡ Some g → ((h : Got (List Line)) → each_in r l.place n ≡ Some h → length h.value ≡ n) → length g.value ≡ suc n
+      by_rest : (o : Option (Got (List Line))) (l : Got Line) → each_in r l.place n ≡ o → then_lines (l.value ∷ []) o ≡ Some g
+          → ((h : Got (List Line)) → each_in r l.place n ≡ Some h → length h.value ≡ n) → length g.value ≡ suc n
       by_rest None l q p f = cc
       by_rest (Some h) l q p f = let k : record { value = l.value ∷ h.value; place = h.place } ≡ g = cc in ap (λ (z : Got (List Line)). length z.value) (sym k) ∙ ap (λ z. suc z) (f h q)
 
@@ -125,7 +127,8 @@ module _ (r : List ℕ) where
   pub count_differs : (n : ℕ) (v : Var) → int_at r 0 (length r) ≡ Some v → (v.value ≡ n → ⊥) → lines_of_count r n ≡ None
   count_differs n v e d = ap (if_count n) (receipt_from v e) ∙ count_other n v.value (read_from v) (λ g h. each_count v.value v.end g h) d
 
-  pub read_ends : (n : ℕ) (v : Var) → int_at r 0 (length r) ≡ Some v → v.value ≡ n → (x : Result (Option LinesRead) NoMemory) → IfOk x (λ o. option_map (λ l. record { value = l.lines.items; place = l.end }) o ≡ each_in r v.end n)
+  pub read_ends : (n : ℕ) (v : Var) → int_at r 0 (length r) ≡ Some v → v.value ≡ n → (x : Result (Option LinesRead) NoMemory)
+      → IfOk x (λ o. option_map (λ l. record { value = l.lines.items; place = l.end }) o ≡ each_in r v.end n)
       → IfOk x (λ o. option_map (λ l. record { value = l.lines.items; place = l.end }) o ≡ lines_of_count r n)
   read_ends n v e q (Ok o) h = h ∙ sym (count_reads n v e q)
   read_ends n v e q (Err m) h = h

@@ -24,7 +24,8 @@ same_left later n m s t b e f h =
     sym (ap (λ k. recording_in k (cut later t b)) e ∙ ap (λ k. recording_in n (cut later k b)) f ∙ ap (λ k. recording_in n (cut later s k)) h)
 
 -- A chunk at the front is read, and then what follows it.
-chunk_left : (c d : Cutter) (left later : List ℕ) → front left c.start (not c.given) ≡ fronts.Chunk d.bytes → left ≡ d.bytes ++ later → GaveChunk c d → unread_recording c left ≡ read_on c.number (read_parts d.bytes) (unread_recording d later)
+chunk_left : (c d : Cutter) (left later : List ℕ) → front left c.start (not c.given) ≡ fronts.Chunk d.bytes → left ≡ d.bytes ++ later → GaveChunk c d
+    → unread_recording c left ≡ read_on c.number (read_parts d.bytes) (unread_recording d later)
 chunk_left c d left later f p gave =
     ap (recording_in c.number) (cut_chunk left d.bytes later c.start (not c.given) f p)
     ∙ ap (read_on c.number (read_parts d.bytes)) (same_left later (c.number + 1) d.number (c.start + length d.bytes) d.start (not d.given) gave.number gave.start (ap not gave.given))
@@ -57,7 +58,8 @@ module _ (c d : Cutter) (Claim : Recording → Type 0) (w v u : World) (h : HasU
   refused_left r e n =
       let first : h.unread ≡ n.found.rest = same_some h.unread n.found.rest (sym h.input ∙ n.found.input) in
       let flawed = cut_bad h.unread c.start (not c.given) (flaw_of r) (ap (λ (l : List ℕ). front l c.start (not c.given)) first ∙ n.found.is) in
-      let numbered : recording_in c.number (record { chunks = []; flaw = Some (flaw_of r) }) ≡ record { parts = []; refusal = Some r } = sym (ap (λ (k : ℕ). record { parts = []; refusal = Some (at_chunk k (flaw_of r)) }) e) in
+      let numbered : recording_in c.number (record { chunks = []; flaw = Some (flaw_of r) }) ≡ record { parts = []; refusal = Some r } =
+      sym (ap (λ (k : ℕ). record { parts = []; refusal = Some (at_chunk k (flaw_of r)) }) e) in
       ((n.found.took.files ∙ h.same.0, n.found.took.output ∙ h.same.1), subst Claim (ap (recording_in c.number) flawed ∙ numbered) h.claim)
 
   -- Nothing but the input has changed.
@@ -133,5 +135,6 @@ is_read x =
     record {
       whole = r.whole;
       parts = r.parts;
-      all = λ e. (let t = r.all e in ap (λ (z : List (List ℕ)). record { chunks = z; flaw = k.flaw }) t.0 ∙ ap (λ (z : Option Flaw). record { chunks = map (λ p. p.bytes) (recording_in 1 k).parts; flaw = z }) t.1);
+      all = λ e. (let t = r.all e in ap (λ (z : List (List ℕ)). record { chunks = z; flaw = k.flaw }) t.0
+          ∙ ap (λ (z : Option Flaw). record { chunks = map (λ p. p.bytes) (recording_in 1 k).parts; flaw = z }) t.1);
     }

@@ -102,7 +102,8 @@ make names g [] w a = record {
 make names g (p ∷ ps) w a = make_one names g p ps w.0 a.0 (scrubbed_kept names p a.0 (chosen g p) w.0) (make names g ps w.1 a.1)
 
 -- The outputs, joined, are cut into just these chunks.
-cut_outputs : (qs : List Parts) → AllByRecursion (λ p. Whole p.bytes) qs → AreCut (bytes_of qs) None (joined (bytes_of qs)) 0 false → (qs ≡ [] → ⊥) → cut (joined (bytes_of qs)) 0 true ≡ record { chunks = bytes_of qs; flaw = None }
+cut_outputs : (qs : List Parts) → AllByRecursion (λ p. Whole p.bytes) qs → AreCut (bytes_of qs) None (joined (bytes_of qs)) 0 false → (qs ≡ [] → ⊥)
+    → cut (joined (bytes_of qs)) 0 true ≡ record { chunks = bytes_of qs; flaw = None }
 cut_outputs [] w a h = absurd (h refl)
 cut_outputs (q ∷ qs) w a h = cut_is (bytes_of (q ∷ qs)) None (joined (bytes_of (q ∷ qs))) 0 true (whole_front q.bytes (joined (bytes_of qs)) 0 true w.0 (omega arith), a.1)
 

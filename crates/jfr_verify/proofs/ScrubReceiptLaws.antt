@@ -86,7 +86,8 @@ count_is_rank (true ∷ f) (false ∷ g) h (suc n) = let z : false ≡ true = (h
 count_is_rank (false ∷ f) (true ∷ g) h (suc n) = let z : false ≡ true = (h 0).1 refl in cc
 
 -- One mark more, with a line if it is new.
-count_one : (f : List Bool) (i : ℕ) (l : Line) (rest : List Line) (total : ℕ) → i < length f → total ≡ marked_count (slice_set f i true) + length rest → (t : Bool) → is_marked f i ≡ t → total ≡ marked_count f + length (line_if t l rest)
+count_one : (f : List Bool) (i : ℕ) (l : Line) (rest : List Line) (total : ℕ) → i < length f → total ≡ marked_count (slice_set f i true) + length rest → (t : Bool) → is_marked f i ≡ t
+    → total ≡ marked_count f + length (line_if t l rest)
 count_one f i l rest total h c true e = c ∙ ap (λ z. marked_count z + length rest) (set_old f i e)
 count_one f i l rest total h c false e = let u : marked_count (slice_set f i true) ≡ marked_count f + 1 = count_set f i h e in omega arith
 
@@ -134,7 +135,8 @@ module _ (p q : Parts) (a : AreParts p) (b : AreParts q) (flags : List Bool) (re
       by_number (Some n) f =
           let g = forced q.entries t n f in
           let same : SameEntry p q t = in_force_same p q marks t h.among.copied (λ m k. (let z : None ≡ Some m = sym e ∙ k in cc)) in
-          absurd (nothing (λ e f. node_bytes p.bytes (entry_node e) ≡ node_bytes q.bytes (entry_node f)) (in_force p.entries t) (in_force q.entries t) g.entry same (ap (option_and_then (λ n. slice_get p.entries n)) e) g.is)
+          absurd (nothing (λ e f. node_bytes p.bytes (entry_node e) ≡ node_bytes q.bytes (entry_node f)) (in_force p.entries t) (in_force q.entries t) g.entry same
+          (ap (option_and_then (λ n. slice_get p.entries n)) e) g.is)
 
   those_same : (ts : List (ℕ × ℕ)) → AllMarked (those (number_in_force p.entries) ts) → those (number_in_force q.entries) ts ≡ map to (those (number_in_force p.entries) ts)
   those_same [] m = refl
@@ -156,7 +158,8 @@ module _ (p q : Parts) (a : AreParts p) (b : AreParts q) (flags : List Bool) (re
       let v = kept_node p q a b flags receipt h e i in
       let w = event_is q b f j in
       let shape : f.node.shape ≡ inline f.record_of.type_id = w.shape in
-      let agree : Agree p.classes q.classes e.node.shape.class = subst (Agree p.classes q.classes) (sym (ap (λ (z : Shape). z.class) ((s.paths []).shape ∙ shape))) (output_event p q a b flags receipt h f j) in
+      let agree : Agree p.classes q.classes e.node.shape.class =
+      subst (Agree p.classes q.classes) (sym (ap (λ (z : Shape). z.class) ((s.paths []).shape ∙ shape))) (output_event p q a b flags receipt h f j) in
       let same : targets p.classes p.bytes e.node ≡ targets q.classes q.bytes f.node = targets_same p q a b flags receipt h e.node f.node v.0 w.value v.1 w.node (s.paths []) agree in
       ap (those (number_in_force q.entries)) (sym same) ∙ those_same (targets p.classes p.bytes e.node) m
 
@@ -171,8 +174,10 @@ module _ (p q : Parts) (a : AreParts p) (b : AreParts q) (flags : List Bool) (re
       let place : c.place ≡ i = rank_once marks c.place i c.is_marked m c.number_is in
       let there : slice_get p.entries i ≡ Some c.entry = ap (slice_get p.entries) (sym place) ∙ c.holds in
       let same = copy_targets p q a b flags receipt h (to i) f.0 f.1 c in
-      let x : next_entries p i ≡ those (number_in_force p.entries) (targets p.classes p.bytes (entry_node c.entry)) = ap (λ o. those (number_in_force p.entries) (option_map_or (λ e. targets p.classes p.bytes (entry_node e)) o [])) there in
-      let y : next_entries q (to i) ≡ those (number_in_force q.entries) (targets q.classes q.bytes (entry_node f.0)) = ap (λ o. those (number_in_force q.entries) (option_map_or (λ e. targets q.classes q.bytes (entry_node e)) o [])) f.1 in
+      let x : next_entries p i ≡ those (number_in_force p.entries) (targets p.classes p.bytes (entry_node c.entry)) =
+      ap (λ o. those (number_in_force p.entries) (option_map_or (λ e. targets p.classes p.bytes (entry_node e)) o [])) there in
+      let y : next_entries q (to i) ≡ those (number_in_force q.entries) (targets q.classes q.bytes (entry_node f.0)) =
+      ap (λ o. those (number_in_force q.entries) (option_map_or (λ e. targets q.classes q.bytes (entry_node e)) o [])) f.1 in
       y ∙ (ap (those (number_in_force q.entries)) (sym same) ∙ (those_same (targets p.classes p.bytes (entry_node c.entry)) (subst AllMarked x (next_marked i m)) ∙ ap (map to) (sym x)))
 
   -- Marks on the entries of both chunks, the same ones.
@@ -230,7 +235,8 @@ module _ (p q : Parts) (a : AreParts p) (b : AreParts q) (flags : List Bool) (re
     count : marked_count f' ≡ marked_count f + length ls
     other : marked_count g' ≡ marked_count g + length ls
 
-  new_same : (f g : List Bool) (parent : Parent) (is : List ℕ) → GoodParent parent → AllMarked is → Alike f g → Added f g (marked_at f is) (marked_at g (map to is)) (new_lines f parent is) (new_lines g (moved_parent parent) (map to is))
+  new_same : (f g : List Bool) (parent : Parent) (is : List ℕ) → GoodParent parent → AllMarked is → Alike f g
+      → Added f g (marked_at f is) (marked_at g (map to is)) (new_lines f parent is) (new_lines g (moved_parent parent) (map to is))
   new_same f g parent [] r m s = record { lines = refl; good = tt; alike = s; count = omega arith; other = omega arith }
   new_same f g parent (i ∷ is) r m s =
       let n = new_same (slice_set f i true) (slice_set g (to i) true) parent is r m.1 (alike_set f g i m.0 s) in
@@ -246,7 +252,8 @@ module _ (p q : Parts) (a : AreParts p) (b : AreParts q) (flags : List Bool) (re
       }
 
   -- The lines for events.
-  events_same : (f g : List Bool) (n : ℕ) (es fs : List EventAt) → ((e : EventAt) → In es e → In kept e) → ((e : EventAt) → In fs e → In (events_of q) e) → SameMeaning p q es fs → AllMarked (roots p es) → Alike f g
+  events_same : (f g : List Bool) (n : ℕ) (es fs : List EventAt) → ((e : EventAt) → In es e → In kept e) → ((e : EventAt) → In fs e → In (events_of q) e) → SameMeaning p q es fs
+      → AllMarked (roots p es) → Alike f g
       → Added f g (marked_at f (roots p es)) (marked_at g (roots q fs)) (event_lines p f n es) (event_lines q g n fs)
   events_same f g n [] [] i j s m k = record { lines = refl; good = tt; alike = k; count = omega arith; other = omega arith }
   events_same f g n [] (y ∷ fs) i j s m k = absurd s
@@ -312,12 +319,14 @@ module _ (p q : Parts) (a : AreParts p) (b : AreParts q) (flags : List Bool) (re
         other = length-replicate (length q.entries) false;
         same = λ i m. none_set (length q.entries) (to i) ∙ sym (none_set (length p.entries) i);
       } in
-      let e = events_same (no_marks p) (no_marks q) 0 kept (events_of q) (λ x i. i) (λ x i. i) (meaning p q a b flags receipt h) (recursion_from_All (IsMarked marks) (roots p kept) h.closed.events) start in
+      let e = events_same (no_marks p) (no_marks q) 0 kept (events_of q) (λ x i. i) (λ x i. i) (meaning p q a b flags receipt h)
+      (recursion_from_All (IsMarked marks) (roots p kept) h.closed.events) start in
       let x : marked_count (no_marks p) ≡ 0 = count_none (length p.entries) in
       let y : marked_count (no_marks q) ≡ 0 = count_none (length q.entries) in
       let c = e.count in
       let d = e.other in
-      let r = lines_same (length p.entries) (length q.entries) (marked_at (no_marks p) (roots p kept)) (marked_at (no_marks q) (roots q (events_of q))) (event_lines p (no_marks p) 0 kept) e.alike e.good (omega arith) (omega arith) in
+      let r = lines_same (length p.entries) (length q.entries) (marked_at (no_marks p) (roots p kept)) (marked_at (no_marks q) (roots q (events_of q)))
+      (event_lines p (no_marks p) 0 kept) e.alike e.good (omega arith) (omega arith) in
       record {
         lines = ap (lines_from (length q.entries) q (marked_at (no_marks q) (roots q (events_of q)))) e.lines ∙ r.0;
         good = r.1;
@@ -372,7 +381,8 @@ module _ (p q : Parts) (a : AreParts p) (b : AreParts q) (flags : List Bool) (re
         ∙ ap (λ z. spell (length (lines_of q)) ++ z) (bytes_are (kept_lines p kept) all_lines.good ∙ ap (flat_map line_bytes) (sym all_lines.lines))
 
 -- The bytes of these lines with the ranks of their entries are the receipt of the scrub.
-pub scrub_receipt_is : (p : Parts) (a : AreParts p) (flags : List Bool) (names : Names) (k : IsKept names p (kept_by p flags)) (f : List Bool) (ranks : List ℕ) (lines : List Line) (head all : List ℕ) → lines ≡ kept_lines p (kept_by p flags) → length f ≡ length p.entries
+pub scrub_receipt_is : (p : Parts) (a : AreParts p) (flags : List Bool) (names : Names) (k : IsKept names p (kept_by p flags)) (f : List Bool) (ranks : List ℕ) (lines : List Line) (head all : List ℕ)
+    → lines ≡ kept_lines p (kept_by p flags) → length f ≡ length p.entries
     → f ≡ marked_at (replicate (length f) false) (entries lines) → AreRanks f ranks → head ≡ spell (length lines) → all ≡ head ++ flat_map (ranked_bytes ranks) lines → all ≡ receipt_of k.parts
 scrub_receipt_is p a flags names k f ranks lines head all e size listed are c d =
     let q : Parts = k.parts in

@@ -27,12 +27,14 @@ parent_again (OfEntry n) = refl
 line_exact : (l : Line) → Exactly line_format (line_bytes l) l
 line_exact l =
     let rest : List ℕ = parent_kind l.parent ∷ spell (parent_number l.parent) in
-    bind_exact integer (λ entry. Byte kind_check λ kind. integer >>= λ number. Done (record { entry = entry; parent = parent_of kind number })) (spell l.entry) rest (line_bytes l) l.entry l refl (integer_exact l.entry) (
+    bind_exact integer (λ entry. Byte kind_check λ kind. integer >>= λ number. Done (record { entry = entry; parent = parent_of kind number })) (spell l.entry) rest (line_bytes l) l.entry l refl
+    (integer_exact l.entry) (
       parent_kind l.parent,
       spell (parent_number l.parent),
       refl,
       kind_good l.parent,
-      bind_exact integer (λ number. Done (record { entry = l.entry; parent = parent_of (parent_kind l.parent) number })) (spell (parent_number l.parent)) [] (spell (parent_number l.parent)) (parent_number l.parent) l
+      bind_exact integer (λ number. Done (record { entry = l.entry; parent = parent_of (parent_kind l.parent) number })) (spell (parent_number l.parent)) [] (spell (parent_number l.parent))
+          (parent_number l.parent) l
           (sym (append-nil (spell (parent_number l.parent)))) (integer_exact (parent_number l.parent))
           (ap (λ z. record { entry = l.entry; parent = z }) (sym (parent_again l.parent)), refl),
     )
@@ -40,11 +42,14 @@ line_exact l =
 lines_exact : (ls : List Line) → Exactly (times (length ls) line_format) (flat_map line_bytes ls) ls
 lines_exact [] = (refl, refl)
 lines_exact (l ∷ ls) =
-    bind_exact line_format (λ a. times (length ls) line_format >>= λ rest. Done (a ∷ rest)) (line_bytes l) (flat_map line_bytes ls) (line_bytes l ++ flat_map line_bytes ls) l (l ∷ ls) refl (line_exact l)
-    (bind_exact (times (length ls) line_format) (λ rest. Done (l ∷ rest)) (flat_map line_bytes ls) [] (flat_map line_bytes ls) ls (l ∷ ls) (sym (append-nil (flat_map line_bytes ls))) (lines_exact ls) (refl, refl))
+    bind_exact line_format (λ a. times (length ls) line_format >>= λ rest. Done (a ∷ rest)) (line_bytes l) (flat_map line_bytes ls) (line_bytes l ++ flat_map line_bytes ls) l (l ∷ ls) refl
+    (line_exact l)
+    (bind_exact (times (length ls) line_format) (λ rest. Done (l ∷ rest)) (flat_map line_bytes ls) [] (flat_map line_bytes ls) ls (l ∷ ls) (sym (append-nil (flat_map line_bytes ls))) (lines_exact ls)
+    (refl, refl))
 
 pub receipt_exact : (p : Parts) → Exactly receipt_format (receipt_of p) (lines_of p)
 unfolding receipt_of receipt_format
 receipt_exact p =
-    bind_exact integer (λ n. times n line_format) (spell (length (lines_of p))) (flat_map line_bytes (lines_of p)) (spell (length (lines_of p)) ++ flat_map line_bytes (lines_of p)) (length (lines_of p)) (lines_of p) refl
+    bind_exact integer (λ n. times n line_format) (spell (length (lines_of p))) (flat_map line_bytes (lines_of p)) (spell (length (lines_of p)) ++ flat_map line_bytes (lines_of p))
+    (length (lines_of p)) (lines_of p) refl
     (integer_exact (length (lines_of p))) (lines_exact (lines_of p))

@@ -45,9 +45,13 @@ module _ (g : Given) where
   compared_once [] None [] (b ∷ r) n x y h k = h ∙ sym k
   compared_once [] None (q ∷ qs) r n x y h k = h ∙ sym k
   compared_once (p ∷ ps) end [] r n x y h k = h ∙ sym k
-  compared_once (p ∷ ps) end (q ∷ qs) r n x y h k = by_verdict h.0 h.2 (subst (Onward (λ m. Compared g ps end qs (drop m r) (n + 1) y) (λ d. y ≡ Doubted (n + 1) d)) (checked_once p q (kept_of g p) r k.0 h.0 k.1 h.1) k.2) (λ m. compared_once ps end qs (drop m r) (n + 1) x y)
+  compared_once (p ∷ ps) end (q ∷ qs) r n x y h k = by_verdict h.0 h.2
+      (subst (Onward (λ m. Compared g ps end qs (drop m r) (n + 1) y) (λ d. y ≡ Doubted (n + 1) d)) (checked_once p q (kept_of g p) r k.0 h.0 k.1 h.1) k.2)
+      (λ m. compared_once ps end qs (drop m r) (n + 1) x y)
     where
-      by_verdict : (v : Result ℕ Doubt) → Onward (λ m. Compared g ps end qs (drop m r) (n + 1) x) (λ d. x ≡ Doubted (n + 1) d) v → Onward (λ m. Compared g ps end qs (drop m r) (n + 1) y) (λ d. y ≡ Doubted (n + 1) d) v → ((m : ℕ) → Compared g ps end qs (drop m r) (n + 1) x → Compared g ps end qs (drop m r) (n + 1) y → x ≡ y) → x ≡ y
+      by_verdict : (v : Result ℕ Doubt) → Onward (λ m. Compared g ps end qs (drop m r) (n + 1) x) (λ d. x ≡ Doubted (n + 1) d) v
+          → Onward (λ m. Compared g ps end qs (drop m r) (n + 1) y) (λ d. y ≡ Doubted (n + 1) d) v
+          → ((m : ℕ) → Compared g ps end qs (drop m r) (n + 1) x → Compared g ps end qs (drop m r) (n + 1) y → x ≡ y) → x ≡ y
       by_verdict (Ok m) h k f = f m h k
       by_verdict (Err d) h k f = h ∙ sym k
 
@@ -65,7 +69,8 @@ module _ (g : Given) where
       by_verdict (Err d, c) f = (Doubted (n + 1) d, (Err d, c, refl))
 
   -- If all are verified, each output means the same as its input.
-  pub all_verified : (ps : List Parts) (end : Option Refusal) (qs : List Parts) (r : List ℕ) (n m : ℕ) → AllByRecursion AreParts ps → AllByRecursion AreParts qs → Compared g ps end qs r n (Verified m) → AreVerified g ps qs × (m ≡ n + length ps) × (end ≡ None)
+  pub all_verified : (ps : List Parts) (end : Option Refusal) (qs : List Parts) (r : List ℕ) (n m : ℕ) → AllByRecursion AreParts ps → AllByRecursion AreParts qs → Compared g ps end qs r n (Verified m)
+      → AreVerified g ps qs × (m ≡ n + length ps) × (end ≡ None)
   all_verified [] (Some f) qs r n m a b h = cc
   all_verified [] None [] [] n m a b h = (tt, (let q : m ≡ n = number m n h in omega arith), refl)
     where
@@ -76,7 +81,9 @@ module _ (g : Given) where
   all_verified (p ∷ ps) end [] r n m a b h = cc
   all_verified (p ∷ ps) end (q ∷ qs) r n m a b h = by_verdict h.0 h.1 h.2 (λ i. all_verified ps end qs (drop i r) (n + 1) m a.1 b.1)
     where
-      by_verdict : (v : Result ℕ Doubt) → Checked p q (kept_of g p) r v → Onward (λ i. Compared g ps end qs (drop i r) (n + 1) (Verified m)) (λ d. Verified m ≡ Doubted (n + 1) d) v → ((i : ℕ) → Compared g ps end qs (drop i r) (n + 1) (Verified m) → AreVerified g ps qs × (m ≡ n + 1 + length ps) × (end ≡ None)) → AreVerified g (p ∷ ps) (q ∷ qs) × (m ≡ n + length (p ∷ ps)) × (end ≡ None)
+      by_verdict : (v : Result ℕ Doubt) → Checked p q (kept_of g p) r v → Onward (λ i. Compared g ps end qs (drop i r) (n + 1) (Verified m)) (λ d. Verified m ≡ Doubted (n + 1) d) v
+          → ((i : ℕ) → Compared g ps end qs (drop i r) (n + 1) (Verified m) → AreVerified g ps qs × (m ≡ n + 1 + length ps) × (end ≡ None))
+          → AreVerified g (p ∷ ps) (q ∷ qs) × (m ≡ n + length (p ∷ ps)) × (end ≡ None)
       by_verdict (Ok i) c k f =
           let z = f i k in
           ((verified p q a.0 b.0 (chosen g p) (take i r) c.1, z.0), omega (arith, z.1), z.2)
@@ -93,12 +100,19 @@ module _ (g : Given) where
       k = l.1.0
 
       passes : Passes p k.parts (kept_of g p) (receipt_of k.parts)
-      passes = kept_passes p l.0 (chosen g p) names k (λ all. receipt_of_is_receipt k.parts (λ i h. path_reach k.parts (has_nodes k.parts k.valid) (events_of k.parts) (λ e m. (let v = event_is k.parts k.valid e m in (v.value, v.node))) i (all i h)) (receipt_exact k.parts))
+      passes = kept_passes p l.0 (chosen g p) names k
+          (λ all. receipt_of_is_receipt k.parts (λ i h. path_reach k.parts (has_nodes k.parts k.valid) (events_of k.parts) (λ e m. (let v = event_is k.parts k.valid e m in (v.value, v.node))) i
+          (all i h)) (receipt_exact k.parts))
 
       checked : Checked p q (kept_of g p) (receipts (q ∷ qs)) (Ok (length (receipt_of q)))
-      checked = (front_within (receipt_of q) (receipts qs), subst (Passes p q (kept_of g p)) (sym (take_front (receipt_of q) (receipts qs))) (subst (λ z. Passes p z (kept_of g p) (receipt_of z)) l.1.1 passes))
+      checked = (
+        front_within (receipt_of q) (receipts qs),
+        subst (Passes p q (kept_of g p)) (sym (take_front (receipt_of q) (receipts qs)))
+            (subst (λ z. Passes p z (kept_of g p) (receipt_of z)) l.1.1 passes),
+      )
 
-      onward : Compared g ps None qs (receipts qs) (n + 1) (Verified (n + 1 + length ps)) → Compared g ps None qs (drop (length (receipt_of q)) (receipts (q ∷ qs))) (n + 1) (Verified (n + length (p ∷ ps)))
+      onward : Compared g ps None qs (receipts qs) (n + 1) (Verified (n + 1 + length ps))
+          → Compared g ps None qs (drop (length (receipt_of q)) (receipts (q ∷ qs))) (n + 1) (Verified (n + length (p ∷ ps)))
       onward c =
           let e : n + 1 + length ps ≡ n + length (p ∷ ps) = omega arith in
           subst (λ z. Compared g ps None qs z (n + 1) (Verified (n + length (p ∷ ps)))) (sym (drop_front (receipt_of q) (receipts qs)))

@@ -57,7 +57,8 @@ module _ (p q : Parts) (kept : List EventAt) (r : List ℕ) where
   closed_too : (a b : List Bool) → AreAmong p q a → AreAmong p q b → AreClosed p kept a → AreClosed p kept b
   closed_too a b u v c = record {
     events = All-from_recursion (IsMarked b) (roots p kept) (all_change (IsMarked a) (IsMarked b) (roots p kept) (marks_one a b u v) (recursion_from_All (IsMarked a) (roots p kept) c.events));
-    entries = λ n m. All-from_recursion (IsMarked b) (next_entries p n) (all_change (IsMarked a) (IsMarked b) (next_entries p n) (marks_one a b u v) (recursion_from_All (IsMarked a) (next_entries p n) (c.entries n (marks_one b a v u n m))));
+    entries = λ n m. All-from_recursion (IsMarked b) (next_entries p n)
+        (all_change (IsMarked a) (IsMarked b) (next_entries p n) (marks_one a b u v) (recursion_from_All (IsMarked a) (next_entries p n) (c.entries n (marks_one b a v u n m))));
   }
 
   -- At most one prefix is a receipt.

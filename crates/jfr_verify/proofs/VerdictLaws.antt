@@ -102,14 +102,16 @@ module _ (g : Given) (t : Three) where
       let made : List ℕ = flat_map (output_of s.names g) ps in
       let receipt : List ℕ = flat_map (receipt_for s.names g) ps in
       let zero : 0 + length ps ≡ length ps = omega arith in
-      let c : Compared g ps None m.outputs (receipts m.outputs) 0 (Verified (length ps)) = subst (λ (k : ℕ). Compared g ps None m.outputs (receipts m.outputs) 0 (Verified k)) zero (scrubbed_is_verified g s.names ps m.outputs 0 m.scrubbed) in
+      let c : Compared g ps None m.outputs (receipts m.outputs) 0 (Verified (length ps)) =
+      subst (λ (k : ℕ). Compared g ps None m.outputs (receipts m.outputs) 0 (Verified k)) zero (scrubbed_is_verified g s.names ps m.outputs 0 m.scrubbed) in
       compared (record { bytes = receipt; is = s.receipt_is; short = s.short }) (record { bytes = made; is = s.output_is }) (ap (λ (k : Recording). k.refusal) m.read) s.input s.input_is
       (subst (λ (z : Option Refusal). Compared g ps z (recording_of made).parts receipt 0 (Verified (length ps))) (sym s.input_ends)
       (subst (λ (k : Recording). Compared g ps None k.parts receipt 0 (Verified (length ps))) (sym m.read)
       (subst (λ (z : List ℕ). Compared g ps None m.outputs z 0 (Verified (length ps))) (sym m.receipted) c)))
 
 -- There is a verdict if the files exist.
-by_refusal : (g : Given) (a y r : List ℕ) (o : Option Refusal) → (recording_of y).refusal ≡ o → length r < 2 ^ 40 → (x : Verdict) × VerdictOf g (record { input = Some a; output = Some y; receipt = Some r }) x
+by_refusal : (g : Given) (a y r : List ℕ) (o : Option Refusal) → (recording_of y).refusal ≡ o → length r < 2 ^ 40
+    → (x : Verdict) × VerdictOf g (record { input = Some a; output = Some y; receipt = Some r }) x
 by_refusal g a y r (Some f) e s = (Doubted f.chunk OutRefused, refused (record { bytes = r; is = refl; short = s }) (record { bytes = y; is = refl }) f e refl)
 by_refusal g a y r None e s =
     let z = compared_is g (recording_of a).parts (recording_of a).refusal (recording_of y).parts r 0 in

@@ -71,7 +71,8 @@ module _ (p q : Parts) (a : AreParts p) (b : AreParts q) (flags : List Bool) (re
 
   -- So what paths meet is the same in both chunks.
   same_on_paths : SameOnPaths p q kept
-  same_on_paths e path n key i l t = in_force_same p q marks key h.among.copied (λ number f. reached_is_marked number (record { event = e; is_kept = i; path = path; node = n; leads_there = l; key = key; refers = t; in_force = f }))
+  same_on_paths e path n key i l t = in_force_same p q marks key h.among.copied
+      (λ number f. reached_is_marked number (record { event = e; is_kept = i; path = path; node = n; leads_there = l; key = key; refers = t; in_force = f }))
 
   pub output_event : (f : EventAt) → In (events_of q) f → Agree p.classes q.classes f.record_of.type_id
   output_event f i = let v = event_is q b f i in agree_on_node p.classes q.classes s.sound r.sound h.classes q.bytes f.record_of.type_id f.node v.value v.shape v.node
@@ -83,7 +84,8 @@ module _ (p q : Parts) (a : AreParts p) (b : AreParts q) (flags : List Bool) (re
   meaning = same_meaning p q a b kept (events_of q) (chosen_events p flags) (All-contains_itself (events_of q)) records same_on_paths
 
   -- Nodes of equal shape and bytes refer to the same.
-  pub targets_same : (n o : NodeAt) (v w : Value) → IsNode p.classes p.bytes n v → IsNode q.classes q.bytes o w → SameNode p.bytes q.bytes n o → Agree p.classes q.classes n.shape.class → targets p.classes p.bytes n ≡ targets q.classes q.bytes o
+  pub targets_same : (n o : NodeAt) (v w : Value) → IsNode p.classes p.bytes n v → IsNode q.classes q.bytes o w → SameNode p.bytes q.bytes n o → Agree p.classes q.classes n.shape.class
+      → targets p.classes p.bytes n ≡ targets q.classes q.bytes o
   targets_same n o v w i j e g =
       let k : IsNode q.classes q.bytes o v = node_agree p.classes q.classes p.bytes q.bytes n o v i e.shape e.bytes j.order j.within g in
       targets_are p.classes s.sound p.bytes n v i ∙ sym (targets_are q.classes r.sound q.bytes o v k)
@@ -115,7 +117,8 @@ module _ (p q : Parts) (a : AreParts p) (b : AreParts q) (flags : List Bool) (re
         number_is = k.number_is;
         copied = c.2;
         force = l;
-        copy_force = sym (copied_force p q (marked marks p.entries) q.entries (c.0.class, c.0.key) h.among.copied) ∙ (marked_force marks p.entries (c.0.class, c.0.key) k.place l k.is_marked ∙ ap (λ z. Some z) k.number_is);
+        copy_force = sym (copied_force p q (marked marks p.entries) q.entries (c.0.class, c.0.key) h.among.copied)
+            ∙ (marked_force marks p.entries (c.0.class, c.0.key) k.place l k.is_marked ∙ ap (λ z. Some z) k.number_is);
       }
 
   -- A copy refers to the same.
@@ -141,13 +144,15 @@ module _ (p q : Parts) (a : AreParts p) (b : AreParts q) (flags : List Bool) (re
     reached : Reach (next_entries p) (roots p kept) place
 
   -- In the input, too, the parent refers to the entry.
-  reached_by : (before : List ℕ) → ((m : ℕ) → In before m → Good m) → (parent : Parent) (n : NodeAt) (t : ℕ × ℕ) (place : ℕ) → IsParent q before parent n → Contains (targets q.classes q.bytes n) t → number_in_force p.entries t ≡ Some place → Reach (next_entries p) (roots p kept) place
+  reached_by : (before : List ℕ) → ((m : ℕ) → In before m → Good m) → (parent : Parent) (n : NodeAt) (t : ℕ × ℕ) (place : ℕ) → IsParent q before parent n → Contains (targets q.classes q.bytes n) t
+      → number_in_force p.entries t ≡ Some place → Reach (next_entries p) (roots p kept) place
   reached_by before g (OfEvent i) n t place x c f =
       let e = event_before p q kept (events_of q) i x.0 meaning x.1 in
       let v = kept_node e.0 e.1 in
       let w = event_is q b x.0 (get_in (events_of q) i x.0 x.1) in
       let shape : x.0.node.shape ≡ inline x.0.record_of.type_id = w.shape in
-      let agree : Agree p.classes q.classes e.0.node.shape.class = subst (Agree p.classes q.classes) (sym (ap (λ z. z.class) ((e.2.paths []).shape ∙ shape))) (output_event x.0 (get_in (events_of q) i x.0 x.1)) in
+      let agree : Agree p.classes q.classes e.0.node.shape.class =
+      subst (Agree p.classes q.classes) (sym (ap (λ z. z.class) ((e.2.paths []).shape ∙ shape))) (output_event x.0 (get_in (events_of q) i x.0 x.1)) in
       let same = targets_same e.0.node x.0.node v.0 w.value v.1 w.node (e.2.paths []) agree in
       let d : Contains (targets p.classes p.bytes e.0.node) t = subst (λ z. Contains z t) (sym same) (subst (λ z. Contains (targets q.classes q.bytes z) t) (sym x.2) c) in
       root (those_in (number_in_force p.entries) (all_targets p (nodes_of kept)) t place (event_in p kept e.0 t e.1 (contains_in (targets p.classes p.bytes e.0.node) t d)) f)
@@ -158,13 +163,15 @@ module _ (p q : Parts) (a : AreParts p) (b : AreParts q) (flags : List Bool) (re
       let d : Contains (targets p.classes p.bytes (entry_node k.entry)) t = subst (λ z. Contains z t) (sym same) (subst (λ z. Contains (targets q.classes q.bytes z) t) (sym x.3) c) in
       let w : l.place ≡ k.place = rank_once marks l.place k.place l.is_marked k.is_marked (l.number_is ∙ sym k.number_is) in
       let e : slice_get p.entries l.place ≡ Some k.entry = ap (slice_get p.entries) w ∙ k.holds in
-      let m : In (option_map_or (λ e. targets p.classes p.bytes (entry_node e)) (slice_get p.entries l.place) []) t = subst (λ o. In (option_map_or (λ e. targets p.classes p.bytes (entry_node e)) o []) t) (sym e) (contains_in (targets p.classes p.bytes (entry_node k.entry)) t d) in
+      let m : In (option_map_or (λ e. targets p.classes p.bytes (entry_node e)) (slice_get p.entries l.place) []) t =
+      subst (λ o. In (option_map_or (λ e. targets p.classes p.bytes (entry_node e)) o []) t) (sym e) (contains_in (targets p.classes p.bytes (entry_node k.entry)) t d) in
       more l.reached (those_in (number_in_force p.entries) (option_map_or (λ e. targets p.classes p.bytes (entry_node e)) (slice_get p.entries l.place) []) t place m f)
 
   line_good : (before : List ℕ) → ((m : ℕ) → In before m → Good m) → (l : Line) → IsValidLine q before l → Good l.entry
   line_good before g l x =
       let c : Copy l.entry x.entry = copy_of l.entry x.entry x.there in
-      let k : number_in_force p.entries (x.entry.class, x.entry.key) ≡ Some c.place = subst (λ z. number_in_force p.entries (z, x.entry.key) ≡ Some c.place) c.copied.class (subst (λ z. number_in_force p.entries (c.entry.class, z) ≡ Some c.place) c.copied.key c.force) in
+      let k : number_in_force p.entries (x.entry.class, x.entry.key) ≡ Some c.place =
+      subst (λ z. number_in_force p.entries (z, x.entry.key) ≡ Some c.place) c.copied.class (subst (λ z. number_in_force p.entries (c.entry.class, z) ≡ Some c.place) c.copied.key c.force) in
       record { place = c.place; is_marked = c.is_marked; number_is = c.number_is; reached = reached_by before g l.parent x.node (x.entry.class, x.entry.key) c.place x.parent x.refers k }
 
   lines_good : (before : List ℕ) (ls : List Line) → ((m : ℕ) → In before m → Good m) → AreValidLines q before ls → (m : ℕ) → In (map (λ l. l.entry) ls) m → Good m

@@ -24,7 +24,8 @@ pub those_below : (es : List EntryAt) (ts : List (ℕ × ℕ)) → AllByRecursio
 those_below es [] = tt
 those_below es (t ∷ ts) = by_number (number_in_force es t) refl (those_below es ts)
   where
-    by_number : (o : Option ℕ) → number_in_force es t ≡ o → AllByRecursion (λ n. n < length es) (those (number_in_force es) ts) → AllByRecursion (λ n. n < length es) (add o (those (number_in_force es) ts))
+    by_number : (o : Option ℕ) → number_in_force es t ≡ o → AllByRecursion (λ n. n < length es) (those (number_in_force es) ts)
+        → AllByRecursion (λ n. n < length es) (add o (those (number_in_force es) ts))
     by_number None q a = a
     by_number (Some i) q a = (force_within es t i q, a)
 
@@ -43,13 +44,16 @@ module _ (p : Parts) where
   pub roots_cons : (x : EventAt) (xs : List EventAt) → roots p (x ∷ xs) ≡ refers x ++ roots p xs
   roots_cons x xs = those_append (number_in_force p.entries) (targets p.classes p.bytes x.node) (all_targets p (nodes_of xs))
 
-  event_lines_one : (marks : List Bool) (n : ℕ) (xs : List EventAt) (e : EventAt) → event_lines p marks n (xs ++ e ∷ []) ≡ event_lines p marks n xs ++ new_lines (marked_at marks (roots p xs)) (OfEvent (n + length xs)) (refers e)
+  event_lines_one : (marks : List Bool) (n : ℕ) (xs : List EventAt) (e : EventAt)
+      → event_lines p marks n (xs ++ e ∷ []) ≡ event_lines p marks n xs ++ new_lines (marked_at marks (roots p xs)) (OfEvent (n + length xs)) (refers e)
   event_lines_one marks n [] e = append-nil (new_lines marks (OfEvent n) (refers e)) ∙ (let q : n + 0 ≡ n = omega arith in ap (λ z. new_lines marks (OfEvent z) (refers e)) (sym q))
   event_lines_one marks n (x ∷ xs) e =
       let q : n + suc (length xs) ≡ suc n + length xs = omega arith in
       ap (λ z. new_lines marks (OfEvent n) (refers x) ++ z) (event_lines_one (marked_at marks (refers x)) (suc n) xs e)
-      ∙ (sym (append_assoc (new_lines marks (OfEvent n) (refers x)) (event_lines p (marked_at marks (refers x)) (suc n) xs) (new_lines (marked_at (marked_at marks (refers x)) (roots p xs)) (OfEvent (suc n + length xs)) (refers e)))
-      ∙ ap (λ z. event_lines p marks n (x ∷ xs) ++ z) (ap (λ z. new_lines z (OfEvent (suc n + length xs)) (refers e)) (sym (ap (marked_at marks) (roots_cons x xs) ∙ all_append marks (refers x) (roots p xs)))
+      ∙ (sym (append_assoc (new_lines marks (OfEvent n) (refers x)) (event_lines p (marked_at marks (refers x)) (suc n) xs)
+      (new_lines (marked_at (marked_at marks (refers x)) (roots p xs)) (OfEvent (suc n + length xs)) (refers e)))
+      ∙ ap (λ z. event_lines p marks n (x ∷ xs) ++ z)
+      (ap (λ z. new_lines z (OfEvent (suc n + length xs)) (refers e)) (sym (ap (marked_at marks) (roots_cons x xs) ∙ all_append marks (refers x) (roots p xs)))
       ∙ ap (λ z. new_lines (marked_at marks (roots p (x ∷ xs))) (OfEvent z) (refers e)) (sym q)))
 
   -- The lines for the first events.
@@ -65,7 +69,8 @@ module _ (p : Parts) where
   get_length (y ∷ ys) zero x e = refl
   get_length (y ∷ ys) (suc n) x e = ap (λ z. suc z) (get_length ys n x e)
 
-  pub in_events_next : (n : ℕ) (e : EventAt) (flags more : List Bool) (items now : List Line) → slice_get (events_of p) n ≡ Some e → InEvents n flags items → more ≡ marked_at flags (refers e) → now ≡ items ++ new_lines flags (OfEvent n) (refers e) → InEvents (n + 1) more now
+  pub in_events_next : (n : ℕ) (e : EventAt) (flags more : List Bool) (items now : List Line) → slice_get (events_of p) n ≡ Some e → InEvents n flags items → more ≡ marked_at flags (refers e)
+      → now ≡ items ++ new_lines flags (OfEvent n) (refers e) → InEvents (n + 1) more now
   in_events_next n e flags more items now g h a b =
       let es : List EventAt = take n (events_of p) in
       let t : take (n + 1) (events_of p) ≡ es ++ e ∷ [] = take_next (events_of p) n e g in
@@ -73,7 +78,8 @@ module _ (p : Parts) where
       record {
         marks = a ∙ (ap (λ z. marked_at z (refers e)) h.marks ∙ (sym (all_append (no_marks p) (roots p es) (refers e)) ∙ ap (marked_at (no_marks p)) (sym (ap (roots p) t ∙ roots_one p es e))));
         lines = b ∙ (ap (λ z. z ++ new_lines flags (OfEvent n) (refers e)) h.lines ∙ (ap (λ z. event_lines p (no_marks p) 0 es ++ new_lines z (OfEvent n) (refers e)) h.marks
-            ∙ (ap (λ z. event_lines p (no_marks p) 0 es ++ new_lines (marked_at (no_marks p) (roots p es)) (OfEvent z) (refers e)) (sym l) ∙ sym (ap (event_lines p (no_marks p) 0) t ∙ event_lines_one (no_marks p) 0 es e))));
+            ∙ (ap (λ z. event_lines p (no_marks p) 0 es ++ new_lines (marked_at (no_marks p) (roots p es)) (OfEvent z) (refers e)) (sym l)
+            ∙ sym (ap (event_lines p (no_marks p) 0) t ∙ event_lines_one (no_marks p) 0 es e))));
       }
 
   -- The lines so far, with those that the entries of the rest still add, are all the lines.
@@ -119,7 +125,8 @@ module _ (p : Parts) where
           let within : suc next ≤ length items = get_within items next l g in
           let d : drop next items ≡ l ∷ drop (suc next) items = drop_get items next l g in
           let q : next + 1 ≡ suc next = omega arith in
-          let t : take (next + 1) now ≡ take next items ++ l ∷ [] = ap (λ z. take z now) q ∙ (ap (take (suc next)) b ∙ (take_front items new (suc next) within ∙ (sym (ap (λ z. take z items) q) ∙ take_next items next l g))) in
+          let t : take (next + 1) now ≡ take next items ++ l ∷ [] =
+          ap (λ z. take z now) q ∙ (ap (take (suc next)) b ∙ (take_front items new (suc next) within ∙ (sym (ap (λ z. take z items) q) ∙ take_next items next l g))) in
           let u : drop (next + 1) now ≡ drop (suc next) items ++ new = ap (λ z. drop z now) q ∙ (ap (drop (suc next)) b ∙ drop_front items new (suc next) within) in
           let v : lines_from n p (marked_at flags (next_entries p l.entry)) (drop (suc next) items ++ new) ≡ lines_from n p more (drop (next + 1) now) =
           ap (λ z. lines_from n p z (drop (suc next) items ++ new)) (sym a) ∙ ap (lines_from n p more) (sym u) in
@@ -127,7 +134,8 @@ module _ (p : Parts) where
             size = ap length a ∙ (all_size flags (next_entries p l.entry) ∙ h.size);
             turns = n;
             sum = omega arith;
-            same = e ∙ (ap (λ z. take next items ++ lines_from (suc n) p flags z) d ∙ (sym (append_assoc (take next items) (l ∷ []) (lines_from n p (marked_at flags (next_entries p l.entry)) (drop (suc next) items ++ new)))
+            same = e ∙ (ap (λ z. take next items ++ lines_from (suc n) p flags z) d
+                ∙ (sym (append_assoc (take next items) (l ∷ []) (lines_from n p (marked_at flags (next_entries p l.entry)) (drop (suc next) items ++ new)))
                 ∙ (ap (λ z. z ++ lines_from n p (marked_at flags (next_entries p l.entry)) (drop (suc next) items ++ new)) (sym t) ∙ ap (λ z. take (next + 1) now ++ z) v)));
           }
 
@@ -144,13 +152,15 @@ module _ (p : Parts) where
   pub in_lines_ends : (old flags : List Bool) (first items : List Line) (next : ℕ) → length items ≤ next → InLines old first flags items next → items ≡ lines_from (length p.entries) p old first
   in_lines_ends old flags first items next h i =
       let a = all_taken items next h in
-      sym (i.same ∙ (ap (λ z. z ++ lines_from i.turns p flags (drop next items)) a.0 ∙ (ap (λ z. items ++ lines_from i.turns p flags z) a.1 ∙ (ap (λ z. items ++ z) (none_left i.turns flags) ∙ append-nil items))))
+      sym (i.same ∙ (ap (λ z. z ++ lines_from i.turns p flags (drop next items)) a.0
+      ∙ (ap (λ z. items ++ lines_from i.turns p flags z) a.1 ∙ (ap (λ z. items ++ z) (none_left i.turns flags) ∙ append-nil items))))
 
   pub no_marks_size : (flags : List Bool) (is : List ℕ) → flags ≡ marked_at (no_marks p) is → length flags ≡ length p.entries
   no_marks_size flags is e = ap length e ∙ (all_size (no_marks p) is ∙ length-replicate (length p.entries) _)
 
   -- All the lines.
-  pub lines_end : (flags : List Bool) (first items : List Line) → flags ≡ marked_at (no_marks p) (roots p (events_of p)) → first ≡ event_lines p (no_marks p) 0 (events_of p) → items ≡ lines_from (length p.entries) p flags first → items ≡ lines_of p
+  pub lines_end : (flags : List Bool) (first items : List Line) → flags ≡ marked_at (no_marks p) (roots p (events_of p)) → first ≡ event_lines p (no_marks p) 0 (events_of p)
+      → items ≡ lines_from (length p.entries) p flags first → items ≡ lines_of p
   unfolding lines_of
   lines_end flags first items a b e = e ∙ (ap (λ z. lines_from (length p.entries) p z first) a ∙ ap (lines_from (length p.entries) p (marked_at (no_marks p) (roots p (events_of p)))) b)
 

@@ -21,7 +21,8 @@ Checked p q kept r (Err ClassesDiffer) = HasClasses p.classes q.classes → ⊥
 Checked p q kept r (Err EventsDiffer) = HasClasses p.classes q.classes × (contents p kept ≡ contents q (events_of q) → ⊥)
 Checked p q kept r (Err EntriesDiffer) = HasClasses p.classes q.classes × (contents p kept ≡ contents q (events_of q)) × ((marks : List Bool) → AreAmong p q marks → ⊥)
 Checked p q kept r (Err EntryMissing) = HasClasses p.classes q.classes × (contents p kept ≡ contents q (events_of q)) × (marks : List Bool) × AreAmong p q marks × (AreClosed p kept marks → ⊥)
-Checked p q kept r (Err ReceiptBad) = HasClasses p.classes q.classes × (contents p kept ≡ contents q (events_of q)) × (marks : List Bool) × AreAmong p q marks × AreClosed p kept marks × ((n : ℕ) → IsReceiptOf (take n r) q → ⊥)
+Checked p q kept r (Err ReceiptBad) = HasClasses p.classes q.classes × (contents p kept ≡ contents q (events_of q)) × (marks : List Bool) × AreAmong p q marks × AreClosed p kept
+    marks × ((n : ℕ) → IsReceiptOf (take n r) q → ⊥)
 
 -- At most one answer is right.
 abbrev pub HasOneAnswer : Parts → Parts → List EventAt → List ℕ → Type 0

@@ -28,7 +28,8 @@ IfStopped _ Claim = Claim
 -- comparison goes on: the verdict for the later inputs and outputs is the verdict for all. Otherwise this
 -- verdict is.
 abbrev pub Steps : Result (Unit {0}) Verdict → ℕ → Result Parts Flaw → List Parts → Comparer → Comparer → Type 0
-Steps (Ok x) n next qs old new = (later : List Parts) × HasOutputs new later × ((k : Recording) (y : Verdict) → ComparedWith old.filter.now k later new.receipts.now (n + 1) y → ComparedWith old.filter.now (read_on (n + 1) next k) qs old.receipts.now n y)
+Steps (Ok x) n next qs old new = (later : List Parts) × HasOutputs new
+    later × ((k : Recording) (y : Verdict) → ComparedWith old.filter.now k later new.receipts.now (n + 1) y → ComparedWith old.filter.now (read_on (n + 1) next k) qs old.receipts.now n y)
 Steps (Err x) n next qs old new = IfStopped x ((k : Recording) → ComparedWith old.filter.now (read_on (n + 1) next k) qs old.receipts.now n x)
 
 -- The verdict on the input, if it could be read.

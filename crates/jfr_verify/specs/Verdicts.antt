@@ -56,7 +56,8 @@ pub data VerdictOf (g : Given) (t : Three) (x : Verdict) : Type 0 where
   -- A chunk of the output is refused.
   refused : HasReceipts t → (o : HasOutput t) → (f : Refusal) → (recording_of o.bytes).refusal ≡ Some f → x ≡ Doubted f.chunk OutRefused → VerdictOf g t x
   -- Each chunk of the input is compared with one of the output.
-  compared : (r : HasReceipts t) → (o : HasOutput t) → (recording_of o.bytes).refusal ≡ None → (a : List ℕ) → t.input ≡ Some a → ComparedWith g (recording_of a) (recording_of o.bytes).parts r.bytes 0 x → VerdictOf g t x
+  compared : (r : HasReceipts t) → (o : HasOutput t) → (recording_of o.bytes).refusal ≡ None → (a : List ℕ) → t.input ≡ Some a
+      → ComparedWith g (recording_of a) (recording_of o.bytes).parts r.bytes 0 x → VerdictOf g t x
 
 -- At most one verdict is right.
 abbrev pub HasOneVerdict : Given → Three → Type 0

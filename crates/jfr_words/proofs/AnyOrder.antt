@@ -69,7 +69,8 @@ print_is Json x g = refl
 which_print : (o p : PrintOption) → (o ≡ p) ⊎ Apart (has_print o) (put_print o) (has_print p) (put_print p)
 which_print (Filter s) (Filter t) = by_which (which_filter s t)
   where
-    by_which : (s ≡ t) ⊎ Apart (has_filter s) (put_filter s) (has_filter t) (put_filter t) → (Filter s ≡ Filter t) ⊎ Apart (has_print (Filter s)) (put_print (Filter s)) (has_print (Filter t)) (put_print (Filter t))
+    by_which : (s ≡ t) ⊎ Apart (has_filter s) (put_filter s) (has_filter t) (put_filter t)
+        → (Filter s ≡ Filter t) ⊎ Apart (has_print (Filter s)) (put_print (Filter s)) (has_print (Filter t)) (put_print (Filter t))
     by_which (inl e) = inl (ap (λ z. Filter z) e)
     by_which (inr a) = inr (record { on = λ x g. a.on x g.filter; back = λ y g. a.back y g.filter; both = λ x y g. ap (λ h. record g { filter = h }) (a.both x y g.filter) })
 which_print (Filter s) Depth = inr (record { on = λ x g. refl; back = λ y g. refl; both = λ x y g. refl })
@@ -114,7 +115,8 @@ scrub_is scrubs.Renumber x g = refl
 which_scrub : (o p : ScrubOption) → (o ≡ p) ⊎ Apart (has_scrub o) (put_scrub o) (has_scrub p) (put_scrub p)
 which_scrub (scrubs.Filter s) (scrubs.Filter t) = by_which (which_filter s t)
   where
-    by_which : (s ≡ t) ⊎ Apart (has_filter s) (put_filter s) (has_filter t) (put_filter t) → (scrubs.Filter s ≡ scrubs.Filter t) ⊎ Apart (has_scrub (scrubs.Filter s)) (put_scrub (scrubs.Filter s)) (has_scrub (scrubs.Filter t)) (put_scrub (scrubs.Filter t))
+    by_which : (s ≡ t) ⊎ Apart (has_filter s) (put_filter s) (has_filter t) (put_filter t)
+        → (scrubs.Filter s ≡ scrubs.Filter t) ⊎ Apart (has_scrub (scrubs.Filter s)) (put_scrub (scrubs.Filter s)) (has_scrub (scrubs.Filter t)) (put_scrub (scrubs.Filter t))
     by_which (inl e) = inl (ap (λ z. scrubs.Filter z) e)
     by_which (inr a) = inr (record { on = λ x g. a.on x g.filter; back = λ y g. a.back y g.filter; both = λ x y g. ap (λ h. record g { filter = h }) (a.both x y g.filter) })
 which_scrub (scrubs.Filter s) scrubs.Renumber = inr (record { on = λ x g. refl; back = λ y g. refl; both = λ x y g. refl })
@@ -216,7 +218,8 @@ mask_is masks.Table x g = refl
 which_mask : (o p : MaskOption) → (o ≡ p) ⊎ Apart (has_mask o) (put_mask o) (has_mask p) (put_mask p)
 which_mask (masks.Filter s) (masks.Filter t) = by_which (which_filter s t)
   where
-    by_which : (s ≡ t) ⊎ Apart (has_filter s) (put_filter s) (has_filter t) (put_filter t) → (masks.Filter s ≡ masks.Filter t) ⊎ Apart (has_mask (masks.Filter s)) (put_mask (masks.Filter s)) (has_mask (masks.Filter t)) (put_mask (masks.Filter t))
+    by_which : (s ≡ t) ⊎ Apart (has_filter s) (put_filter s) (has_filter t) (put_filter t)
+        → (masks.Filter s ≡ masks.Filter t) ⊎ Apart (has_mask (masks.Filter s)) (put_mask (masks.Filter s)) (has_mask (masks.Filter t)) (put_mask (masks.Filter t))
     by_which (inl e) = inl (ap (λ z. masks.Filter z) e)
     by_which (inr a) = inr (record { on = λ x g. a.on x g.filter; back = λ y g. a.back y g.filter; both = λ x y g. ap (λ h. record g { filter = h }) (a.both x y g.filter) })
 which_mask (masks.Filter s) masks.Strings = inr (record { on = λ x g. refl; back = λ y g. refl; both = λ x y g. refl })
@@ -273,7 +276,8 @@ abbrev Takes : {G O : Type 0} → (List ℕ → Option O) → (O → List ℕ �
 Takes {G = G} named given from option = (rest : List (List ℕ)) (g : G) → from g (option ++ rest) ≡ option_and_then (λ h. from h rest) (give named given option g)
 
 print_valued : (word : List ℕ) → list_any (bytes_eq word) (valued_options (codes "print")) ≡ true → (value : List ℕ) → Takes print_option_of print_with print_from (word ∷ value ∷ [])
-print_valued word e value = of_each (λ w. Takes print_option_of print_with print_from (w ∷ value ∷ [])) (valued_options (codes "print")) (λ rest g. refl, (λ rest g. refl, (λ rest g. refl, (λ rest g. refl, (λ rest g. refl, (λ rest g. refl, tt)))))) word e
+print_valued word e value = of_each (λ w. Takes print_option_of print_with print_from (w ∷ value ∷ [])) (valued_options (codes "print"))
+    (λ rest g. refl, (λ rest g. refl, (λ rest g. refl, (λ rest g. refl, (λ rest g. refl, (λ rest g. refl, tt)))))) word e
 
 print_bare : (word : List ℕ) → list_any (bytes_eq word) (bare_options (codes "print")) ≡ true → Takes print_option_of print_with print_from (word ∷ [])
 print_bare word e = of_each (λ w. Takes print_option_of print_with print_from (w ∷ [])) (bare_options (codes "print")) (json, tt) word e
@@ -286,16 +290,27 @@ print_bare word e = of_each (λ w. Takes print_option_of print_with print_from (
         by_test false = refl
     json (next ∷ rest) g = refl
 
-print_read : (g : PrintSettings) (option : List (List ℕ)) (rest : List (List ℕ)) → IsTrue (is_option (codes "print") option) → print_from g (option ++ rest) ≡ option_and_then (λ h. print_from h rest) (give print_option_of print_with option g)
+print_read : (g : PrintSettings) (option : List (List ℕ)) (rest : List (List ℕ)) → IsTrue (is_option (codes "print") option)
+    → print_from g (option ++ rest) ≡ option_and_then (λ h. print_from h rest) (give print_option_of print_with option g)
 print_read g [] rest e = cc
 print_read g (word ∷ []) rest e = print_bare word e rest g
 print_read g (word ∷ value ∷ []) rest e = print_valued word e value rest g
 print_read g (word ∷ value ∷ more ∷ others) rest e = cc
 
 scrub_valued : (word : List ℕ) → list_any (bytes_eq word) (valued_options (codes "scrub")) ≡ true → (value : List ℕ) → Takes scrub_option_of scrub_with scrub_from (word ∷ value ∷ [])
-scrub_valued word e value = of_each (λ w. Takes scrub_option_of scrub_with scrub_from (w ∷ value ∷ [])) (valued_options (codes "scrub")) (λ rest g. refl, (λ rest g. refl, (λ rest g. refl, (λ rest g. refl, (λ rest g. refl, (λ rest g. refl, (λ rest g. refl, (λ rest g. refl, (λ rest g. refl, (λ rest g. refl, (λ rest g. refl, tt))))))))))) word e
+scrub_valued word e value = of_each (λ w. Takes scrub_option_of scrub_with scrub_from (w ∷ value ∷ [])) (valued_options (codes "scrub")) (
+  λ rest g. refl,
+  (
+    λ rest g. refl,
+    (
+      λ rest g. refl,
+      (λ rest g. refl, (λ rest g. refl, (λ rest g. refl, (λ rest g. refl, (λ rest g. refl, (λ rest g. refl, (λ rest g. refl, (λ rest g. refl, tt)))))))),
+    ),
+  ),
+) word e
 
-scrub_read : (g : ScrubSettings) (option : List (List ℕ)) (rest : List (List ℕ)) → IsTrue (is_option (codes "scrub") option) → scrub_from g (option ++ rest) ≡ option_and_then (λ h. scrub_from h rest) (give scrub_option_of scrub_with option g)
+scrub_read : (g : ScrubSettings) (option : List (List ℕ)) (rest : List (List ℕ)) → IsTrue (is_option (codes "scrub") option)
+    → scrub_from g (option ++ rest) ≡ option_and_then (λ h. scrub_from h rest) (give scrub_option_of scrub_with option g)
 scrub_read g [] rest e = cc
 scrub_read g (word ∷ []) rest e = cc
 scrub_read g (word ∷ value ∷ []) rest e = scrub_valued word e value rest g
@@ -304,42 +319,68 @@ scrub_read g (word ∷ value ∷ more ∷ others) rest e = cc
 -- The options of a filter, for a command that has no others.
 module _ (named : Given → List (List ℕ) → Option Order) where
   filter_valued : (word : List ℕ) → list_any (bytes_eq word) filter_options ≡ true → (value : List ℕ) → Takes filter_option_of given_with (filtered_from named) (word ∷ value ∷ [])
-  filter_valued word e value = of_each (λ w. Takes filter_option_of given_with (filtered_from named) (w ∷ value ∷ [])) filter_options (λ rest g. refl, (λ rest g. refl, (λ rest g. refl, (λ rest g. refl, (λ rest g. refl, (λ rest g. refl, (λ rest g. refl, (λ rest g. refl, (λ rest g. refl, (λ rest g. refl, tt)))))))))) word e
+  filter_valued word e value = of_each (λ w. Takes filter_option_of given_with (filtered_from named) (w ∷ value ∷ [])) filter_options
+      (λ rest g. refl, (λ rest g. refl, (λ rest g. refl, (λ rest g. refl, (λ rest g. refl, (λ rest g. refl, (λ rest g. refl, (λ rest g. refl, (λ rest g. refl, (λ rest g. refl, tt)))))))))) word e
 
-  receipt_read : (g : Given) (option : List (List ℕ)) (rest : List (List ℕ)) → IsTrue (is_option (codes "receipt") option) → filtered_from named g (option ++ rest) ≡ option_and_then (λ h. filtered_from named h rest) (give filter_option_of given_with option g)
+  receipt_read : (g : Given) (option : List (List ℕ)) (rest : List (List ℕ)) → IsTrue (is_option (codes "receipt") option)
+      → filtered_from named g (option ++ rest) ≡ option_and_then (λ h. filtered_from named h rest) (give filter_option_of given_with option g)
   receipt_read g [] rest e = cc
   receipt_read g (word ∷ []) rest e = cc
   receipt_read g (word ∷ value ∷ []) rest e = filter_valued word e value rest g
   receipt_read g (word ∷ value ∷ more ∷ others) rest e = cc
 
-  verification_read : (g : Given) (option : List (List ℕ)) (rest : List (List ℕ)) → IsTrue (is_option (codes "verify") option) → filtered_from named g (option ++ rest) ≡ option_and_then (λ h. filtered_from named h rest) (give filter_option_of given_with option g)
+  verification_read : (g : Given) (option : List (List ℕ)) (rest : List (List ℕ)) → IsTrue (is_option (codes "verify") option)
+      → filtered_from named g (option ++ rest) ≡ option_and_then (λ h. filtered_from named h rest) (give filter_option_of given_with option g)
   verification_read g [] rest e = cc
   verification_read g (word ∷ []) rest e = cc
   verification_read g (word ∷ value ∷ []) rest e = filter_valued word e value rest g
   verification_read g (word ∷ value ∷ more ∷ others) rest e = cc
 
 split_valued : (word : List ℕ) → list_any (bytes_eq word) (valued_options (codes "disassemble")) ≡ true → (value : List ℕ) → Takes split_option_of split_with split_from (word ∷ value ∷ [])
-split_valued word e value = of_each (λ w. Takes split_option_of split_with split_from (w ∷ value ∷ [])) (valued_options (codes "disassemble")) (λ rest g. refl, (λ rest g. refl, (λ rest g. refl, tt))) word e
+split_valued word e value = of_each (λ w. Takes split_option_of split_with split_from (w ∷ value ∷ [])) (valued_options (codes "disassemble"))
+    (λ rest g. refl, (λ rest g. refl, (λ rest g. refl, tt))) word e
 
-split_read : (g : SplitSettings) (option : List (List ℕ)) (rest : List (List ℕ)) → IsTrue (is_option (codes "disassemble") option) → split_from g (option ++ rest) ≡ option_and_then (λ h. split_from h rest) (give split_option_of split_with option g)
+split_read : (g : SplitSettings) (option : List (List ℕ)) (rest : List (List ℕ)) → IsTrue (is_option (codes "disassemble") option)
+    → split_from g (option ++ rest) ≡ option_and_then (λ h. split_from h rest) (give split_option_of split_with option g)
 split_read g [] rest e = cc
 split_read g (word ∷ []) rest e = cc
 split_read g (word ∷ value ∷ []) rest e = split_valued word e value rest g
 split_read g (word ∷ value ∷ more ∷ others) rest e = cc
 
 stacks_valued : (word : List ℕ) → list_any (bytes_eq word) (valued_options (codes "stacks")) ≡ true → (value : List ℕ) → Takes stacks_option_of stacks_with stacks_from (word ∷ value ∷ [])
-stacks_valued word e value = of_each (λ w. Takes stacks_option_of stacks_with stacks_from (w ∷ value ∷ [])) (valued_options (codes "stacks")) (λ rest g. refl, (λ rest g. refl, (λ rest g. refl, (λ rest g. refl, (λ rest g. refl, tt))))) word e
+stacks_valued word e value = of_each (λ w. Takes stacks_option_of stacks_with stacks_from (w ∷ value ∷ [])) (valued_options (codes "stacks"))
+    (λ rest g. refl, (λ rest g. refl, (λ rest g. refl, (λ rest g. refl, (λ rest g. refl, tt))))) word e
 
-stacks_read : (g : Given) (option : List (List ℕ)) (rest : List (List ℕ)) → IsTrue (is_option (codes "stacks") option) → stacks_from g (option ++ rest) ≡ option_and_then (λ h. stacks_from h rest) (give stacks_option_of stacks_with option g)
+stacks_read : (g : Given) (option : List (List ℕ)) (rest : List (List ℕ)) → IsTrue (is_option (codes "stacks") option)
+    → stacks_from g (option ++ rest) ≡ option_and_then (λ h. stacks_from h rest) (give stacks_option_of stacks_with option g)
 stacks_read g [] rest e = cc
 stacks_read g (word ∷ []) rest e = cc
 stacks_read g (word ∷ value ∷ []) rest e = stacks_valued word e value rest g
 stacks_read g (word ∷ value ∷ more ∷ others) rest e = cc
 
 mask_valued : (word : List ℕ) → list_any (bytes_eq word) (valued_options (codes "mask")) ≡ true → (value : List ℕ) → Takes mask_option_of mask_with mask_from (word ∷ value ∷ [])
-mask_valued word e value = of_each (λ w. Takes mask_option_of mask_with mask_from (w ∷ value ∷ [])) (valued_options (codes "mask")) (λ rest g. refl, (λ rest g. refl, (λ rest g. refl, (λ rest g. refl, (λ rest g. refl, (λ rest g. refl, (λ rest g. refl, (λ rest g. refl, (λ rest g. refl, (λ rest g. refl, (λ rest g. refl, (λ rest g. refl, (λ rest g. refl, (λ rest g. refl, tt)))))))))))))) word e
+mask_valued word e value = of_each (λ w. Takes mask_option_of mask_with mask_from (w ∷ value ∷ [])) (valued_options (codes "mask")) (
+  λ rest g. refl,
+  (
+    λ rest g. refl,
+    (
+      λ rest g. refl,
+      (
+        λ rest g. refl,
+        (
+          λ rest g. refl,
+          (
+            λ rest g. refl,
+            (λ rest g. refl, (λ rest g. refl, (λ rest g. refl, (λ rest g. refl, (λ rest g. refl, (λ rest g. refl, (λ rest g. refl, (λ rest g. refl, tt)))))))),
+          ),
+        ),
+      ),
+    ),
+  ),
+) word e
 
-mask_read : (g : MaskSettings) (option : List (List ℕ)) (rest : List (List ℕ)) → IsTrue (is_option (codes "mask") option) → mask_from g (option ++ rest) ≡ option_and_then (λ h. mask_from h rest) (give mask_option_of mask_with option g)
+mask_read : (g : MaskSettings) (option : List (List ℕ)) (rest : List (List ℕ)) → IsTrue (is_option (codes "mask") option)
+    → mask_from g (option ++ rest) ≡ option_and_then (λ h. mask_from h rest) (give mask_option_of mask_with option g)
 mask_read g [] rest e = cc
 mask_read g (word ∷ []) rest e = cc
 mask_read g (word ∷ value ∷ []) rest e = mask_valued word e value rest g
@@ -368,13 +409,15 @@ module _ (named : Bool → List ℕ → Order) where
       json [] true = refl
       json (next ∷ rest) true = refl
 
-  summary_read : (given : Bool) (option : List (List ℕ)) (rest : List (List ℕ)) → IsTrue (is_option (codes "summary") option) → json_from given (option ++ rest) ≡ option_and_then (λ h. json_from h rest) (give json_option_of json_with option given)
+  summary_read : (given : Bool) (option : List (List ℕ)) (rest : List (List ℕ)) → IsTrue (is_option (codes "summary") option)
+      → json_from given (option ++ rest) ≡ option_and_then (λ h. json_from h rest) (give json_option_of json_with option given)
   summary_read given [] rest e = cc
   summary_read given (word ∷ []) rest e = json_bare word e rest given
   summary_read given (word ∷ value ∷ []) rest e = cc
   summary_read given (word ∷ value ∷ more ∷ others) rest e = cc
 
-  metadata_read : (given : Bool) (option : List (List ℕ)) (rest : List (List ℕ)) → IsTrue (is_option (codes "metadata") option) → json_from given (option ++ rest) ≡ option_and_then (λ h. json_from h rest) (give json_option_of json_with option given)
+  metadata_read : (given : Bool) (option : List (List ℕ)) (rest : List (List ℕ)) → IsTrue (is_option (codes "metadata") option)
+      → json_from given (option ++ rest) ≡ option_and_then (λ h. json_from h rest) (give json_option_of json_with option given)
   metadata_read given [] rest e = cc
   metadata_read given (word ∷ []) rest e = json_bare word e rest given
   metadata_read given (word ∷ value ∷ []) rest e = cc
@@ -395,10 +438,13 @@ data HasOptions (command : List ℕ) : Type 0 where
 
 has_options : (command : List ℕ) → HasOptions command
 has_options command =
-    by_tests (bytes_eq command (codes "print")) (bytes_eq command (codes "summary")) (bytes_eq command (codes "metadata")) (bytes_eq command (codes "scrub")) (bytes_eq command (codes "disassemble")) (bytes_eq command (codes "receipt")) (bytes_eq command (codes "verify")) (bytes_eq command (codes "stacks")) (bytes_eq command (codes "mask"))
+    by_tests (bytes_eq command (codes "print")) (bytes_eq command (codes "summary")) (bytes_eq command (codes "metadata")) (bytes_eq command (codes "scrub")) (bytes_eq command (codes "disassemble"))
+    (bytes_eq command (codes "receipt")) (bytes_eq command (codes "verify")) (bytes_eq command (codes "stacks")) (bytes_eq command (codes "mask"))
     refl refl refl refl refl refl refl refl refl
   where
-    by_tests : (p u m s d r v t a : Bool) → bytes_eq command (codes "print") ≡ p → bytes_eq command (codes "summary") ≡ u → bytes_eq command (codes "metadata") ≡ m → bytes_eq command (codes "scrub") ≡ s → bytes_eq command (codes "disassemble") ≡ d → bytes_eq command (codes "receipt") ≡ r → bytes_eq command (codes "verify") ≡ v → bytes_eq command (codes "stacks") ≡ t → bytes_eq command (codes "mask") ≡ a → HasOptions command
+    by_tests : (p u m s d r v t a : Bool) → bytes_eq command (codes "print") ≡ p → bytes_eq command (codes "summary") ≡ u → bytes_eq command (codes "metadata") ≡ m
+        → bytes_eq command (codes "scrub") ≡ s → bytes_eq command (codes "disassemble") ≡ d → bytes_eq command (codes "receipt") ≡ r → bytes_eq command (codes "verify") ≡ v
+        → bytes_eq command (codes "stacks") ≡ t → bytes_eq command (codes "mask") ≡ a → HasOptions command
     by_tests true u m s d r v t a e f g h i j k l n = print ((bytes_eq-Decides command (codes "print")).0 e)
     by_tests false true m s d r v t a e f g h i j k l n = summary ((bytes_eq-Decides command (codes "summary")).0 f)
     by_tests false false true s d r v t a e f g h i j k l n = metadata ((bytes_eq-Decides command (codes "metadata")).0 g)
@@ -416,31 +462,47 @@ has_options command =
         none (word ∷ value ∷ []) t = cc (rw (e, h, i, j, k, l, n) at t)
         none (word ∷ value ∷ more ∷ others) t = cc
 
-pub any_order : (command : List ℕ) (options others : List (List (List ℕ))) (rest : List (List ℕ)) → AreOptions command options → IsPermutation options others → order_of (line command others rest) ≡ order_of (line command options rest)
+pub any_order : (command : List ℕ) (options others : List (List (List ℕ))) (rest : List (List ℕ)) → AreOptions command options → IsPermutation options others
+    → order_of (line command others rest) ≡ order_of (line command options rest)
 unfolding order_of
 any_order command options others rest all p = by_command (has_options command) all
   where
     Same : List ℕ → Type 0
     Same c = AreOptions c options → order_of (line c others rest) ≡ order_of (line c options rest)
 
-    nothing_given_at : (os ps : List (List (List ℕ))) → length ps ≡ length os → AreOptions command os → ((option : List (List ℕ)) → IsTrue (is_option command option) → ⊥) → order_of (line command ps rest) ≡ order_of (line command os rest)
+    nothing_given_at : (os ps : List (List (List ℕ))) → length ps ≡ length os → AreOptions command os → ((option : List (List ℕ)) → IsTrue (is_option command option) → ⊥)
+        → order_of (line command ps rest) ≡ order_of (line command os rest)
     nothing_given_at [] [] e all none = refl
     nothing_given_at [] (o ∷ ps) e all none = absurd (omega arith)
     nothing_given_at (o ∷ os) ps e all none = absurd (none o (all 0 o (omega arith)))
 
     by_command : HasOptions command → Same command
-    by_command (print e) = subst Same (sym e) (λ all. in_any_order print_option_of print_with prints_settle print_from (λ o. IsTrue (is_option (codes "print") o)) print_read options others rest no_print_option all p)
-    by_command (summary e) = subst Same (sym e) (λ all. in_any_order json_option_of json_with json_settles (json_from orders.Summary) (λ o. IsTrue (is_option (codes "summary") o)) (summary_read orders.Summary) options others rest false all p)
-    by_command (metadata e) = subst Same (sym e) (λ all. in_any_order json_option_of json_with json_settles (json_from orders.Metadata) (λ o. IsTrue (is_option (codes "metadata") o)) (metadata_read orders.Metadata) options others rest false all p)
-    by_command (scrub e) = subst Same (sym e) (λ all. in_any_order scrub_option_of scrub_with scrubs_settle scrub_from (λ o. IsTrue (is_option (codes "scrub") o)) scrub_read options others rest no_scrub_option all p)
-    by_command (split e) = subst Same (sym e) (λ all. in_any_order split_option_of split_with splits_settle split_from (λ o. IsTrue (is_option (codes "disassemble") o)) split_read options others rest no_split_option all p)
-    by_command (receipt e) = subst Same (sym e) (λ all. in_any_order filter_option_of given_with filters_settle (filtered_from receipt_named) (λ o. IsTrue (is_option (codes "receipt") o)) (receipt_read receipt_named) options others rest nothing_given all p)
-    by_command (verify e) = subst Same (sym e) (λ all. in_any_order filter_option_of given_with filters_settle (filtered_from verification_named) (λ o. IsTrue (is_option (codes "verify") o)) (verification_read verification_named) options others rest nothing_given all p)
-    by_command (stacks e) = subst Same (sym e) (λ all. in_any_order stacks_option_of stacks_with stacks_settle stacks_from (λ o. IsTrue (is_option (codes "stacks") o)) stacks_read options others rest nothing_given all p)
-    by_command (mask e) = subst Same (sym e) (λ all. in_any_order mask_option_of mask_with masks_settle mask_from (λ o. IsTrue (is_option (codes "mask") o)) mask_read options others rest no_mask_option all p)
+    by_command (print e) = subst Same (sym e)
+        (λ all. in_any_order print_option_of print_with prints_settle print_from (λ o. IsTrue (is_option (codes "print") o)) print_read options others rest no_print_option all p)
+    by_command (summary e) = subst Same (sym e)
+        (λ all. in_any_order json_option_of json_with json_settles (json_from orders.Summary) (λ o. IsTrue (is_option (codes "summary") o))
+        (summary_read orders.Summary) options others rest false all p)
+    by_command (metadata e) = subst Same (sym e)
+        (λ all. in_any_order json_option_of json_with json_settles (json_from orders.Metadata) (λ o. IsTrue (is_option (codes "metadata") o))
+        (metadata_read orders.Metadata) options others rest false all p)
+    by_command (scrub e) = subst Same (sym e)
+        (λ all. in_any_order scrub_option_of scrub_with scrubs_settle scrub_from (λ o. IsTrue (is_option (codes "scrub") o)) scrub_read options others rest no_scrub_option all p)
+    by_command (split e) = subst Same (sym e)
+        (λ all. in_any_order split_option_of split_with splits_settle split_from (λ o. IsTrue (is_option (codes "disassemble") o)) split_read options others rest no_split_option all p)
+    by_command (receipt e) = subst Same (sym e)
+        (λ all. in_any_order filter_option_of given_with filters_settle (filtered_from receipt_named) (λ o. IsTrue (is_option (codes "receipt") o))
+        (receipt_read receipt_named) options others rest nothing_given all p)
+    by_command (verify e) = subst Same (sym e)
+        (λ all. in_any_order filter_option_of given_with filters_settle (filtered_from verification_named) (λ o. IsTrue (is_option (codes "verify") o))
+        (verification_read verification_named) options others rest nothing_given all p)
+    by_command (stacks e) = subst Same (sym e)
+        (λ all. in_any_order stacks_option_of stacks_with stacks_settle stacks_from (λ o. IsTrue (is_option (codes "stacks") o)) stacks_read options others rest nothing_given all p)
+    by_command (mask e) = subst Same (sym e)
+        (λ all. in_any_order mask_option_of mask_with masks_settle mask_from (λ o. IsTrue (is_option (codes "mask") o)) mask_read options others rest no_mask_option all p)
     by_command (no_options none) = λ all. nothing_given_at options others (length_permutation options others p) all none
 
-pub at_most_once : (command : List ℕ) (options : List (List (List ℕ))) (rest : List (List ℕ)) → AreOptions command options → OnSome (order_of (line command options rest)) (IsDistinct is_same_option options)
+pub at_most_once : (command : List ℕ) (options : List (List (List ℕ))) (rest : List (List ℕ)) → AreOptions command options
+    → OnSome (order_of (line command options rest)) (IsDistinct is_same_option options)
 unfolding order_of IsDistinct
 at_most_once command options rest all = by_command (has_options command) all
   where
@@ -456,13 +518,23 @@ at_most_once command options rest all = by_command (has_options command) all
     on_any (Some x) P p = p
 
     by_command : HasOptions command → Once command
-    by_command (print e) = subst Once (sym e) (λ all. given_once print_option_of print_with prints_settle print_from (λ o. IsTrue (is_option (codes "print") o)) print_read options rest no_print_option all)
-    by_command (summary e) = subst Once (sym e) (λ all. given_once json_option_of json_with json_settles (json_from orders.Summary) (λ o. IsTrue (is_option (codes "summary") o)) (summary_read orders.Summary) options rest false all)
-    by_command (metadata e) = subst Once (sym e) (λ all. given_once json_option_of json_with json_settles (json_from orders.Metadata) (λ o. IsTrue (is_option (codes "metadata") o)) (metadata_read orders.Metadata) options rest false all)
-    by_command (scrub e) = subst Once (sym e) (λ all. given_once scrub_option_of scrub_with scrubs_settle scrub_from (λ o. IsTrue (is_option (codes "scrub") o)) scrub_read options rest no_scrub_option all)
-    by_command (split e) = subst Once (sym e) (λ all. given_once split_option_of split_with splits_settle split_from (λ o. IsTrue (is_option (codes "disassemble") o)) split_read options rest no_split_option all)
-    by_command (receipt e) = subst Once (sym e) (λ all. given_once filter_option_of given_with filters_settle (filtered_from receipt_named) (λ o. IsTrue (is_option (codes "receipt") o)) (receipt_read receipt_named) options rest nothing_given all)
-    by_command (verify e) = subst Once (sym e) (λ all. given_once filter_option_of given_with filters_settle (filtered_from verification_named) (λ o. IsTrue (is_option (codes "verify") o)) (verification_read verification_named) options rest nothing_given all)
-    by_command (stacks e) = subst Once (sym e) (λ all. given_once stacks_option_of stacks_with stacks_settle stacks_from (λ o. IsTrue (is_option (codes "stacks") o)) stacks_read options rest nothing_given all)
+    by_command (print e) = subst Once (sym e)
+        (λ all. given_once print_option_of print_with prints_settle print_from (λ o. IsTrue (is_option (codes "print") o)) print_read options rest no_print_option all)
+    by_command (summary e) = subst Once (sym e)
+        (λ all. given_once json_option_of json_with json_settles (json_from orders.Summary) (λ o. IsTrue (is_option (codes "summary") o)) (summary_read orders.Summary) options rest false all)
+    by_command (metadata e) = subst Once (sym e)
+        (λ all. given_once json_option_of json_with json_settles (json_from orders.Metadata) (λ o. IsTrue (is_option (codes "metadata") o)) (metadata_read orders.Metadata) options rest false all)
+    by_command (scrub e) = subst Once (sym e)
+        (λ all. given_once scrub_option_of scrub_with scrubs_settle scrub_from (λ o. IsTrue (is_option (codes "scrub") o)) scrub_read options rest no_scrub_option all)
+    by_command (split e) = subst Once (sym e)
+        (λ all. given_once split_option_of split_with splits_settle split_from (λ o. IsTrue (is_option (codes "disassemble") o)) split_read options rest no_split_option all)
+    by_command (receipt e) = subst Once (sym e)
+        (λ all. given_once filter_option_of given_with filters_settle (filtered_from receipt_named) (λ o. IsTrue (is_option (codes "receipt") o))
+        (receipt_read receipt_named) options rest nothing_given all)
+    by_command (verify e) = subst Once (sym e)
+        (λ all. given_once filter_option_of given_with filters_settle (filtered_from verification_named) (λ o. IsTrue (is_option (codes "verify") o))
+        (verification_read verification_named) options rest nothing_given all)
+    by_command (stacks e) = subst Once (sym e)
+        (λ all. given_once stacks_option_of stacks_with stacks_settle stacks_from (λ o. IsTrue (is_option (codes "stacks") o)) stacks_read options rest nothing_given all)
     by_command (mask e) = subst Once (sym e) (λ all. given_once mask_option_of mask_with masks_settle mask_from (λ o. IsTrue (is_option (codes "mask") o)) mask_read options rest no_mask_option all)
     by_command (no_options none) = λ all. on_any _ _ (none_given options all none)

@@ -36,7 +36,8 @@ filter_value To word = moment_in word
 pub filter_set : (o : FilterOption) (v : List ℕ) (g : Given) → given_with o v g ≡ set (has_filter o) (put_filter o) (filter_value o v) g
 filter_set (Patterns side) list g = by_tests (has_filter (Patterns side) g) (has_empty_part list)
   where
-    by_tests : (s t : Bool) → (if s || t then None else Some (with_patterns side (patterns_in list) g)) ≡ (if s then None else option_map (λ x. with_patterns side x g) (if t then None else Some (patterns_in list)))
+    by_tests : (s t : Bool)
+        → (if s || t then None else Some (with_patterns side (patterns_in list) g)) ≡ (if s then None else option_map (λ x. with_patterns side x g) (if t then None else Some (patterns_in list)))
     by_tests true t = refl
     by_tests false true = refl
     by_tests false false = refl
@@ -61,13 +62,27 @@ moment_at (inr moment) = moment
 
 -- The fields in a list, and back.
 abbrev fields : Given → List Field
-fields g = inl g.include_events ∷ inl g.exclude_events ∷ inl g.include_categories ∷ inl g.exclude_categories ∷ inl g.include_threads ∷ inl g.exclude_threads ∷ inr g.from ∷ inr g.to ∷ inl g.always ∷ inl g.describe ∷ []
+fields g = inl g.include_events ∷ inl g.exclude_events ∷ inl g.include_categories ∷ inl g.exclude_categories ∷ inl g.include_threads ∷ inl g.exclude_threads ∷ inr g.from ∷ inr g.to ∷ inl g.always
+    ∷ inl g.describe ∷ []
 
 abbrev field_at : ℕ → List Field → Field
 field_at i fs = get_or fs i (inl None)
 
 abbrev of_fields : List Field → Given
-of_fields fs = record { include_events = patterns_at (field_at 0 fs); exclude_events = patterns_at (field_at 1 fs); include_categories = patterns_at (field_at 2 fs); exclude_categories = patterns_at (field_at 3 fs); include_threads = patterns_at (field_at 4 fs); exclude_threads = patterns_at (field_at 5 fs); from = moment_at (field_at 6 fs); to = moment_at (field_at 7 fs); always = patterns_at (field_at 8 fs); describe = patterns_at (field_at 9 fs) }
+of_fields fs = record {
+  include_events = patterns_at (field_at 0 fs);
+  exclude_events = patterns_at (field_at 1 fs);
+  include_categories = patterns_at (field_at 2 fs);
+  exclude_categories = patterns_at
+      (field_at 3 fs);
+  include_threads = patterns_at (field_at 4 fs);
+  exclude_threads = patterns_at (field_at 5 fs);
+  from = moment_at (field_at 6 fs);
+  to = moment_at (field_at 7 fs);
+  always =
+      patterns_at (field_at 8 fs);
+  describe = patterns_at (field_at 9 fs);
+}
 
 same_given : (g h : Given) → fields g ≡ fields h → g ≡ h
 same_given g h e = ap of_fields e
@@ -86,7 +101,8 @@ place (Patterns Always) = 8
 place (Patterns Describe) = 9
 
 abbrev option_at : ℕ → FilterOption
-option_at i = get_or (Patterns IncludeEvents ∷ Patterns ExcludeEvents ∷ Patterns IncludeCategories ∷ Patterns ExcludeCategories ∷ Patterns IncludeThreads ∷ Patterns ExcludeThreads ∷ From ∷ To ∷ Patterns Always ∷ Patterns Describe ∷ []) i To
+option_at i = get_or (Patterns IncludeEvents ∷ Patterns ExcludeEvents ∷ Patterns IncludeCategories ∷ Patterns ExcludeCategories ∷ Patterns IncludeThreads ∷ Patterns ExcludeThreads ∷ From ∷ To
+    ∷ Patterns Always ∷ Patterns Describe ∷ []) i To
 
 abbrev field_of : (o : FilterOption) → FilterValue o → Field
 field_of (Patterns side) patterns = inl (Some patterns)
@@ -123,7 +139,8 @@ stays o p n x g =
     ∙ ap is_given (get_or-set_other (fields g) (place o) (place p) (field_of o x) (inl None) n)
     ∙ sym ((sets_field p).has g)
 
-both_set : (o p : FilterOption) (x : FilterValue o) (y : FilterValue p) (g : Given) → fields (put_filter p y (put_filter o x g)) ≡ set_at (set_at (fields g) (place o) (field_of o x)) (place p) (field_of p y)
+both_set : (o p : FilterOption) (x : FilterValue o) (y : FilterValue p) (g : Given)
+    → fields (put_filter p y (put_filter o x g)) ≡ set_at (set_at (fields g) (place o) (field_of o x)) (place p) (field_of p y)
 both_set o p x y g = (sets_field p).put y (put_filter o x g) ∙ ap (λ fs. set_at fs (place p) (field_of p y)) ((sets_field o).put x g)
 
 apart : (o p : FilterOption) → (place o ≢ place p) → Apart (has_filter o) (put_filter o) (has_filter p) (put_filter p)

@@ -34,7 +34,8 @@ module _ {G O : Type 0} (named : List ℕ → Option O) (given : O → List ℕ 
   either : (a b : List (List ℕ)) (g : G) → option_and_then (gives b) (gives a g) ≡ option_and_then (gives a) (gives b g)
   either a b g = by_options (option_in named a) (option_in named b) (value_in a) (value_in b)
     where
-      by_options : (x y : Option O) (v u : List ℕ) → option_and_then (λ h. option_and_then (λ o. given o u h) y) (option_and_then (λ o. given o v g) x) ≡ option_and_then (λ h. option_and_then (λ o. given o v h) x) (option_and_then (λ o. given o u g) y)
+      by_options : (x y : Option O) (v u : List ℕ)
+          → option_and_then (λ h. option_and_then (λ o. given o u h) y) (option_and_then (λ o. given o v g) x) ≡ option_and_then (λ h. option_and_then (λ o. given o v h) x) (option_and_then (λ o. given o u g) y)
       by_options None None v u = refl
       by_options None (Some p) v u = sym (nothing (given p u g))
       by_options (Some o) None v u = nothing (given o v g)
@@ -52,7 +53,8 @@ module _ {G O : Type 0} (named : List ℕ → Option O) (given : O → List ℕ 
   to_front : (a d : List (List ℕ)) (os : List (List (List ℕ))) (j : ℕ) → j < length os → Same (a ∷ os) (slice_index_or os j d ∷ slice_set os j a)
   to_front a d [] j p g = absurd (omega arith)
   to_front a d (b ∷ os) zero p g = swapped a b os g
-  to_front a d (b ∷ os) (suc j) p g = swapped b (slice_index_or os j d) (slice_set os j a) g ∙ under b (a ∷ os) (slice_index_or os j d ∷ slice_set os j a) (to_front a d os j (omega arith)) g ∙ swapped a b os g
+  to_front a d (b ∷ os) (suc j) p g = swapped b (slice_index_or os j d) (slice_set os j a) g ∙ under b (a ∷ os) (slice_index_or os j d ∷ slice_set os j a) (to_front a d os j (omega arith)) g
+      ∙ swapped a b os g
 
   exchanged : (d : List (List ℕ)) (os : List (List (List ℕ))) (i j : ℕ) → i < length os → j < length os → Same os (slice_set (slice_set os i (slice_index_or os j d)) j (slice_index_or os i d))
   exchanged d [] i j p q g = absurd (omega arith)
@@ -85,7 +87,8 @@ module _ {G O : Type 0} (named : List ℕ → Option O) (given : O → List ℕ 
       by_test false f = refl
       by_test true f =
           let is : word ≡ other = (bytes_eq-Decides word other).0 f in
-          absurd (none_some (sym (same_none (named other) (value_in (word ∷ a)) (value_in (other ∷ b))) ∙ ap (λ w. option_and_then (gives (other ∷ b)) (option_and_then (λ o. given o (value_in (word ∷ a)) g) (named w))) (sym is) ∙ e))
+          absurd (none_some (sym (same_none (named other) (value_in (word ∷ a)) (value_in (other ∷ b)))
+          ∙ ap (λ w. option_and_then (gives (other ∷ b)) (option_and_then (λ o. given o (value_in (word ∷ a)) g) (named w))) (sym is) ∙ e))
 
   some_first : (f : G → Option G) (o : Option G) (h : G) → option_and_then f o ≡ Some h → (k : G) × (o ≡ Some k) × (f k ≡ Some h)
   some_first f (Some k) h e = (k, refl, e)
@@ -113,7 +116,8 @@ module _ {G O : Type 0} (named : List ℕ → Option O) (given : O → List ℕ 
         ∙ then_ext _ _ (gives o g) (λ h. all_read os rest h (All-tail IsOne o os all))
         ∙ then_then (all_given os) (λ h. from h rest) (gives o g)
 
-    pub in_any_order : (os ps : List (List (List ℕ))) (rest : List (List ℕ)) (g : G) → All IsOne os → IsPermutation os ps → from g (flat_map (λ o. o) ps ++ rest) ≡ from g (flat_map (λ o. o) os ++ rest)
+    pub in_any_order : (os ps : List (List (List ℕ))) (rest : List (List ℕ)) (g : G) → All IsOne os → IsPermutation os ps
+        → from g (flat_map (λ o. o) ps ++ rest) ≡ from g (flat_map (λ o. o) os ++ rest)
     in_any_order os ps rest g all p = all_read ps rest g (All-permutation IsOne os ps p all) ∙ ap (option_and_then (λ h. from h rest)) (permuted os ps p g) ∙ sym (all_read os rest g all)
 
     pub given_once : (os : List (List (List ℕ))) (rest : List (List ℕ)) (g : G) → All IsOne os → OnSome (from g (flat_map (λ o. o) os ++ rest)) (IsDistinct is_same_option os)

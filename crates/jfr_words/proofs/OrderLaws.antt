@@ -97,7 +97,8 @@ print_usable g (word ∷ next ∷ rest) s = by_option (print_option_of word) (λ
     goes_on Depth a b u v = v
     goes_on Json a b u v = u
 
-    by_option : (z : Option PrintOption) → ((h : PrintSettings) → IsShallow h → Gives IsUsableOrder (print_from h (next ∷ rest))) → ((h : PrintSettings) → IsShallow h → Gives IsUsableOrder (print_from h rest))
+    by_option : (z : Option PrintOption) → ((h : PrintSettings) → IsShallow h → Gives IsUsableOrder (print_from h (next ∷ rest)))
+        → ((h : PrintSettings) → IsShallow h → Gives IsUsableOrder (print_from h rest))
         → Gives IsUsableOrder (option_map_or (λ o. option_and_then (λ h. print_goes_on o (print_from h (next ∷ rest)) (print_from h rest)) (print_with o next g)) z (print_named g (word ∷ next ∷ rest)))
     by_option None u v = print_named_usable g (word ∷ next ∷ rest) s
     by_option (Some o) u v = gives_then IsShallow IsUsableOrder _ (print_with o next g) (shallow_with o next g s) (λ h t. goes_on o _ _ (u h t) (v h t))
@@ -115,7 +116,8 @@ positive_with option value g p = gives_if IsPositive (is_split_given option g) N
     by_kind MaxSize = gives_number IsPositive _ 1 (2 ^ 40) value (λ n l h. (p.0, l))
 
 split_named_usable : (g : SplitSettings) (words : List (List ℕ)) → IsPositive g → Gives IsUsableOrder (split_named g words)
-split_named_usable g words p = gives_map IsUsableOrder _ (only_name words) (λ file. record { chunks = or_usual g.max_chunks 5 p.0 (omega arith); size = or_usual g.max_size (2 ^ 40) p.1 (omega arith); some = omega arith; numbered = omega arith })
+split_named_usable g words p = gives_map IsUsableOrder _ (only_name words)
+    (λ file. record { chunks = or_usual g.max_chunks 5 p.0 (omega arith); size = or_usual g.max_size (2 ^ 40) p.1 (omega arith); some = omega arith; numbered = omega arith })
   where
     or_usual : (o : Option ℕ) (d : ℕ) → Gives (λ n. 1 ≤ n) o → 1 ≤ d → 1 ≤ unwrap_or o d
     or_usual None d h k = k
@@ -142,7 +144,8 @@ scrub_usable g (word ∷ next ∷ rest) = by_option (scrub_option_of word) (λ h
     by_option (Some o) u = gives_after IsUsableOrder _ (scrub_with o next g) u
 
 -- A command whose options are those of a filter, if its names give usable orders.
-filtered_usable : (named : Given → List (List ℕ) → Option Order) → ((g : Given) (words : List (List ℕ)) → Gives IsUsableOrder (named g words)) → (g : Given) (words : List (List ℕ)) → Gives IsUsableOrder (filtered_from named g words)
+filtered_usable : (named : Given → List (List ℕ) → Option Order) → ((g : Given) (words : List (List ℕ)) → Gives IsUsableOrder (named g words)) → (g : Given) (words : List (List ℕ))
+    → Gives IsUsableOrder (filtered_from named g words)
 filtered_usable named u g [] = u g []
 filtered_usable named u g (word ∷ []) = by_option (filter_option_of word)
   where

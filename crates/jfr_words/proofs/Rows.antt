@@ -210,13 +210,15 @@ unfolding order_of
 build_row = refl
 
 mask_row : order_of (codes "mask" ∷ codes "--strings" ∷ codes "jdk.*,*.path" ∷ codes "--except" ∷ codes "*.id" ∷ codes "--known" ∷ codes "k" ∷ codes "--table" ∷ codes "t" ∷ codes "--include-events" ∷ codes "A" ∷ codes "--from" ∷ codes "7" ∷ codes "a" ∷ codes "b" ∷ [])
-    ≡ Some (Mask (record nothing_given { include_events = Some (codes "A" ∷ []); from = Some (pos 7) }) (codes "jdk.*" ∷ codes "*.path" ∷ []) (Some (codes "*.id" ∷ [])) (Some (codes "k")) (Some (codes "t")) (codes "a") (codes "b"))
+    ≡ Some (Mask (record nothing_given { include_events = Some (codes "A" ∷ []); from = Some (pos 7) }) (codes "jdk.*" ∷ codes "*.path" ∷ []) (Some (codes "*.id" ∷ [])) (Some (codes "k"))
+    (Some (codes "t")) (codes "a") (codes "b"))
 unfolding order_of decimal_number
 mask_row = refl
 
 -- The options in another order.
 mask_reordered_row : order_of (codes "mask" ∷ codes "--from" ∷ codes "07" ∷ codes "--table" ∷ codes "t" ∷ codes "--except" ∷ codes "*.id" ∷ codes "--include-events" ∷ codes "A" ∷ codes "--known" ∷ codes "k" ∷ codes "--strings" ∷ codes "jdk.*,*.path" ∷ codes "a" ∷ codes "b" ∷ [])
-    ≡ Some (Mask (record nothing_given { include_events = Some (codes "A" ∷ []); from = Some (pos 7) }) (codes "jdk.*" ∷ codes "*.path" ∷ []) (Some (codes "*.id" ∷ [])) (Some (codes "k")) (Some (codes "t")) (codes "a") (codes "b"))
+    ≡ Some (Mask (record nothing_given { include_events = Some (codes "A" ∷ []); from = Some (pos 7) }) (codes "jdk.*" ∷ codes "*.path" ∷ []) (Some (codes "*.id" ∷ [])) (Some (codes "k"))
+    (Some (codes "t")) (codes "a") (codes "b"))
 unfolding order_of decimal_number
 mask_reordered_row = refl
 

@@ -19,7 +19,8 @@ then_then f h None = refl
 then_then f h (Some x) = refl
 
 -- What is set in a part is set in the whole.
-pub set_in : {F G X : Type 0} (has : F → Bool) (put : X → F → F) (value : Option X) (f : F) (into : F → G) → option_map into (set has put value f) ≡ (if has f then None else option_map (λ x. into (put x f)) value)
+pub set_in : {F G X : Type 0} (has : F → Bool) (put : X → F → F) (value : Option X) (f : F) (into : F → G)
+    → option_map into (set has put value f) ≡ (if has f then None else option_map (λ x. into (put x f)) value)
 set_in has put value f into = by_test (has f) value
   where
     by_test : (t : Bool) (value : Option _) → option_map into (if t then None else option_map (λ x. put x f) value) ≡ (if t then None else option_map (λ x. into (put x f)) value)

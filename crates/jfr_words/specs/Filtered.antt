@@ -12,7 +12,8 @@ use Rattle.jfr_words.specs.FilterOptions.{filter_option_of, given_with}
 abbrev pub filtered_from : (Given → List (List ℕ) → Option Order) → Given → List (List ℕ) → Option Order
 filtered_from named g [] = named g []
 filtered_from named g (word ∷ []) = option_map_or (λ option. None) (filter_option_of word) (named g (word ∷ []))
-filtered_from named g (word ∷ next ∷ rest) = option_map_or (λ option. option_and_then (λ h. filtered_from named h rest) (given_with option next g)) (filter_option_of word) (named g (word ∷ next ∷ rest))
+filtered_from named g (word ∷ next ∷ rest) =
+    option_map_or (λ option. option_and_then (λ h. filtered_from named h rest) (given_with option next g)) (filter_option_of word) (named g (word ∷ next ∷ rest))
 
 -- After a success the words give what the filter and the words left give as names; a usage fault means that
 -- they give nothing; running out of memory says nothing.

@@ -9,7 +9,8 @@ window_options = codes "--from" ∷ codes "--to" ∷ codes "--always" ∷ []
 
 -- The options of a filter.
 abbrev pub filter_options : List (List ℕ)
-filter_options = codes "--include-events" ∷ codes "--exclude-events" ∷ codes "--include-categories" ∷ codes "--exclude-categories" ∷ codes "--include-threads" ∷ codes "--exclude-threads" ∷ codes "--describe" ∷ window_options
+filter_options = codes "--include-events" ∷ codes "--exclude-events" ∷ codes "--include-categories" ∷ codes "--exclude-categories" ∷ codes "--include-threads" ∷ codes "--exclude-threads" ∷ codes
+    "--describe" ∷ window_options
 
 -- The options of a command that take a value.
 abbrev pub valued_options : List ℕ → List (List ℕ)

@@ -58,10 +58,12 @@ module _ (next : List Bool → List Bool) (grows : (ms : List Bool) → Grows ms
   rests ms = by_case (rests_or_many (length ms) ms) (same_or_more (rounds (length ms) ms) (next (rounds (length ms) ms)) (grows (rounds (length ms) ms)))
     where
       by_case : ((next (rounds (length ms) ms) ≡ rounds (length ms) ms) ⊎ (length ms ≤ marked_count (rounds (length ms) ms)))
-          → ((rounds (length ms) ms ≡ next (rounds (length ms) ms)) ⊎ (marked_count (rounds (length ms) ms) < marked_count (next (rounds (length ms) ms)))) → next (rounds (length ms) ms) ≡ rounds (length ms) ms
+          → ((rounds (length ms) ms ≡ next (rounds (length ms) ms)) ⊎ (marked_count (rounds (length ms) ms) < marked_count (next (rounds (length ms) ms))))
+          → next (rounds (length ms) ms) ≡ rounds (length ms) ms
       by_case (inl e) r = e
       by_case (inr l) (inl e) = sym e
       by_case (inr l) (inr m) =
           let a = count_le (next (rounds (length ms) ms)) in
-          let b : length (next (rounds (length ms) ms)) ≡ length ms = sym (same_length (rounds (length ms) ms) (next (rounds (length ms) ms)) (grows (rounds (length ms) ms))) ∙ rounds_length (length ms) ms in
+          let b : length (next (rounds (length ms) ms)) ≡ length ms =
+          sym (same_length (rounds (length ms) ms) (next (rounds (length ms) ms)) (grows (rounds (length ms) ms))) ∙ rounds_length (length ms) ms in
           absurd (omega arith)

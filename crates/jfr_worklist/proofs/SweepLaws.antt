@@ -54,7 +54,8 @@ in_led : (ms : List Bool) (next : ℕ → List ℕ) (i : ℕ) → In (led_to ms 
 in_led [] next i k = absurd k
 in_led (true ∷ ms) next i k = by_case (in_cases (next 0) (led_to ms (λ i. next (suc i))) i k) (λ k. in_led ms (λ i. next (suc i)) i k)
   where
-    by_case : In (next 0) i ⊎ In (led_to ms (λ i. next (suc i))) i → (In (led_to ms (λ i. next (suc i))) i → (j : ℕ) × IsMarked ms j × In (next (suc j)) i) → (j : ℕ) × IsMarked (true ∷ ms) j × In (next j) i
+    by_case : In (next 0) i ⊎ In (led_to ms (λ i. next (suc i))) i → (In (led_to ms (λ i. next (suc i))) i → (j : ℕ) × IsMarked ms j × In (next (suc j)) i)
+        → (j : ℕ) × IsMarked (true ∷ ms) j × In (next j) i
     by_case (inl k) f = (0, refl, k)
     by_case (inr k) f = let r = f k in (suc r.0, r.1, r.2)
 in_led (false ∷ ms) next i k = let r = in_led ms (λ i. next (suc i)) i k in (suc r.0, r.1, r.2)
@@ -69,7 +70,8 @@ module _ (n : ℕ) (next : ℕ → List ℕ) (roots : List ℕ) (below : AllBelo
 
   sound_swept : (k : ℕ) (ms : List Bool) → ((i : ℕ) → IsMarked ms i → Reach next roots i) → (i : ℕ) → IsMarked (swept k next ms) i → Reach next roots i
   sound_swept zero ms f i m = f i m
-  sound_swept (suc k) ms f i m = sound_all (swept k next ms) (led_to (swept k next ms) next) (sound_swept k ms f) (λ i j. (let r = in_led (swept k next ms) next i j in more (sound_swept k ms f r.0 r.1) r.2)) i m
+  sound_swept (suc k) ms f i m = sound_all (swept k next ms) (led_to (swept k next ms) next) (sound_swept k ms f)
+      (λ i j. (let r = in_led (swept k next ms) next i j in more (sound_swept k ms f r.0 r.1) r.2)) i m
 
   same_rounds : (k : ℕ) (ms : List Bool) → swept k next ms ≡ rounds (λ ms. marked_at ms (led_to ms next)) (λ ms. grows_all ms (led_to ms next)) k ms
   same_rounds zero ms = refl
@@ -99,5 +101,6 @@ module _ (n : ℕ) (next : ℕ → List ℕ) (roots : List ℕ) (below : AllBelo
   marks_reach i =
       let l : length (marked_at (replicate n false) roots) ≡ n = all_size (replicate n false) roots ∙ length-replicate n false in (
         sound_swept n (marked_at (replicate n false) roots) (sound_all (replicate n false) roots (λ i m. absurd (none_marked n i m)) (λ i j. root j)) i,
-        λ r. complete (marked_at (replicate n false) roots) l (λ i j. all_here (replicate n false) roots i (let b : i < n = below i j in let z : length (replicate n false) ≡ n = length-replicate n false in omega arith) j) r,
+        λ r. complete (marked_at (replicate n false) roots) l
+            (λ i j. all_here (replicate n false) roots i (let b : i < n = below i j in let z : length (replicate n false) ≡ n = length-replicate n false in omega arith) j) r,
       )

@@ -141,6 +141,8 @@ module _ (n : ℕ) (next : ℕ → List ℕ) (roots : List ℕ) (weight : ℕ �
     went_on steps f g o p at s t j h w e x y z =
         let v = walking_next steps f o at s h w in
         let a : suc at ≡ at + 1 = omega arith in
-        let q : Walking steps (marked_at f (next j)) (ordered_all f o (next j)) (suc at) (s + weight j) = subst (λ m. Walking steps (marked_at f (next m)) (ordered_all f o (next m)) (suc at) (s + weight m)) (sym e) v in
+        let q : Walking steps (marked_at f (next j)) (ordered_all f o (next j)) (suc at) (s + weight j) =
+        subst (λ m. Walking steps (marked_at f (next m)) (ordered_all f o (next m)) (suc at) (s + weight m)) (sym e) v in
         subst (λ m. Walking steps g p m t) a
-        (subst (λ m. Walking steps m p (suc at) t) (sym x) (subst (λ m. Walking steps (marked_at f (next j)) m (suc at) t) (sym y) (subst (λ m. Walking steps (marked_at f (next j)) (ordered_all f o (next j)) (suc at) m) (sym z) q)))
+        (subst (λ m. Walking steps m p (suc at) t) (sym x)
+        (subst (λ m. Walking steps (marked_at f (next j)) m (suc at) t) (sym y) (subst (λ m. Walking steps (marked_at f (next j)) (ordered_all f o (next j)) (suc at) m) (sym z) q)))

@@ -18,4 +18,5 @@ pub returns-clause-bytes : goal.returns-clause-bytes
 returns-clause-bytes c = c.ok.ensures.value ∙ parsed c.args.word.now c.parse.result (sym c.if-not-is_digits.ensures) c.if-word-gt-DIGITS.false c.parse.ensures.value.0
 
 pub returns-clause-characters : goal.returns-clause-characters
-returns-clause-characters c = c.ok.ensures.value ∙ (parsed c.args.word.now c.parse.result (sym c.if-not-is_digits.ensures) c.if-word-gt-DIGITS.false c.parse.ensures.value.0 ∙ same_number c.args.word.now c.utf8.word)
+returns-clause-characters c = c.ok.ensures.value
+    ∙ (parsed c.args.word.now c.parse.result (sym c.if-not-is_digits.ensures) c.if-word-gt-DIGITS.false c.parse.ensures.value.0 ∙ same_number c.args.word.now c.utf8.word)

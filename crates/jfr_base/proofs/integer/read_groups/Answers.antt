@@ -20,7 +20,8 @@ returns-then-byte-lt128-clause-exact c =
     let x = c.args.bytes.now in
     let b : c.from.result < 256 = omega (arith, Fits-lt-pow (c.type_inv.bytes (c.args.at + c.loop-group.group))) in
     let l = c.loop-group in
-    last_is (7 * l.group) c.from.result (omega (arith, l.invariant.room)) b x c.args.at (length x) (c.args.at + l.group) l.value l.invariant (omega (arith, c.requires.room, c.loop-group-test.true)) (omega arith) c.from.ensures (inl (omega arith))
+    last_is (7 * l.group) c.from.result (omega (arith, l.invariant.room)) b x c.args.at (length x) (c.args.at + l.group) l.value l.invariant (omega (arith, c.requires.room, c.loop-group-test.true))
+    (omega arith) c.from.ensures (inl (omega arith))
 
 pub overflow_add-value : goal.overflow_add-value
 overflow_add-value c =
@@ -34,7 +35,8 @@ loop-group-preserved c =
     let x = c.args.bytes.now in
     let f = c.from-in-loop-group in
     let l = c.loop-group in
-    let next = reading_next x c.args.at (length x) (c.args.at + l.group) l.value (7 * l.group) _ l.invariant (omega (arith, c.requires.room, c.loop-group-test.true)) (omega arith) refl c.if-byte-lt128.false (λ e. omega (arith, e, c.loop-group-test.true)) in
+    let next = reading_next x c.args.at (length x) (c.args.at + l.group) l.value (7 * l.group) _ l.invariant (omega (arith, c.requires.room, c.loop-group-test.true))
+    (omega arith) refl c.if-byte-lt128.false (λ e. omega (arith, e, c.loop-group-test.true)) in
     let place : c.args.at + l.group + 1 ≡ c.args.at + (l.group + 1) = omega arith in
     let shift : 7 * l.group + 7 ≡ 7 * (l.group + 1) = omega arith in
     subst (λ z. Reading x c.args.at (length x) z (l.value + f.result * 2 ^ (7 * l.group) % 18446744073709551616) (7 * (l.group + 1))) place

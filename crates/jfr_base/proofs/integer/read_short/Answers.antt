@@ -24,13 +24,16 @@ returns-then-at-end-2-clause-longer c = λ none.
 
 pub returns-then-second-lt128-clause-exact : goal.returns-then-second-lt128-clause-exact
 returns-then-second-lt128-clause-exact c =
-    two_bytes c.args.bytes.now c.args.at c.args.end (omega (arith, c.if-at-end-2.false)) c.requires.within (omega (arith, c.from-first.ensures, c.if-first-lt128.false)) (omega (arith, c.type_inv.bytes c.args.at)) (omega (arith, c.from-second.ensures, c.if-second-lt128.true))
+    two_bytes c.args.bytes.now c.args.at c.args.end (omega (arith, c.if-at-end-2.false)) c.requires.within (omega (arith, c.from-first.ensures, c.if-first-lt128.false))
+    (omega (arith, c.type_inv.bytes c.args.at)) (omega (arith, c.from-second.ensures, c.if-second-lt128.true))
     ∙ ap (λ v. Some (record { value = v; end = c.args.at + 2 })) (omega (arith, c.from-first.ensures, c.from-second.ensures))
 
 pub returns-then-second-lt128-clause-ok : goal.returns-then-second-lt128-clause-ok
 returns-then-second-lt128-clause-ok c =
-    (int_found c.args.bytes.now c.args.at c.args.end (record { value = c.from-first.result - 128 + 128 * c.from-second.result; end = c.args.at + 2 }) c.requires.order c.requires.within (returns-then-second-lt128-clause-exact c)).0
+    (int_found c.args.bytes.now c.args.at c.args.end (record { value = c.from-first.result - 128 + 128 * c.from-second.result; end = c.args.at + 2 }) c.requires.order c.requires.within
+    (returns-then-second-lt128-clause-exact c)).0
 
 pub returns-clause-longer : goal.returns-clause-longer
 returns-clause-longer c = λ none.
-    longer c.args.bytes.now c.args.at c.args.end (omega (arith, c.if-at-end-2.false)) c.requires.within (omega (arith, c.from-first.ensures, c.if-first-lt128.false)) (omega (arith, c.from-second.ensures, c.if-second-lt128.false))
+    longer c.args.bytes.now c.args.at c.args.end (omega (arith, c.if-at-end-2.false)) c.requires.within (omega (arith, c.from-first.ensures, c.if-first-lt128.false))
+    (omega (arith, c.from-second.ensures, c.if-second-lt128.false))

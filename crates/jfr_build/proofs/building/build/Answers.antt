@@ -16,6 +16,8 @@ returns-in_err-lines-clause-exact c =
 
 pub returns : goal.returns
 returns c =
-    let e = text_lines c.args.text.now c.if-text-ge-TEXT_LIMIT.false ∙ (ap (build_lines (line_count c.args.text.now)) (c.in_ok-lines.ensures.exact ∙ ap (λ z. Ok z) (sym c.deref.ensures.value)) ∙ ap (λ n. build_lines n (Ok c.deref.result.now)) (sym c.line_count.ensures)) in
+    let e = text_lines c.args.text.now c.if-text-ge-TEXT_LIMIT.false
+    ∙ (ap (build_lines (line_count c.args.text.now)) (c.in_ok-lines.ensures.exact ∙ ap (λ z. Ok z) (sym c.deref.ensures.value))
+    ∙ ap (λ n. build_lines n (Ok c.deref.result.now)) (sym c.line_count.ensures)) in
     let exact = subst (λ z. MatchResult c.build_lines.result (λ chunk. z ≡ Ok chunk.items) (IsFault z)) (sym e) c.build_lines.ensures.exact in
     record { exact = exact; accepted = accepted_by c.build_lines.result c.args.text.now exact }

@@ -5,13 +5,17 @@ use Rattle.jfr_build.proofs.ChunkLaws.{chunk_made, large_events, no_metadata}
 use Rattle.jfr_build.proofs.building.chunk_of.Goals as goal
 
 pub returns-in_default : goal.returns-in_default
-returns-in_default c = let m = c.in_ok-metadata.ensures.exact ∙ ap (metadata_record c.args.classes) c.region_in.ensures in record { exact = no_metadata c.args.classes c.args.lines.now (rw c.in_default.is at m) }
+returns-in_default c = let m = c.in_ok-metadata.ensures.exact ∙ ap (metadata_record c.args.classes)
+    c.region_in.ensures in record { exact = no_metadata c.args.classes c.args.lines.now (rw c.in_default.is at m) }
 
 pub returns-in_default-2 : goal.returns-in_default-2
 returns-in_default-2 c =
     let m = c.in_ok-metadata.ensures.exact ∙ ap (metadata_record c.args.classes) c.region_in.ensures in
     let e = c.in_ok-events.ensures.exact in
-    record { exact = large_events c.args.classes c.in_ok-metadata.classes c.args.lines.now c.in-Some.metadata.items c.in_ok-metadata.ensures.classes (rw c.in-Some.is at m) (rw c.in_default-2.is at e) }
+    record {
+      exact = large_events c.args.classes c.in_ok-metadata.classes c.args.lines.now c.in-Some.metadata.items c.in_ok-metadata.ensures.classes (rw c.in-Some.is at m)
+          (rw c.in_default-2.is at e);
+    }
 
 pub returns : goal.returns
 returns c =

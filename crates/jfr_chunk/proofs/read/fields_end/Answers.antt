@@ -12,14 +12,19 @@ use Rattle.jfr_chunk.proofs.RefLaws.{all_refs}
 use Rattle.jfr_chunk.proofs.read.fields_end.Goals as goal
 
 pub returns-clause-exact : goal.returns-clause-exact
-returns-clause-exact c = (rw c.end.ensures at c.end_visiting.ensures.exact) ∙ ap (λ s. end_or_flaw (run (value_format c.args.reader.classes.now s) c.args.reader.chunk.now (record_end c.args.frame) c.args.frame.body)) c.requires.event.shape
+returns-clause-exact c = (rw c.end.ensures at c.end_visiting.ensures.exact) ∙ ap
+    (λ s. end_or_flaw (run (value_format c.args.reader.classes.now s) c.args.reader.chunk.now (record_end c.args.frame) c.args.frame.body)) c.requires.event.shape
 
 pub returns-clause-refs_end : goal.returns-clause-refs_end
 returns-clause-refs_end c =
-    subst (λ s. IfOk c.end_visiting.result (λ end. AddsRefs (node_entries c.args.reader.pools.now c.args.reader.classes.now c.args.reader.chunk.now (node_at s c.args.frame.body end)) c.args.refs.now c.end_visiting.new.visitor)) c.requires.event.shape
-    (all_refs c.args.reader.pools.now (λ to. targets c.args.reader.classes.now c.args.reader.chunk.now (node_at c.args.layout.now.shape c.args.frame.body to)) c.args.refs.now c.end_visiting.new.visitor c.end_visiting.result c.end_visiting.ensures.visited)
+    subst (λ s. IfOk c.end_visiting.result (λ end. AddsRefs (node_entries c.args.reader.pools.now c.args.reader.classes.now c.args.reader.chunk.now (node_at s c.args.frame.body end)) c.args.refs.now
+    c.end_visiting.new.visitor)) c.requires.event.shape
+    (all_refs c.args.reader.pools.now (λ to. targets c.args.reader.classes.now c.args.reader.chunk.now (node_at c.args.layout.now.shape c.args.frame.body to)) c.args.refs.now
+    c.end_visiting.new.visitor c.end_visiting.result c.end_visiting.ensures.visited)
 
 pub returns-clause-missing : goal.returns-clause-missing
 returns-clause-missing c =
-    subst (λ s. IfOk c.end_visiting.result (λ end. Notes (node_missing c.args.reader.pools.now c.args.reader.classes.now c.args.reader.chunk.now (node_at s c.args.frame.body end)) c.args.refs.now.event c.args.refs.now.missing c.end_visiting.new.visitor.missing)) c.requires.event.shape
-    (all_missing c.args.reader.pools.now (λ to. targets c.args.reader.classes.now c.args.reader.chunk.now (node_at c.args.layout.now.shape c.args.frame.body to)) c.args.refs.now c.end_visiting.new.visitor c.end_visiting.result c.end_visiting.ensures.visited)
+    subst (λ s. IfOk c.end_visiting.result (λ end. Notes (node_missing c.args.reader.pools.now c.args.reader.classes.now c.args.reader.chunk.now (node_at s c.args.frame.body end))
+    c.args.refs.now.event c.args.refs.now.missing c.end_visiting.new.visitor.missing)) c.requires.event.shape
+    (all_missing c.args.reader.pools.now (λ to. targets c.args.reader.classes.now c.args.reader.chunk.now (node_at c.args.layout.now.shape c.args.frame.body to)) c.args.refs.now
+    c.end_visiting.new.visitor c.end_visiting.result c.end_visiting.ensures.visited)

@@ -73,4 +73,5 @@ returns-in-Mask g c =
     subst (λ o. Carries o c.mask.result a b) (sym m.is)
     (subst (λ x. Carries (Mask m.filter m.strings x m.known m.table m.input m.output) c.mask.result a b) c.as_ref.ensures.value
     (subst (λ k. Carries (Mask m.filter m.strings (option_map (λ p. p.now) c.as_ref.result) k m.table m.input m.output) c.mask.result a b) c.as_ref-in-Mask.ensures.value
-    (subst (λ t. Carries (Mask m.filter m.strings (option_map (λ p. p.now) c.as_ref.result) (option_map (λ n. n.now) c.as_ref-in-Mask.result) t m.input m.output) c.mask.result a b) c.as_ref-in-Mask-2.ensures.value c.mask.ensures)))
+    (subst (λ t. Carries (Mask m.filter m.strings (option_map (λ p. p.now) c.as_ref.result) (option_map (λ n. n.now) c.as_ref-in-Mask.result) t m.input m.output) c.mask.result a b)
+    c.as_ref-in-Mask-2.ensures.value c.mask.ensures)))

@@ -12,7 +12,8 @@ pub returns : goal.returns
 returns g c =
     let a = outside (g.P.Place.state c.args.place.now) (g.O.Sink.state c.args.out.now) in
     let b = outside (g.P.Place.state c.metadata_stream.new.place) (g.O.Sink.state c.metadata_stream.new.out) in
-    let ran = subst (λ z. Ran (over (describing c.args.json) z) c.metadata_stream.result a b) (named c.as_str.result.now c.args.file.now c.as_str.utf8 c.as_str.ensures) c.metadata_stream.ensures.ran in
+    let ran = subst (λ z. Ran (over (describing c.args.json) z) c.metadata_stream.result a b) (named c.as_str.result.now c.args.file.now c.as_str.utf8 c.as_str.ensures)
+    c.metadata_stream.ensures.ran in
     record {
       leaves = over_leaves (describing c.args.json) (file_name c.args.file.now) (command_end c.metadata_stream.result) a.place b.place a.sink.written b.sink.written ran.contents;
       counts = ran.counts;

@@ -12,9 +12,11 @@ pub returns : goal.returns
 returns g c =
     let a = outside (g.P.Place.state c.args.place.now) (g.O.Sink.state c.args.out.now) in
     let b = outside (g.P.Place.state c.print_stream.new.place) (g.O.Sink.state c.print_stream.new.out) in
-    let ran = subst (λ z. Ran (over (printing c.args.events.now.filter.now c.args.events.now.depth c.args.events.now.json) z) c.print_stream.result a b) (named c.as_str.result.now c.args.events.now.file.now c.as_str.utf8 c.as_str.ensures) c.print_stream.ensures.ran in
+    let ran = subst (λ z. Ran (over (printing c.args.events.now.filter.now c.args.events.now.depth c.args.events.now.json) z) c.print_stream.result a b)
+    (named c.as_str.result.now c.args.events.now.file.now c.as_str.utf8 c.as_str.ensures) c.print_stream.ensures.ran in
     record {
-      leaves = over_leaves (printing c.args.events.now.filter.now c.args.events.now.depth c.args.events.now.json) (file_name c.args.events.now.file.now) (command_end c.print_stream.result) a.place b.place a.sink.written b.sink.written ran.contents;
+      leaves = over_leaves (printing c.args.events.now.filter.now c.args.events.now.depth c.args.events.now.json) (file_name c.args.events.now.file.now)
+          (command_end c.print_stream.result) a.place b.place a.sink.written b.sink.written ran.contents;
       counts = ran.counts;
       sink = tt;
       text = tt;

@@ -20,7 +20,8 @@ returns g c =
     subst (λ z. Ran (over (receipting c.args.filter.now (file_name c.args.files.now.output.now)) z) c.receipt_stream.result (without_sink p) (without_sink q)) input
     (subst (λ z. Ran (over (receipting c.args.filter.now z) c.as_str.result.now) c.receipt_stream.result (without_sink p) (without_sink q)) receipt c.receipt_stream.ensures.ran) in
     record {
-      leaves = over_leaves (receipting c.args.filter.now (file_name c.args.files.now.output.now)) (file_name c.args.files.now.input.now) (command_end c.receipt_stream.result) p q None None ran.contents;
+      leaves = over_leaves (receipting c.args.filter.now (file_name c.args.files.now.output.now)) (file_name c.args.files.now.input.now)
+          (command_end c.receipt_stream.result) p q None None ran.contents;
       counts = lifted (command_end c.receipt_stream.result) p q (g.O.Sink.state c.args._out.now) ran.counts;
       sink = refl;
       text = tt;

@@ -23,7 +23,8 @@ returns-in-Verified g c =
     let x = verdicts.Verified c.in-Verified.count in
     check_verified f n.input.now n.output.now n.receipt.now p q s z c.verify_stream.ensures.unchanged c.in-Verified.count c.write_verified.result
     (renamed i (file_name n.input.now) o (file_name n.output.now) r (file_name n.receipt.now) (λ i o r. IfSome p.contents (λ w. VerdictOf f (three i o r w) x)) a b d c.in-Verified.ensures.exact)
-    (renamed i (file_name n.input.now) o (file_name n.output.now) r (file_name n.receipt.now) (λ i o r. IfSome p.contents (λ w. AllVerified f (three i o r w) c.in-Verified.count)) a b d c.in-Verified.ensures.verified)
+    (renamed i (file_name n.input.now) o (file_name n.output.now) r (file_name n.receipt.now) (λ i o r. IfSome p.contents (λ w. AllVerified f (three i o r w) c.in-Verified.count)) a b d
+    c.in-Verified.ensures.verified)
     c.in-Verified.ensures.counts c.write_verified.ensures
 
 pub returns-in-Doubted : goal.returns-in-Doubted
@@ -40,7 +41,8 @@ returns-in-Doubted g c =
     let b = named o n.output.now c.as_str-output.utf8 c.as_str-output.ensures in
     let d = named r n.receipt.now c.as_str.utf8 c.as_str.ensures in
     check_doubted f n.input.now n.output.now n.receipt.now p q s c.verify_stream.ensures.unchanged c.in-Doubted.chunk c.in-Doubted.doubt
-    (renamed i (file_name n.input.now) o (file_name n.output.now) r (file_name n.receipt.now) (λ i o r. IfSome p.contents (λ w. VerdictOf f (three i o r w) (verdicts.Doubted c.in-Doubted.chunk c.in-Doubted.doubt))) a b d c.in-Doubted.ensures.exact)
+    (renamed i (file_name n.input.now) o (file_name n.output.now) r (file_name n.receipt.now)
+    (λ i o r. IfSome p.contents (λ w. VerdictOf f (three i o r w) (verdicts.Doubted c.in-Doubted.chunk c.in-Doubted.doubt))) a b d c.in-Doubted.ensures.exact)
     c.in-Doubted.ensures.counts
 
 pub returns-in-Refused : goal.returns-in-Refused
@@ -57,7 +59,8 @@ returns-in-Refused g c =
     let b = named o n.output.now c.as_str-output.utf8 c.as_str-output.ensures in
     let d = named r n.receipt.now c.as_str.utf8 c.as_str.ensures in
     check_refused f n.input.now n.output.now n.receipt.now p q s c.verify_stream.ensures.unchanged c.in-Refused.refusal
-    (renamed i (file_name n.input.now) o (file_name n.output.now) r (file_name n.receipt.now) (λ i o r. IfSome p.contents (λ w. VerdictOf f (three i o r w) (verdicts.Refused c.in-Refused.refusal))) a b d c.in-Refused.ensures.exact)
+    (renamed i (file_name n.input.now) o (file_name n.output.now) r (file_name n.receipt.now) (λ i o r. IfSome p.contents (λ w. VerdictOf f (three i o r w) (verdicts.Refused c.in-Refused.refusal))) a
+    b d c.in-Refused.ensures.exact)
     c.in-Refused.ensures.counts
 
 pub returns-in-ReadFault : goal.returns-in-ReadFault
@@ -74,8 +77,10 @@ returns-in-ReadFault g c =
     let b = named o n.output.now c.as_str-output.utf8 c.as_str-output.ensures in
     let d = named r n.receipt.now c.as_str.utf8 c.as_str.ensures in
     check_halted f n.input.now n.output.now n.receipt.now p q s c.verify_stream.ensures.unchanged
-    (renamed i (file_name n.input.now) o (file_name n.output.now) r (file_name n.receipt.now) (λ i o r. IsTrue p.steady → verdicts.ReadFault ≡ verdicts.ReadFault → IfSome p.contents (λ w. HasNoVerdict f (three i o r w))) a b d c.in-ReadFault.ensures.undecided)
-    (renamed i (file_name n.input.now) o (file_name n.output.now) r (file_name n.receipt.now) (λ i o r. IsTrue p.steady → verdicts.ReadFault ≡ verdicts.ReadFault → IfSome p.contents (λ w. LacksOne (three i o r w))) a b d c.in-ReadFault.ensures.steady)
+    (renamed i (file_name n.input.now) o (file_name n.output.now) r (file_name n.receipt.now)
+    (λ i o r. IsTrue p.steady → verdicts.ReadFault ≡ verdicts.ReadFault → IfSome p.contents (λ w. HasNoVerdict f (three i o r w))) a b d c.in-ReadFault.ensures.undecided)
+    (renamed i (file_name n.input.now) o (file_name n.output.now) r (file_name n.receipt.now)
+    (λ i o r. IsTrue p.steady → verdicts.ReadFault ≡ verdicts.ReadFault → IfSome p.contents (λ w. LacksOne (three i o r w))) a b d c.in-ReadFault.ensures.steady)
     c.in-ReadFault.ensures.counts
 
 pub returns-in-Memory : goal.returns-in-Memory

@@ -11,4 +11,5 @@ returns-in-Ok g c = (c.in-Ok.ensures.contents ∙ ap (λ b. option_map (added b)
 pub returns-in-Err : goal.returns-in-Err
 returns-in-Err g c =
     subst (λ b. IsWritten b c.of_write.result (g.O.Sink.state c.args.out.now) (g.O.Sink.state c.write.new.self)) c.as_bytes.ensures.value
-    (written_by c.as_bytes.result.now c.in-Err.fault c.of_write.result (g.O.Sink.state c.args.out.now) (g.O.Sink.state c.write.new.self) c.of_write.ensures (rw c.in-Err.is at c.write.ensures.contents) (rw c.in-Err.is at c.write.ensures.faults))
+    (written_by c.as_bytes.result.now c.in-Err.fault c.of_write.result (g.O.Sink.state c.args.out.now) (g.O.Sink.state c.write.new.self) c.of_write.ensures (rw c.in-Err.is at c.write.ensures.contents)
+    (rw c.in-Err.is at c.write.ensures.faults))

@@ -9,7 +9,8 @@ use Rattle.jfr_cli.proofs.Clauses.{Answers, answers_by, only_parts, text_writes,
 use Rattle.jfr_cli.proofs.top.run.Given.{Over}
 use Rattle.jfr_cli.proofs.top.run.Goals as goal
 
-answered : (g : Over) (c : goal.After-write_answer g) → Answers c.args.words.now c.write_answer.result (outside (g.P.Place.state c.args.place.now) (g.O.Sink.state c.args.out.now)) (outside (g.P.Place.state c.obey-answer.new.place) (g.O.Sink.state c.obey-answer.new.out)) (g.E.Sink.state c.args.err.now) (g.E.Sink.state c.write_answer.new.err)
+answered : (g : Over) (c : goal.After-write_answer g)
+    → Answers c.args.words.now c.write_answer.result (outside (g.P.Place.state c.args.place.now) (g.O.Sink.state c.args.out.now)) (outside (g.P.Place.state c.obey-answer.new.place) (g.O.Sink.state c.obey-answer.new.out)) (g.E.Sink.state c.args.err.now) (g.E.Sink.state c.write_answer.new.err)
 answered g c = answers_by c.args.words.now c.obey-answer.result c.write_answer.result _ _ _ _ c.obey-answer.ensures c.write_answer.ensures
 
 pub returns-clause-usage : goal.returns-clause-usage

@@ -16,6 +16,7 @@ loop-number-preserved c =
     let next : filter_map h (take (c.loop-number.number + 1) (events_of p)) ≡ made ++ option_to_list c.in_ok-text.field-0 =
     made_next h (events_of p) c.loop-number.number (event_at c.known_event-event.result) c.known_event-event.ensures.exact ∙ ap (λ o. made ++ option_to_list o) (sym c.in_ok-text.ensures.ok) in
     elim c.match-branch-2.branch [
-      | in-Some+in_ok-push_text w ↦ w.texts-is ∙ (w.in_ok-push_text.ensures.ok ∙ (ap (λ z. z ++ w.in-Some.text ∷ []) c.loop-number.invariant ∙ (ap (λ o. made ++ option_to_list o) (sym w.in-Some.is) ∙ sym next)))
+      | in-Some+in_ok-push_text w ↦ w.texts-is
+          ∙ (w.in_ok-push_text.ensures.ok ∙ (ap (λ z. z ++ w.in-Some.text ∷ []) c.loop-number.invariant ∙ (ap (λ o. made ++ option_to_list o) (sym w.in-Some.is) ∙ sym next)))
       | in_default w ↦ w.texts-is ∙ (c.loop-number.invariant ∙ (sym (append-nil made) ∙ (ap (λ o. made ++ option_to_list o) (sym w.in_default.is) ∙ sym next)))
     ]

@@ -27,5 +27,17 @@ returns-clause-layout c =
 
 pub returns-clause-read_back : goal.returns-clause-read_back
 returns-clause-read_back c =
-    let r : IsInRange c.args.header.now = record { in_major = c.put_u16.ensures.range; in_minor = c.put_u16-2.ensures.range; in_size = c.put_u64.ensures.range; in_pools = c.put_u64-2.ensures.range; in_metadata = c.put_u64-3.ensures.range; in_start_nanos = c.put_u64-4.ensures.range; in_duration_nanos = c.put_u64-5.ensures.range; in_start_ticks = c.put_u64-6.ensures.range; in_ticks_per_second = c.put_u64-7.ensures.range; in_flags = c.put_u16-3.ensures.range } in
+    let r : IsInRange c.args.header.now = record {
+      in_major = c.put_u16.ensures.range;
+      in_minor = c.put_u16-2.ensures.range;
+      in_size = c.put_u64.ensures.range;
+      in_pools = c.put_u64-2.ensures.range;
+      in_metadata = c.put_u64-3.ensures.range;
+      in_start_nanos = c.put_u64-4.ensures.range;
+      in_duration_nanos = c.put_u64-5.ensures.range;
+      in_start_ticks =
+          c.put_u64-6.ensures.range;
+      in_ticks_per_second = c.put_u64-7.ensures.range;
+      in_flags = c.put_u16-3.ensures.range;
+    } in
     λ e. (ap header_flaw (returns-clause-layout c) ∙ (header_flaw-bytes c.args.header.now r ∙ e), ap header_of (returns-clause-layout c) ∙ header_of-bytes c.args.header.now r)

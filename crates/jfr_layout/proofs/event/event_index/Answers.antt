@@ -10,8 +10,10 @@ returns-in_err-index c = c.from_residual.ensures ∙ no_event_index c.args.resol
 
 pub returns-else-extends_event : goal.returns-else-extends_event
 returns-else-extends_event c = no_event_index c.args.resolved.now c.args.id
-    (sym c.if-extends_event.false ∙ event_at c.args.resolved.now c.args.id c.in_ok-index.index c.extends_event.result c.if-id-le-LAST_OWN_TYPE.false c.in_ok-index.ensures.class c.in_ok-index.ensures.within c.extends_event.ensures)
+    (sym c.if-extends_event.false ∙ event_at c.args.resolved.now c.args.id c.in_ok-index.index c.extends_event.result c.if-id-le-LAST_OWN_TYPE.false c.in_ok-index.ensures.class
+    c.in_ok-index.ensures.within c.extends_event.ensures)
 
 pub returns-then-extends_event : goal.returns-then-extends_event
 returns-then-extends_event c = event_indexed c.args.resolved.now c.args.id c.in_ok-index.index c.in_ok-index.ensures.exact
-    (sym c.if-extends_event.true ∙ event_at c.args.resolved.now c.args.id c.in_ok-index.index c.extends_event.result c.if-id-le-LAST_OWN_TYPE.false c.in_ok-index.ensures.class c.in_ok-index.ensures.within c.extends_event.ensures)
+    (sym c.if-extends_event.true ∙ event_at c.args.resolved.now c.args.id c.in_ok-index.index c.extends_event.result c.if-id-le-LAST_OWN_TYPE.false c.in_ok-index.ensures.class
+    c.in_ok-index.ensures.within c.extends_event.ensures)

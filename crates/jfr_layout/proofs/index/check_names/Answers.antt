@@ -18,7 +18,8 @@ returns-then-not-is_new c =
 pub loop-field-preserved : goal.loop-field-preserved
 loop-field-preserved c =
     let l = c.loop-field in
-    new_name c.args.class c.args.fields.now c.args.numbers.now l.field l.seen c.in_ok-is_new.is_new c.requires l.invariant (omega arith) c.in_ok-is_new.ensures.added c.insert.new.self c.if-not-is_new.false c.in_ok-is_new.ensures.updates
+    new_name c.args.class c.args.fields.now c.args.numbers.now l.field l.seen c.in_ok-is_new.is_new c.requires l.invariant
+    (omega arith) c.in_ok-is_new.ensures.added c.insert.new.self c.if-not-is_new.false c.in_ok-is_new.ensures.updates
 
 pub returns : goal.returns
 returns c = names_end c.args.class c.args.fields.now c.args.numbers.now c.loop-field.field c.loop-field.seen c.loop-field.invariant (omega arith)

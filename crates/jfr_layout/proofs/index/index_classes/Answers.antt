@@ -32,7 +32,8 @@ returns-then-branch-clause-judged c =
 pub returns-in_err-check_names-clause-judged : goal.returns-in_err-check_names-clause-judged
 returns-in_err-check_names-clause-judged c =
     let there = listed_at c.as_slice-class-items.ensures c.loop-at.at c.class-item.result (omega arith) c.class-item.is in
-    let p = err_from_is_err_and c.from_residual-in_err-check_names.result c.from_residual-in_err-check_names.ensures.1 in rw (p.1, p.2) (ids_names_tell c.args.list.now c.loop-at.at c.loop-at.index c.class-item.result c.in_err-check_names.field-0.0
+    let p = err_from_is_err_and c.from_residual-in_err-check_names.result c.from_residual-in_err-check_names.ensures.1 in rw (p.1, p.2)
+    (ids_names_tell c.args.list.now c.loop-at.at c.loop-at.index c.class-item.result c.in_err-check_names.field-0.0
     c.loop-at.invariant there (sym c.in_ok-insert.ensures.used ∙ c.if-branch.false)
     c.in_err-check_names.ensures)
 

@@ -11,7 +11,8 @@ loop-number-preserved-in-Some c =
     let at : slice_get c.args.fields.now l.number ≡ Some c.field-item.result =
     ap (λ z. slice_get z l.number) (sym c.as_slice-field-items.ensures) ∙ item_at items l.number c.field-item.result (omega arith) c.field-item.is in
     rw c.in_ok-push.ensures.items
-    (numbered_again c.args.fields.now l.number l.firsts l.numbers.items c.field-item.result c.as_str-name.result.now l.invariant at c.as_str-name.utf8 c.as_str-name.ensures c.in-Some.first.now c.in-Some.ensures.value)
+    (numbered_again c.args.fields.now l.number l.firsts l.numbers.items c.field-item.result c.as_str-name.result.now l.invariant at c.as_str-name.utf8 c.as_str-name.ensures c.in-Some.first.now
+    c.in-Some.ensures.value)
 
 pub loop-number-preserved : goal.loop-number-preserved
 loop-number-preserved c =
@@ -20,7 +21,8 @@ loop-number-preserved c =
     let at : slice_get c.args.fields.now l.number ≡ Some c.field-item.result =
     ap (λ z. slice_get z l.number) (sym c.as_slice-field-items.ensures) ∙ item_at items l.number c.field-item.result (omega arith) c.field-item.is in
     rw c.in_ok-push-2.ensures.items
-    (numbered_new c.args.fields.now l.number l.firsts l.numbers.items c.field-item.result c.as_str-name.result.now l.invariant at c.as_str-name.utf8 c.as_str-name.ensures c.insert.new.self c.in_default.ensures.value c.in_ok-insert.ensures.updates)
+    (numbered_new c.args.fields.now l.number l.firsts l.numbers.items c.field-item.result c.as_str-name.result.now l.invariant at c.as_str-name.utf8 c.as_str-name.ensures c.insert.new.self
+    c.in_default.ensures.value c.in_ok-insert.ensures.updates)
 
 pub returns : goal.returns
 returns c =

@@ -15,4 +15,5 @@ loop-number-preserved c =
     let items = c.as_slice-field-items.result.now in
     let at = item_at items c.loop-number.number c.field-item.result (omega arith) c.field-item.is in
     known_next c.args.list.now c.args.class items c.loop-number.number c.args.index.now c.args.kinds.now c.field-item.result c.loop-number.layouts.items c.push.new.self.items c.in-Some.class_index _
-    c.requires.indexed c.requires.kinds c.loop-number.invariant at (sym c.in-Some.is ∙ c.index_of.ensures) (c.in_ok-push-in-Some.ensures.items ∙ ap (λ s. c.loop-number.layouts.items ++ s ∷ []) c.new.ensures)
+    c.requires.indexed c.requires.kinds c.loop-number.invariant at (sym c.in-Some.is ∙ c.index_of.ensures)
+    (c.in_ok-push-in-Some.ensures.items ∙ ap (λ s. c.loop-number.layouts.items ++ s ∷ []) c.new.ensures)

@@ -16,6 +16,8 @@ returns c =
     let p = c.args.chunk.now in
     let stops = is_masked_string (is_held_masked c.args.masked.now p.classes) in
     record {
-      ok = IfOk-weaker c.marked_entries.result (λ entries. entries.items ≡ marked c.put_reached.new.list.flags.items c.pools-2.result.now) (λ entries. entries.items ≡ remain_but stops p (kept_by p c.args.kept.now))
-          (λ entries e. left_are stops p (kept_by p c.args.kept.now) c.put_reached.new.list.flags.items c.pools-2.result.now entries.items c.put_reached.ensures c.pools-2.ensures e) c.marked_entries.ensures.ok;
+      ok = IfOk-weaker c.marked_entries.result (λ entries. entries.items ≡ marked c.put_reached.new.list.flags.items c.pools-2.result.now)
+          (λ entries. entries.items ≡ remain_but stops p (kept_by p c.args.kept.now))
+          (λ entries e. left_are stops p (kept_by p c.args.kept.now) c.put_reached.new.list.flags.items c.pools-2.result.now entries.items c.put_reached.ensures c.pools-2.ensures e)
+          c.marked_entries.ensures.ok;
     }

@@ -12,9 +12,11 @@ put_if_kept-requires-clause-size c =
     let p = c.args.chunk.now in
     let keep = c.args.kept.now in
     let stops = is_masked_string (is_held_masked c.args.masked.now p.classes) in
-    rests_size (roots_but stops p (kept_by p keep)) (roots_but stops p (marked (drop c.loop-number.number keep) (drop c.loop-number.number (events_of p)))) c.args.list.now c.loop-number.list c.loop-number.invariant ∙ c.requires.size
+    rests_size (roots_but stops p (kept_by p keep)) (roots_but stops p (marked (drop c.loop-number.number keep) (drop c.loop-number.number (events_of p)))) c.args.list.now c.loop-number.list
+    c.loop-number.invariant ∙ c.requires.size
 
 pub loop-number-preserved : goal.loop-number-preserved
 loop-number-preserved c =
-    events_next (is_masked_string (is_held_masked c.args.masked.now c.args.chunk.now.classes)) c.args.chunk.now c.args.kept.now c.loop-number.number c.args.list.now c.loop-number.list c.put_if_kept.new.list
+    events_next (is_masked_string (is_held_masked c.args.masked.now c.args.chunk.now.classes)) c.args.chunk.now c.args.kept.now c.loop-number.number c.args.list.now c.loop-number.list
+    c.put_if_kept.new.list
     (omega (arith, c.loop-number-test.true, c.len-number-end.ensures)) c.loop-number.invariant c.put_if_kept.ensures

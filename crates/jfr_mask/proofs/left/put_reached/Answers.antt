@@ -29,7 +29,8 @@ loop-next-preserved c =
     let h : c.loop-next.next < length c.loop-next.list.order.items = omega arith in
     let e : c.index-number.result.now ≡ slice_index c.loop-next.list.order.items c.loop-next.next =
     c.index-number.ensures ∙ get_or_default_zero c.loop-next.list.order.items c.loop-next.next c.index-number.result.now h in
-    going_on (is_masked_string (is_held_masked c.args.masked.now p.classes)) p (kept_by p c.args.kept.now) c.loop-next.list c.put_entry.new.list c.loop-next.next c.index-number.result.now h c.loop-next.invariant e c.put_entry.ensures
+    going_on (is_masked_string (is_held_masked c.args.masked.now p.classes)) p (kept_by p c.args.kept.now) c.loop-next.list c.put_entry.new.list c.loop-next.next c.index-number.result.now h
+    c.loop-next.invariant e c.put_entry.ensures
 
 pub returns : goal.returns
 returns c =

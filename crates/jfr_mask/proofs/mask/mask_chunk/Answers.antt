@@ -18,15 +18,19 @@ put_masked-requires-clause-entries c =
 fields_are : (c : goal.After-drop-masked-inside-2) → c.in_ok-masked.masked ≡ masks_of (masking_of c.args.options).strings (masking_of c.args.options).except c.args.chunk.now.classes
 fields_are c = c.in_ok-masked.ensures.ok ∙ ap (masks_of (masking_of c.args.options).strings (masking_of c.args.options).except) c.classes.ensures
 
-dictionary_is : (c : goal.After-drop-masked-inside-2) → c.number_chunk.new.dictionary ≡ dictionary_after (masking_of c.args.options) c.args.dictionary.now c.args.chunk.now (kept_by c.args.chunk.now c.args.kept.now)
+dictionary_is : (c : goal.After-drop-masked-inside-2)
+    → c.number_chunk.new.dictionary ≡ dictionary_after (masking_of c.args.options) c.args.dictionary.now c.args.chunk.now (kept_by c.args.chunk.now c.args.kept.now)
 dictionary_is c = c.in_ok-noted.ensures.ok (masking_of c.args.options) (record { masks = fields_are c; known = refl })
 
-same_slim : (c : goal.After-drop-masked-inside-2) → option_map (λ s. s.now) c.as_deref.result ≡ new_metadata (describes c.args.options.filter.now) c.args.chunk.now (kept_by c.args.chunk.now c.args.kept.now)
+same_slim : (c : goal.After-drop-masked-inside-2)
+    → option_map (λ s. s.now) c.as_deref.result ≡ new_metadata (describes c.args.options.filter.now) c.args.chunk.now (kept_by c.args.chunk.now c.args.kept.now)
 same_slim c = search rules
 
-output_is : (c : goal.After-drop-masked-inside-2) → written_with (masking_of c.args.options) c.args.chunk.now (kept_by c.args.chunk.now c.args.kept.now) c.in_ok-masked.masked c.number_chunk.new.dictionary c.deref-2.result.now (option_map (λ s. s.now) c.as_deref.result) ≡ mask_of (masking_of c.args.options) c.args.dictionary.now c.args.chunk.now (kept_by c.args.chunk.now c.args.kept.now)
+output_is : (c : goal.After-drop-masked-inside-2)
+    → written_with (masking_of c.args.options) c.args.chunk.now (kept_by c.args.chunk.now c.args.kept.now) c.in_ok-masked.masked c.number_chunk.new.dictionary c.deref-2.result.now (option_map (λ s. s.now) c.as_deref.result) ≡ mask_of (masking_of c.args.options) c.args.dictionary.now c.args.chunk.now (kept_by c.args.chunk.now c.args.kept.now)
 output_is c =
-    masked_is (masking_of c.args.options) c.args.dictionary.now c.number_chunk.new.dictionary c.args.chunk.now (kept_by c.args.chunk.now c.args.kept.now) c.in_ok-masked.masked c.deref-2.result.now (option_map (λ s. s.now) c.as_deref.result)
+    masked_is (masking_of c.args.options) c.args.dictionary.now c.number_chunk.new.dictionary c.args.chunk.now (kept_by c.args.chunk.now c.args.kept.now) c.in_ok-masked.masked c.deref-2.result.now
+    (option_map (λ s. s.now) c.as_deref.result)
     (fields_are c) (dictionary_is c) (c.deref-2.ensures.value ∙ c.in_ok-entries.ensures.ok) (same_slim c)
 
 -- src/mask.rt:41:1

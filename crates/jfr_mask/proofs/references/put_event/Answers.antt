@@ -16,7 +16,8 @@ put_each-requires c =
     let p = c.args.chunk.now in
     let some = c.in-Some-event_entries.ensures ∙ sym (ap (option_map (λ (e : EventAt). node_entries p.entries p.classes p.bytes e.node)) c.in-Some.ensures.exact) in
     let noted : c.in-Some-event_entries.entries.now ≡ node_entries p.entries p.classes p.bytes (node_of c.in-Some.event.node) = cc in
-    numbers_below (is_masked_string (is_held_masked c.args.masked.now p.classes)) p (targets p.classes p.bytes (node_of c.in-Some.event.node)) c.in-Some-event_entries.entries.now _ noted c.requires.size
+    numbers_below (is_masked_string (is_held_masked c.args.masked.now p.classes)) p (targets p.classes p.bytes (node_of c.in-Some.event.node)) c.in-Some-event_entries.entries.now _ noted
+    c.requires.size
 
 pub returns-in-Some-event_entries : goal.returns-in-Some-event_entries
 returns-in-Some-event_entries c =
@@ -28,6 +29,7 @@ returns-in-Some-event_entries c =
     let bytes = c.in-Some.ensures.of_chunk.bytes in
     let all = sym (ap (λ z. targets p.classes z n) bytes)
     ∙ (sym (ap (λ z. targets z c.in-Some.event.node.bytes.now n) c.classes.ensures)
-    ∙ known_plain p c.args.masked.now c.args.plain.now.flags.items c.classes.result.now c.in-Some.event.node.bytes.now n c.requires.sound c.requires.plain c.classes.ensures bytes c.in-Some.ensures.value (c.has_id.ensures c.if-not-has_id.false)) in
+    ∙ known_plain p c.args.masked.now c.args.plain.now.flags.items c.classes.result.now c.in-Some.event.node.bytes.now n c.requires.sound c.requires.plain c.classes.ensures bytes
+    c.in-Some.ensures.value (c.has_id.ensures c.if-not-has_id.false)) in
     subst (λ z. Puts z c.args.list.now c.put_each.new.list)
     (noted ∙ (ap (those (number_in_force p.entries)) all ∙ event_roots stops p (slice_get (events_of p) c.args.number) (event_at c.in-Some.event) c.in-Some.ensures.exact)) c.put_each.ensures

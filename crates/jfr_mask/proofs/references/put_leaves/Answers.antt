@@ -20,7 +20,8 @@ visit_leaves-requires-clause-admits c =
     let p = c.args.strings.chunk.now in
     let n = node_of c.args.node in
     let i : IsNode p.classes p.bytes n c.requires.value.0 = subst (λ b. IsNode p.classes b n c.requires.value.0) c.requires.bytes c.requires.value.1 in
-    subst (AllByRecursion KeyIsSpelled) (sym (leaves_here p c.classes.result.now c.args.node.bytes.now n c.classes.ensures c.requires.bytes)) (keys_spelled p.classes p.bytes n c.requires.value.0 c.parts_are_valid.ensures.sound i)
+    subst (AllByRecursion KeyIsSpelled) (sym (leaves_here p c.classes.result.now c.args.node.bytes.now n c.classes.ensures c.requires.bytes))
+    (keys_spelled p.classes p.bytes n c.requires.value.0 c.parts_are_valid.ensures.sound i)
 
 pub returns : goal.returns
 returns c =
@@ -31,5 +32,6 @@ returns c =
     let all = leaves c.classes.result.now c.args.node.bytes.now n in
     let taken = takes_filtered (λ t a b. Puts (those (number_in_force p.entries) (t ∷ [])) a b) (target_left masked) all c.args.list.now c.visit_leaves.new.visitor c.visit_leaves.ensures.exact in
     subst (λ ts. Puts (those (number_in_force p.entries) ts) c.args.list.now c.visit_leaves.new.visitor)
-    (ap (filter_map (target_left masked)) (leaves_here p c.classes.result.now c.args.node.bytes.now n c.classes.ensures c.requires.bytes) ∙ node_left p c.parts_are_valid.ensures.sound n c.requires.value.0 i masked)
+    (ap (filter_map (target_left masked)) (leaves_here p c.classes.result.now c.args.node.bytes.now n c.classes.ensures c.requires.bytes)
+    ∙ node_left p c.parts_are_valid.ensures.sound n c.requires.value.0 i masked)
     (takes_those Puts puts_none puts_then (number_in_force p.entries) (filter_map (target_left masked) all) c.args.list.now c.visit_leaves.new.visitor taken)

@@ -16,5 +16,6 @@ returns-then-has_id c =
     let k = c.classes-then-has_id.result.now in
     let puts = takes_those Puts puts_none puts_then (number_in_force c.pools.result.now) (targets k b n) c.args.list.now c.visit_targets.new.visitor c.visit_targets.ensures.exact in
     let all = ap (λ z. targets z b n) (c.classes-then-has_id.ensures ∙ sym c.classes.ensures)
-    ∙ known_plain p c.args.masked.now c.args.plain.now.flags.items c.classes.result.now b n c.requires.sound c.requires.plain c.classes.ensures c.requires.bytes c.requires.value (c.has_id.ensures c.if-has_id.true) in
+    ∙ known_plain p c.args.masked.now c.args.plain.now.flags.items c.classes.result.now b n c.requires.sound c.requires.plain c.classes.ensures c.requires.bytes c.requires.value
+    (c.has_id.ensures c.if-has_id.true) in
     subst (λ z. Puts z c.args.list.now c.visit_targets.new.visitor) (ap (λ es. those (number_in_force es) (targets k b n)) c.pools.ensures ∙ ap (those (number_in_force p.entries)) all) puts

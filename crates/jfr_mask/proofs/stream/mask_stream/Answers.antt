@@ -11,7 +11,8 @@ use Rattle.jfr_mask.specs.Commands.{mask_task}
 use Rattle.jfr_mask.proofs.stream.mask_stream.Given.{Over}
 use Rattle.jfr_mask.proofs.stream.mask_stream.Goals as goal
 
-ran_with : (g : Over) (c : goal.After-drop-known-inside g) → Ran (mask_task (work_of c.args.rule c.args.files)) c.mask_with.result (without_sink (g.P.Place.state c.args.place.now)) (without_sink (g.P.Place.state c.mask_with.new.place))
+ran_with : (g : Over) (c : goal.After-drop-known-inside g)
+    → Ran (mask_task (work_of c.args.rule c.args.files)) c.mask_with.result (without_sink (g.P.Place.state c.args.place.now)) (without_sink (g.P.Place.state c.mask_with.new.place))
 ran_with g c =
     let k = work_of c.args.rule c.args.files in
     let a = g.P.Place.state c.args.place.now in
@@ -23,7 +24,8 @@ ran_with g c =
 pub returns-in-Err-clause-each : goal.returns-in-Err-clause-each
 returns-in-Err-clause-each g c = c.chunks_are_masked.ensures c.args.rule.filter.now
 
-ran_without : (g : Over) (c : goal.In-Err g) → Ran (mask_task (work_of c.args.rule c.args.files)) c.in-Err.ending (without_sink (g.P.Place.state c.args.place.now)) (without_sink (g.P.Place.state c.read_known.new.place))
+ran_without : (g : Over) (c : goal.In-Err g)
+    → Ran (mask_task (work_of c.args.rule c.args.files)) c.in-Err.ending (without_sink (g.P.Place.state c.args.place.now)) (without_sink (g.P.Place.state c.read_known.new.place))
 ran_without g c =
     let k = work_of c.args.rule c.args.files in
     let a = g.P.Place.state c.args.place.now in
@@ -40,7 +42,8 @@ pub returns-clause-can_create : goal.returns-clause-can_create
 returns-clause-can_create g c = can_create (work_of c.args.rule c.args.files) c.mask_with.result (g.P.Place.state c.args.place.now) (g.P.Place.state c.mask_with.new.place) (ran_with g c)
 
 pub returns-clause-headline : goal.returns-clause-headline
-returns-clause-headline g c = headline c.outputs_are_masked.ensures.one (work_of c.args.rule c.args.files) (g.P.Place.state c.args.place.now) (g.P.Place.state c.mask_with.new.place) c.mask_with.result (ran_with g c).done (ran_with g c).refused
+returns-clause-headline g c = headline c.outputs_are_masked.ensures.one (work_of c.args.rule c.args.files) (g.P.Place.state c.args.place.now) (g.P.Place.state c.mask_with.new.place) c.mask_with.result
+    (ran_with g c).done (ran_with g c).refused
 
 pub returns-clause-table : goal.returns-clause-table
 returns-clause-table g c = λ is. writes_table (work_of c.args.rule c.args.files) (g.P.Place.state c.args.place.now) (g.P.Place.state c.mask_with.new.place) ((ran_with g c).done is)

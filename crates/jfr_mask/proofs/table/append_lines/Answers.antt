@@ -14,7 +14,8 @@ pub returns-in_err-put_line-clause-contents : goal.returns-in_err-put_line-claus
 returns-in_err-put_line-clause-contents g c =
     let d = c.args.dictionary.now in
     let p = err_from_is_err_and c.from_residual.result c.from_residual.ensures.1 in
-    rw (p.1, p.2) (none_left (take c.loop-at.at (table_lines 1 d)) (drop c.loop-at.at (table_lines 1 d)) (table_lines 1 d) (g.P.Place.state c.args.place.now) (g.P.Place.state c.loop-at.place) (split_at c.loop-at.at (table_lines 1 d)) c.loop-at.invariant)
+    rw (p.1, p.2) (none_left (take c.loop-at.at (table_lines 1 d)) (drop c.loop-at.at (table_lines 1 d)) (table_lines 1 d) (g.P.Place.state c.args.place.now) (g.P.Place.state c.loop-at.place)
+    (split_at c.loop-at.at (table_lines 1 d)) c.loop-at.invariant)
 
 pub returns-in_err-put_line-clause-counts : goal.returns-in_err-put_line-clause-counts
 returns-in_err-put_line-clause-counts g c =
@@ -27,13 +28,16 @@ returns-in_err-append_output-clause-contents g c =
     let p = err_from_is_err_and c.from_residual-in_err-append_output.result c.from_residual-in_err-append_output.ensures.1 in
     let e = c.in_err-append_output.field-0.0 in
     let line = line_at 1 d c.loop-at.at (chars c.known.result.now) c.known.ensures.text in
-    rw (p.1, p.2) (one_failed (take c.loop-at.at (table_lines 1 d)) (drop (suc c.loop-at.at) (table_lines 1 d)) (table_lines 1 d) (table_line (c.loop-at.at + 1) (chars c.known.result.now)) e (g.P.Place.state c.args.place.now) (g.P.Place.state c.loop-at.place) (g.P.Place.state c.append_output.new.place) line.whole c.loop-at.invariant
-    (subst (λ b. IsPlaceAfter (Append b ∷ []) (Err e) (g.P.Place.state c.loop-at.place) (g.P.Place.state c.append_output.new.place)) (c.as_bytes.ensures ∙ c.in_ok-put_line.ensures.ok) c.in_err-append_output.ensures.contents))
+    rw (p.1, p.2) (one_failed (take c.loop-at.at (table_lines 1 d)) (drop (suc c.loop-at.at) (table_lines 1 d)) (table_lines 1 d) (table_line (c.loop-at.at + 1) (chars c.known.result.now)) e
+    (g.P.Place.state c.args.place.now) (g.P.Place.state c.loop-at.place) (g.P.Place.state c.append_output.new.place) line.whole c.loop-at.invariant
+    (subst (λ b. IsPlaceAfter (Append b ∷ []) (Err e) (g.P.Place.state c.loop-at.place) (g.P.Place.state c.append_output.new.place))
+    (c.as_bytes.ensures ∙ c.in_ok-put_line.ensures.ok) c.in_err-append_output.ensures.contents))
 
 pub returns-in_err-append_output-clause-counts : goal.returns-in_err-append_output-clause-counts
 returns-in_err-append_output-clause-counts g c =
     let p = err_from_is_err_and c.from_residual-in_err-append_output.result c.from_residual-in_err-append_output.ensures.1 in
-    rw (p.1, p.2) (counts_then tt (Err c.in_err-append_output.field-0.0) (g.P.Place.state c.args.place.now) (g.P.Place.state c.loop-at.place) (g.P.Place.state c.append_output.new.place) c.loop-at.invariant.counts c.in_err-append_output.ensures.counts)
+    rw (p.1, p.2) (counts_then tt (Err c.in_err-append_output.field-0.0) (g.P.Place.state c.args.place.now) (g.P.Place.state c.loop-at.place)
+    (g.P.Place.state c.append_output.new.place) c.loop-at.invariant.counts c.in_err-append_output.ensures.counts)
 
 pub loop-at-preserved : goal.loop-at-preserved
 loop-at-preserved g c =
@@ -55,4 +59,5 @@ pub returns-clause-contents : goal.returns-clause-contents
 returns-clause-contents g c =
     let d = c.args.dictionary.now in
     let end : c.loop-at.at ≡ length d = omega (arith, c.loop-at-test.false, c.loop-at.auto.at-end, c.len-at-end.ensures) in
-    subst (λ ls. IsPlaceAfter (appends ls) (Ok tt) (g.P.Place.state c.args.place.now) (g.P.Place.state c.loop-at.place)) (ap (λ n. take n (table_lines 1 d)) end ∙ all_lines 1 d) c.loop-at.invariant.leaves
+    subst (λ ls. IsPlaceAfter (appends ls) (Ok tt) (g.P.Place.state c.args.place.now) (g.P.Place.state c.loop-at.place))
+    (ap (λ n. take n (table_lines 1 d)) end ∙ all_lines 1 d) c.loop-at.invariant.leaves

@@ -10,7 +10,8 @@ returns-then-is_category c = record {
       (let xs = annotations_of c.args.strings.now c.args.element.now in
       let same = ap (map (λ e. e.now)) c.deref-annotation-items.ensures.value ∙ c.in_ok-annotations.ensures.ok in
       let at = after_ref c.deref-annotation-items.result.now xs c.loop-annotation.annotation-index c.annotation-item.result same (omega arith) c.annotation-item.is in
-      sym (c.loop-annotation.invariant hs known ∙ found_at (is_category c.args.strings.now hs) xs c.loop-annotation.annotation-index c.annotation-item.result.now at (sym (c.is_category.ensures hs known) ∙ c.if-is_category.true)));
+      sym (c.loop-annotation.invariant hs known ∙ found_at (is_category c.args.strings.now hs) xs c.loop-annotation.annotation-index c.annotation-item.result.now at
+      (sym (c.is_category.ensures hs known) ∙ c.if-is_category.true)));
 }
 
 pub loop-annotation-preserved : goal.loop-annotation-preserved
@@ -18,4 +19,5 @@ loop-annotation-preserved c = λ hs known.
     (let xs = annotations_of c.args.strings.now c.args.element.now in
     let same = ap (map (λ e. e.now)) c.deref-annotation-items.ensures.value ∙ c.in_ok-annotations.ensures.ok in
     let at = after_ref c.deref-annotation-items.result.now xs c.loop-annotation.annotation-index c.annotation-item.result same (omega arith) c.annotation-item.is in
-    c.loop-annotation.invariant hs known ∙ passed_at (is_category c.args.strings.now hs) xs c.loop-annotation.annotation-index c.annotation-item.result.now at (sym (c.is_category.ensures hs known) ∙ c.if-is_category.false))
+    c.loop-annotation.invariant hs known ∙ passed_at (is_category c.args.strings.now hs) xs c.loop-annotation.annotation-index c.annotation-item.result.now at
+    (sym (c.is_category.ensures hs known) ∙ c.if-is_category.false))

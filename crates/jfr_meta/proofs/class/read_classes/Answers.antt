@@ -14,7 +14,8 @@ returns-in_err-class-clause-judged c =
     let p = err_from_is_err_and c.from_residual-in_err-class.result c.from_residual-in_err-class.ensures.1 in
     let ts = map (λ e. e.now) c.args.elements.now in
     let l = c.loop-element in
-    rw (p.1, p.2) (judging_err (class_flaws c.args.strings.now) (class_of c.args.strings.now (heads c.args.strings.now ts)) ts l.element-index l.classes c.element-item.result.now c.in_err-class.field-0.0 l.invariant.0
+    rw (p.1, p.2) (judging_err (class_flaws c.args.strings.now) (class_of c.args.strings.now (heads c.args.strings.now ts)) ts l.element-index l.classes c.element-item.result.now
+    c.in_err-class.field-0.0 l.invariant.0
     (after_ref c.args.elements.now ts l.element-index c.element-item.result refl (omega arith) c.element-item.is) c.in_err-class.ensures.judged)
 
 pub loop-element-preserved : goal.loop-element-preserved
@@ -35,13 +36,15 @@ unfolding classes_of
 returns-clause-ok c =
     let ts = map (λ e. e.now) c.args.elements.now in
     let l = c.loop-element in
-    (judging_end (class_flaws c.args.strings.now) (class_of c.args.strings.now (heads c.args.strings.now ts)) ts l.element-index l.classes l.invariant.0 (refs_end c.args.elements.now ts l.element-index refl (omega arith))).0
+    (judging_end (class_flaws c.args.strings.now) (class_of c.args.strings.now (heads c.args.strings.now ts)) ts l.element-index l.classes l.invariant.0
+    (refs_end c.args.elements.now ts l.element-index refl (omega arith))).0
 
 pub returns-clause-judged : goal.returns-clause-judged
 returns-clause-judged c =
     let ts = map (λ e. e.now) c.args.elements.now in
     let l = c.loop-element in
-    (judging_end (class_flaws c.args.strings.now) (class_of c.args.strings.now (heads c.args.strings.now ts)) ts l.element-index l.classes l.invariant.0 (refs_end c.args.elements.now ts l.element-index refl (omega arith))).1
+    (judging_end (class_flaws c.args.strings.now) (class_of c.args.strings.now (heads c.args.strings.now ts)) ts l.element-index l.classes l.invariant.0
+    (refs_end c.args.elements.now ts l.element-index refl (omega arith))).1
 
 pub returns-clause-numbered : goal.returns-clause-numbered
 returns-clause-numbered c = c.loop-element.invariant.2

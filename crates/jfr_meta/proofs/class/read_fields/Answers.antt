@@ -13,7 +13,8 @@ returns-in_err-field-clause-judged c =
     let same = ap (map (λ e. e.now)) c.deref-element-items.ensures.value ∙ c.in_ok-elements.ensures.ok in
     let p = err_from_is_err_and c.from_residual-in_err-field.result c.from_residual-in_err-field.ensures.1 in
     let fields = field_elements c.args.strings.now c.args.element.now in
-    rw (p.1, p.2) (judging_err (field_flaws c.args.strings.now) (field_of c.args.strings.now) fields c.loop-element.element-index c.loop-element.fields c.element-item.result.now c.in_err-field.field-0.0 c.loop-element.invariant.0
+    rw (p.1, p.2) (judging_err (field_flaws c.args.strings.now) (field_of c.args.strings.now) fields c.loop-element.element-index c.loop-element.fields c.element-item.result.now
+    c.in_err-field.field-0.0 c.loop-element.invariant.0
     (after_ref c.deref-element-items.result.now fields c.loop-element.element-index c.element-item.result same (omega arith) c.element-item.is) c.in_err-field.ensures.judged)
 
 pub loop-element-preserved : goal.loop-element-preserved
@@ -35,13 +36,15 @@ pub returns-clause-ok : goal.returns-clause-ok
 returns-clause-ok c =
     let same = ap (map (λ e. e.now)) c.deref-element-items.ensures.value ∙ c.in_ok-elements.ensures.ok in
     let fields = field_elements c.args.strings.now c.args.element.now in
-    (judging_end (field_flaws c.args.strings.now) (field_of c.args.strings.now) fields c.loop-element.element-index c.loop-element.fields c.loop-element.invariant.0 (refs_end c.deref-element-items.result.now fields c.loop-element.element-index same (omega arith))).0
+    (judging_end (field_flaws c.args.strings.now) (field_of c.args.strings.now) fields c.loop-element.element-index c.loop-element.fields c.loop-element.invariant.0
+    (refs_end c.deref-element-items.result.now fields c.loop-element.element-index same (omega arith))).0
 
 pub returns-clause-judged : goal.returns-clause-judged
 returns-clause-judged c =
     let same = ap (map (λ e. e.now)) c.deref-element-items.ensures.value ∙ c.in_ok-elements.ensures.ok in
     let fields = field_elements c.args.strings.now c.args.element.now in
-    (judging_end (field_flaws c.args.strings.now) (field_of c.args.strings.now) fields c.loop-element.element-index c.loop-element.fields c.loop-element.invariant.0 (refs_end c.deref-element-items.result.now fields c.loop-element.element-index same (omega arith))).1
+    (judging_end (field_flaws c.args.strings.now) (field_of c.args.strings.now) fields c.loop-element.element-index c.loop-element.fields c.loop-element.invariant.0
+    (refs_end c.deref-element-items.result.now fields c.loop-element.element-index same (omega arith))).1
 
 pub returns-clause-numbered : goal.returns-clause-numbered
 returns-clause-numbered c = numbered c.args.strings.now c.loop-element.names c.loop-element.fields c.loop-element.numbers.items c.loop-element.invariant.1 c.loop-element.invariant.2

@@ -19,4 +19,5 @@ returns-clause-ok c = metadata_ok c.args.chunk.now c.args.frame.now (body_value 
 
 pub returns-clause-shallow : goal.returns-clause-shallow
 returns-clause-shallow c =
-    shallow c.args.chunk.now c.args.frame.now (body_value c.in_ok-body.body) c.in_ok-classes.classes (metadata_ok c.args.chunk.now c.args.frame.now (body_value c.in_ok-body.body) c.in_ok-classes.classes c.requires c.in_ok-body.ensures.exact c.in_ok-classes.ensures)
+    shallow c.args.chunk.now c.args.frame.now (body_value c.in_ok-body.body) c.in_ok-classes.classes
+    (metadata_ok c.args.chunk.now c.args.frame.now (body_value c.in_ok-body.body) c.in_ok-classes.classes c.requires c.in_ok-body.ensures.exact c.in_ok-classes.ensures)

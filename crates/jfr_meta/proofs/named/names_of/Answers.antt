@@ -18,4 +18,7 @@ unfolding Rattle.jfr_meta.specs.Described.classes_of
 returns c =
     let texts = c.args.strings.now in
     let hs = heads texts (map (λ e. e.now) c.args.elements.now) in
-    record { ok = subst (λ z. AllZip (IsNamedBy texts) (filter_map (class_of texts hs) (map (λ e. e.now) z)) c.loop-element.names.items) (take_all c.loop-element.element-index c.args.elements.now (omega arith)) c.loop-element.invariant }
+    record {
+      ok = subst (λ z. AllZip (IsNamedBy texts) (filter_map (class_of texts hs) (map (λ e. e.now) z)) c.loop-element.names.items)
+          (take_all c.loop-element.element-index c.args.elements.now (omega arith)) c.loop-element.invariant;
+    }

@@ -8,4 +8,5 @@ loop-element-preserved c =
     let refs = c.args.elements.now in
     let i = c.loop-element.element-index in
     let r = c.element-item.result in
-    trees_more c.args.strings.now (map (λ e. e.now) (take i refs)) (map (λ e. e.now) (take (i + 1) refs)) r.now c.args.tree.now c.loop-element.tree c.push_element.new.tree (sym (refs_next refs i r (omega arith) c.element-item.is)) c.loop-element.invariant c.in_ok-push_element.ensures.ok
+    trees_more c.args.strings.now (map (λ e. e.now) (take i refs)) (map (λ e. e.now) (take (i + 1) refs)) r.now c.args.tree.now c.loop-element.tree c.push_element.new.tree
+    (sym (refs_next refs i r (omega arith) c.element-item.is)) c.loop-element.invariant c.in_ok-push_element.ensures.ok

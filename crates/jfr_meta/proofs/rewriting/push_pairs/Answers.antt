@@ -11,4 +11,5 @@ loop-pair-preserved c =
     let i = c.loop-pair.pair-index in
     let x : ℕ × ℕ = get_or items i (0, 0) in
     let e : slice_get ps i ≡ Some x = ap (λ z. slice_get z i) (sym c.as_slice-pair-items.ensures) ∙ slice_get-get_or items i (0, 0) (omega arith) in
-    pairs_more c.args.strings.now (take i ps) (take (i + 1) ps) x c.args.tree.now c.loop-pair.tree c.push_index.new.tree c.push_index-in-loop-pair.new.tree (sym (take_next ps i x e)) c.loop-pair.invariant c.in_ok-push_index.ensures.ok c.in_ok-push_index-2.ensures.ok
+    pairs_more c.args.strings.now (take i ps) (take (i + 1) ps) x c.args.tree.now c.loop-pair.tree c.push_index.new.tree c.push_index-in-loop-pair.new.tree
+    (sym (take_next ps i x e)) c.loop-pair.invariant c.in_ok-push_index.ensures.ok c.in_ok-push_index-2.ensures.ok

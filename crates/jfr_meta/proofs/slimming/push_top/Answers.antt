@@ -22,6 +22,7 @@ loop-element-preserved c =
     let e : slice_get ts i ≡ Some x = ap (λ z. slice_get z i) (sym c.as_slice-element-items.ensures) ∙ (slice_get-get_or items i x (omega arith) ∙ ap (λ z. Some z) (sym c.element-item.is)) in
     let found = c.loop-element.invariant.1 in
     let wrote = subst (λ b. WroteTree texts (slim_unless b texts stays x) c.loop-element.tree c.push_child.new.tree) found c.in_ok-push_child.ensures.ok in (
-      trees_more texts (first_changed p f (take i ts)) (first_changed p f (take (i + 1) ts)) (slim_unless (list_any p (take i ts)) texts stays x) c.args.tree.now c.loop-element.tree c.push_child.new.tree (changed_next p f ts i x e) c.loop-element.invariant.0 wrote,
+      trees_more texts (first_changed p f (take i ts)) (first_changed p f (take (i + 1) ts)) (slim_unless (list_any p (take i ts)) texts stays x) c.args.tree.now c.loop-element.tree
+          c.push_child.new.tree (changed_next p f ts i x e) c.loop-element.invariant.0 wrote,
       c.is_found_by-found.ensures ∙ (ap (λ b. b || p x) found ∙ any_next p ts i x e),
     )

@@ -21,8 +21,10 @@ returns-clause-exact c =
     let bytes = c.deref.ensures.value ∙ slim_bytes b stays _ c.push_root.new.tree c.in_ok-new.ensures.words c.new-2.ensures.items wrote in
     let root = (slim_body b stays).root in
     let strings = c.words.result.now in
-    let fits : Tree → Option (List ℕ) = λ (r : Tree). if nat_lt (length (table_bytes strings r)) (2 ^ 29) && nat_le (length (record_bytes b.start b.duration b.id strings r)) c.args.room then Some (record_bytes b.start b.duration b.id strings r) else None in
-    if_ok (λ (found : Option (Vec ℕ Global)). (r : Tree) → c.deref.result.now ≡ tree_bytes r → option_map (λ v. v.items) found ≡ fits r) (λ (found : Option (Vec ℕ Global)). option_map (λ v. v.items) found ≡ slim_in b stays c.args.room) c.written_within.result
+    let fits : Tree → Option (List ℕ) = λ (r : Tree). if nat_lt (length (table_bytes strings r)) (2 ^ 29) && nat_le (length (record_bytes b.start b.duration b.id strings r)) c.args.room then Some
+    (record_bytes b.start b.duration b.id strings r) else None in
+    if_ok (λ (found : Option (Vec ℕ Global)). (r : Tree) → c.deref.result.now ≡ tree_bytes r → option_map (λ v. v.items) found ≡ fits r)
+    (λ (found : Option (Vec ℕ Global)). option_map (λ v. v.items) found ≡ slim_in b stays c.args.room) c.written_within.result
     (λ found h. h root bytes ∙ slim_answer b stays strings root c.args.room words refl) c.written_within.ensures.exact
 
 pub returns-clause-texts : goal.returns-clause-texts

@@ -17,7 +17,8 @@ returns-then-size-room-clause-exact c root e =
     let x = record_bytes start duration id strings root in
     let count : c.var_len-4.result ≡ length (spell (length strings)) = c.var_len-4.ensures.exact ∙ ap (λ n. length (spell n)) c.len-count.ensures in
     let tree : length c.args.tree.now ≡ length (tree_bytes root) = ap length e in
-    no_room x (length (table_bytes strings root)) c.args.room (omega (arith, length-append (flat_map text_bytes strings) (tree_bytes root), body_measured start duration id strings root, record_measured start duration id strings root))
+    no_room x (length (table_bytes strings root)) c.args.room
+    (omega (arith, length-append (flat_map text_bytes strings) (tree_bytes root), body_measured start duration id strings root, record_measured start duration id strings root))
 
 pub returns-clause-exact : goal.returns-clause-exact
 returns-clause-exact c root e =
@@ -29,9 +30,11 @@ returns-clause-exact c root e =
     let count : c.var_len-4.result ≡ length (spell (length strings)) = c.var_len-4.ensures.exact ∙ ap (λ n. length (spell n)) c.len-count.ensures in
     let tree : length c.args.tree.now ≡ length (tree_bytes root) = ap length e in
     let size = c.saturating_add-len.result + (6 + (c.var_len.result + c.var_len-2.result + c.var_len-3.result + c.var_len-4.result)) in
-    let whole : size ≡ 6 + length (body_bytes start duration id strings root) = omega (arith, length-append (flat_map text_bytes strings) (tree_bytes root), body_measured start duration id strings root) in
+    let whole : size ≡ 6 + length (body_bytes start duration id strings root) =
+    omega (arith, length-append (flat_map text_bytes strings) (tree_bytes root), body_measured start duration id strings root) in
     ap (λ z. Some z)
-    (record_written size start duration id strings root c.in_ok-bytes.bytes.items c.push_opening.new.out.items c.extend_from_slice.new.self.items c.args.tree.now c.in_ok-bytes.ensures.items c.in_ok-push_opening.ensures.ok c.in_ok-extend_from_slice.ensures.items e whole)
+    (record_written size start duration id strings root c.in_ok-bytes.bytes.items c.push_opening.new.out.items c.extend_from_slice.new.self.items c.args.tree.now c.in_ok-bytes.ensures.items
+    c.in_ok-push_opening.ensures.ok c.in_ok-extend_from_slice.ensures.items e whole)
     ∙ some_room x (length (table_bytes strings root)) c.args.room (omega (arith, length-append (flat_map text_bytes strings) (tree_bytes root)))
     (omega (arith, length-append (flat_map text_bytes strings) (tree_bytes root), body_measured start duration id strings root, record_measured start duration id strings root))
 
@@ -44,6 +47,9 @@ returns-clause-read_back c root e shallow good =
     let count : c.var_len-4.result ≡ length (spell (length strings)) = c.var_len-4.ensures.exact ∙ ap (λ n. length (spell n)) c.len-count.ensures in
     let tree : length c.args.tree.now ≡ length (tree_bytes root) = ap length e in
     let size = c.saturating_add-len.result + (6 + (c.var_len.result + c.var_len-2.result + c.var_len-3.result + c.var_len-4.result)) in
-    let whole : size ≡ 6 + length (body_bytes start duration id strings root) = omega (arith, length-append (flat_map text_bytes strings) (tree_bytes root), body_measured start duration id strings root) in
-    read_back start duration id strings root c.extend_from_slice.new.self.items good shallow (omega (arith, length-append (flat_map text_bytes strings) (tree_bytes root))) c.in_ok-push_opening.ensures.texts
-    (record_written size start duration id strings root c.in_ok-bytes.bytes.items c.push_opening.new.out.items c.extend_from_slice.new.self.items c.args.tree.now c.in_ok-bytes.ensures.items c.in_ok-push_opening.ensures.ok c.in_ok-extend_from_slice.ensures.items e whole)
+    let whole : size ≡ 6 + length (body_bytes start duration id strings root) =
+    omega (arith, length-append (flat_map text_bytes strings) (tree_bytes root), body_measured start duration id strings root) in
+    read_back start duration id strings root c.extend_from_slice.new.self.items good shallow (omega (arith, length-append (flat_map text_bytes strings) (tree_bytes root)))
+    c.in_ok-push_opening.ensures.texts
+    (record_written size start duration id strings root c.in_ok-bytes.bytes.items c.push_opening.new.out.items c.extend_from_slice.new.self.items c.args.tree.now c.in_ok-bytes.ensures.items
+    c.in_ok-push_opening.ensures.ok c.in_ok-extend_from_slice.ensures.items e whole)

@@ -35,7 +35,8 @@ put_each-put_below-requires t c = (
   let d = c.decreases in
       let e = ap counts_of c.as_slice-element-items.ensures in
       omega (arith, member_less c.as_slice-element-items.result.now c.loop-element.element-index c.element-item.result c.element-item.result (omega arith) c.element-item.is),
-  puts_size (those (class_index c.args.classes.now) (option_to_list (id_attribute c.args.strings.now c.element-item.result (codes "class")))) c.loop-element.list c.put_own.new.list c.put_own.ensures.puts ∙ c.loop-element.invariant.1,
+  puts_size (those (class_index c.args.classes.now) (option_to_list (id_attribute c.args.strings.now c.element-item.result (codes "class")))) c.loop-element.list c.put_own.new.list
+      c.put_own.ensures.puts ∙ c.loop-element.invariant.1,
 )
 
 pub put_each-loop-element-preserved : goal.put_each-loop-element-preserved
@@ -45,7 +46,8 @@ put_each-loop-element-preserved t c =
     let items = c.as_slice-element-items.result.now in
     let i = c.loop-element.element-index in
     let x = c.element-item.result in
-    let e : slice_get c.args.elements.now i ≡ Some x = ap (λ z. slice_get z i) (sym c.as_slice-element-items.ensures) ∙ (slice_get-get_or items i x (omega arith) ∙ ap (λ z. Some z) (sym c.element-item.is)) in
+    let e : slice_get c.args.elements.now i ≡ Some x =
+    ap (λ z. slice_get z i) (sym c.as_slice-element-items.ensures) ∙ (slice_get-get_or items i x (omega arith) ∙ ap (λ z. Some z) (sym c.element-item.is)) in
     let own = c.put_own.ensures.puts in
     let rest = c.put_below.ensures.puts in (
       each_next texts k c.args.elements.now i x c.args.list.now c.loop-element.list c.put_own.new.list c.put_below.new.list e c.loop-element.invariant.0 own rest,
@@ -57,5 +59,6 @@ pub put_each-returns : goal.put_each-returns
 put_each-returns t c =
     let l : length c.args.elements.now ≤ c.loop-element.element-index = omega (arith, ap length c.as_slice-element-items.ensures) in
     record {
-      puts = subst (λ z. Puts (those (class_index c.args.classes.now) (flat_map (ids_with c.args.strings.now) z)) c.args.list.now c.loop-element.list) (take_all c.loop-element.element-index c.args.elements.now l) c.loop-element.invariant.0;
+      puts = subst (λ z. Puts (those (class_index c.args.classes.now) (flat_map (ids_with c.args.strings.now) z)) c.args.list.now c.loop-element.list)
+          (take_all c.loop-element.element-index c.args.elements.now l) c.loop-element.invariant.0;
     }

@@ -13,4 +13,5 @@ abbrev pub decreases-put_each : goal.decreases-put_each
 decreases-put_each l = goal.size-put_each l
 
 abbrev pub invariant-put_each-loop-element : goal.invariant-put_each-loop-element
-invariant-put_each-loop-element l = Puts (those (class_index l.classes) (flat_map (ids_with l.strings) (take l.element-index l.elements))) l.initial.list l.list × (length l.list.flags.items ≡ length l.classes)
+invariant-put_each-loop-element l = Puts (those (class_index l.classes) (flat_map (ids_with l.strings) (take l.element-index l.elements))) l.initial.list
+    l.list × (length l.list.flags.items ≡ length l.classes)

@@ -14,7 +14,8 @@ loop-at-preserved-then-not-is_marked c = λ id.
 
 pub loop-at-preserved : goal.loop-at-preserved
 loop-at-preserved c = λ id.
-    added c.args.flags.now c.args.classes.now c.requires.sound c.loop-at.at id c.class_at.result.now c.class_at.ensures (is_in c.loop-at.ids id) (is_in c.insert.new.self id) (c.in_ok-insert.ensures.ok id) (c.loop-at.invariant id) c.if-not-is_marked.false
+    added c.args.flags.now c.args.classes.now c.requires.sound c.loop-at.at id c.class_at.result.now c.class_at.ensures (is_in c.loop-at.ids id) (is_in c.insert.new.self id)
+    (c.in_ok-insert.ensures.ok id) (c.loop-at.invariant id) c.if-not-is_marked.false
 
 pub returns : goal.returns
 returns c = record { ok = λ id. c.loop-at.invariant id ∙ below_all c.args.flags.now c.args.classes.now c.requires.sound c.loop-at.at id (omega (arith, c.requires.size)) }

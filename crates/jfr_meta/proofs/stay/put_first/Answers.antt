@@ -26,5 +26,6 @@ loop-class-preserved c =
 
 pub returns : goal.returns
 returns c = record {
-  puts = first_end c.args.classes.now (is_in c.args.used.now) c.loop-class.class-index c.args.list.now c.loop-class.list (omega (arith, ap length c.as_slice-class-items.ensures)) c.loop-class.invariant.0;
+  puts = first_end c.args.classes.now (is_in c.args.used.now) c.loop-class.class-index c.args.list.now c.loop-class.list
+      (omega (arith, ap length c.as_slice-class-items.ensures)) c.loop-class.invariant.0;
 }

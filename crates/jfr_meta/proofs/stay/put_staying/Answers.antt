@@ -27,8 +27,10 @@ loop-next-smaller c =
 pub loop-next-preserved : goal.loop-next-preserved
 loop-next-preserved c =
     let h : c.loop-next.next < length c.loop-next.list.order.items = omega arith in
-    let e : c.index-number.result.now ≡ slice_index c.loop-next.list.order.items c.loop-next.next = c.index-number.ensures ∙ get_or_default_zero c.loop-next.list.order.items c.loop-next.next c.index-number.result.now h in
-    going_on c.args.strings.now (map (λ e. e.now) c.args.elements.now) c.args.classes.now (is_in c.args.used.now) c.loop-next.list c.put_number.new.list c.loop-next.next c.index-number.result.now h c.loop-next.invariant e c.put_number.ensures.puts
+    let e : c.index-number.result.now ≡ slice_index c.loop-next.list.order.items c.loop-next.next =
+    c.index-number.ensures ∙ get_or_default_zero c.loop-next.list.order.items c.loop-next.next c.index-number.result.now h in
+    going_on c.args.strings.now (map (λ e. e.now) c.args.elements.now) c.args.classes.now (is_in c.args.used.now) c.loop-next.list c.put_number.new.list c.loop-next.next c.index-number.result.now h
+    c.loop-next.invariant e c.put_number.ensures.puts
 
 pub returns : goal.returns
 returns c =

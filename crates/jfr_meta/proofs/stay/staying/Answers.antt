@@ -14,7 +14,8 @@ use Rattle.jfr_meta.proofs.stay.staying.Goals as goal
 
 pub marked_ids-requires : goal.marked_ids-requires
 marked_ids-requires c = record {
-  size = ap length (c.deref-2.ensures.value ∙ c.put_staying.ensures.exact) ∙ marks_size c.args.metadata.now.strings (map (λ e. e.now) c.deref.result.now) c.args.metadata.now.classes (is_in c.args.used.now);
+  size = ap length (c.deref-2.ensures.value ∙ c.put_staying.ensures.exact) ∙ marks_size c.args.metadata.now.strings (map (λ e. e.now) c.deref.result.now) c.args.metadata.now.classes
+      (is_in c.args.used.now);
   sound = c.len.ensures.sound;
 }
 
@@ -23,9 +24,11 @@ returns-clause-exact c =
     let m = c.args.metadata.now in
     let used = is_in c.args.used.now in
     let ts : List Tree = map (λ e. e.now) c.deref.result.now in
-    let there : class_elements m.strings m.root ≡ Some ts = sym c.in_ok-elements.ensures ∙ (ap (option_map (λ v. map (λ e. e.now) v.items)) c.in-Some.is ∙ ap (λ z. Some (map (λ e. e.now) z)) (sym c.deref.ensures.value)) in
+    let there : class_elements m.strings m.root ≡ Some ts =
+    sym c.in_ok-elements.ensures ∙ (ap (option_map (λ v. map (λ e. e.now) v.items)) c.in-Some.is ∙ ap (λ z. Some (map (λ e. e.now) z)) (sym c.deref.ensures.value)) in
     let flags : c.deref-2.result.now ≡ stay_marks m.strings ts m.classes used = c.deref-2.ensures.value ∙ c.put_staying.ensures.exact in
-    if_ok (λ (ids : Ids). (id : ℕ) → is_in ids id ≡ option_map_or (is_marked c.deref-2.result.now) (class_index m.classes id) false) (λ (ids : Ids). (id : ℕ) → is_in ids id ≡ stays_of (body_in m) m.classes used id) c.marked_ids.result
+    if_ok (λ (ids : Ids). (id : ℕ) → is_in ids id ≡ option_map_or (is_marked c.deref-2.result.now) (class_index m.classes id) false)
+    (λ (ids : Ids). (id : ℕ) → is_in ids id ≡ stays_of (body_in m) m.classes used id) c.marked_ids.result
     (λ ids h id. h id ∙ (ap (λ z. option_map_or (is_marked z) (class_index m.classes id) false) flags ∙ sym (ap (λ o. option_map_or (λ ts. stay_of m.strings ts m.classes used id) o false) there)))
     c.marked_ids.ensures.ok
 
@@ -34,7 +37,8 @@ returns-clause-least c =
     let m = c.args.metadata.now in
     let used = is_in c.args.used.now in
     let ts : List Tree = map (λ e. e.now) c.deref.result.now in
-    let there : class_elements m.strings m.root ≡ Some ts = sym c.in_ok-elements.ensures ∙ (ap (option_map (λ v. map (λ e. e.now) v.items)) c.in-Some.is ∙ ap (λ z. Some (map (λ e. e.now) z)) (sym c.deref.ensures.value)) in
+    let there : class_elements m.strings m.root ≡ Some ts =
+    sym c.in_ok-elements.ensures ∙ (ap (option_map (λ v. map (λ e. e.now) v.items)) c.in-Some.is ∙ ap (λ z. Some (map (λ e. e.now) z)) (sym c.deref.ensures.value)) in
     let flags : c.deref-2.result.now ≡ stay_marks m.strings ts m.classes used = c.deref-2.ensures.value ∙ c.put_staying.ensures.exact in
     if_ok (λ (ids : Ids). (id : ℕ) → is_in ids id ≡ option_map_or (is_marked c.deref-2.result.now) (class_index m.classes id) false)
     (λ (ids : Ids). (us : List Tree) → class_elements m.strings m.root ≡ Some us → IsStay m.strings us m.classes used (is_in ids)) c.marked_ids.result

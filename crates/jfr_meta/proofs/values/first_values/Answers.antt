@@ -22,5 +22,6 @@ loop-at-preserved c =
     let at = c.loop-at.at - 1 in
     let seen : c.loop-at.at ≡ at + 1 = omega arith in
     let within : at < length pairs = omega arith in
-    first_next c.args.strings.now pairs at _ c.text_at-key.result.now c.loop-at.values c.insert.new.self (subst (λ z. HasFirst c.args.strings.now (drop z pairs) c.loop-at.values) seen c.loop-at.invariant)
+    first_next c.args.strings.now pairs at _ c.text_at-key.result.now c.loop-at.values c.insert.new.self
+    (subst (λ z. HasFirst c.args.strings.now (drop z pairs) c.loop-at.values) seen c.loop-at.invariant)
     (slice_get-get_or pairs at (0, 0) within) c.text_at-key.utf8 c.text_at-key.ensures c.in_ok-insert.ensures.updates

@@ -11,17 +11,22 @@ returns-in-None c =
     let value = λ (i : ℕ). attribute c.args.strings.now c.args.annotation.now (value_key i) in
     let n = length (pairs_of c.args.annotation.now) in
     let pairs = c.as_slice-pairs.ensures ∙ c.attributes.ensures in
-    let at = sym (c.in_ok-index.ensures.ok c.as_slice-pairs.result.now c.in_ok-values.ensures.ok ∙ ap (λ ps. option_and_then not_empty (first_value c.args.strings.now (value_key c.loop-number.number) ps)) pairs) in
+    let at = sym (c.in_ok-index.ensures.ok c.as_slice-pairs.result.now c.in_ok-values.ensures.ok
+    ∙ ap (λ ps. option_and_then not_empty (first_value c.args.strings.now (value_key c.loop-number.number) ps)) pairs) in
     let within : c.loop-number.number < n = omega (arith, ap length pairs) in
     let texts = map (text_at c.args.strings.now) c.loop-number.indices.items in
-    record { ok = sym (c.loop-number.invariant ∙ (ap (λ z. texts ++ z) (values_stop value c.loop-number.number n within (at ∙ ap (option_map (text_at c.args.strings.now)) c.in-None.is)) ∙ append-nil texts)) }
+    record {
+      ok = sym (c.loop-number.invariant
+          ∙ (ap (λ z. texts ++ z) (values_stop value c.loop-number.number n within (at ∙ ap (option_map (text_at c.args.strings.now)) c.in-None.is)) ∙ append-nil texts));
+    }
 
 pub loop-number-preserved : goal.loop-number-preserved
 loop-number-preserved c =
     let value = λ (i : ℕ). attribute c.args.strings.now c.args.annotation.now (value_key i) in
     let n = length (pairs_of c.args.annotation.now) in
     let pairs = c.as_slice-pairs.ensures ∙ c.attributes.ensures in
-    let at = sym (c.in_ok-index.ensures.ok c.as_slice-pairs.result.now c.in_ok-values.ensures.ok ∙ ap (λ ps. option_and_then not_empty (first_value c.args.strings.now (value_key c.loop-number.number) ps)) pairs) in
+    let at = sym (c.in_ok-index.ensures.ok c.as_slice-pairs.result.now c.in_ok-values.ensures.ok
+    ∙ ap (λ ps. option_and_then not_empty (first_value c.args.strings.now (value_key c.loop-number.number) ps)) pairs) in
     let within : c.loop-number.number < n = omega (arith, ap length pairs) in
     let rest = values_from value (c.loop-number.number + 1) (n - (c.loop-number.number + 1)) in
     let text = text_at c.args.strings.now in

@@ -9,7 +9,8 @@ returns-in-Some c = record {
   ok = λ ps h.
       (let small : c.args.number < 2 ^ 64 = omega arith in
       let found = key_found c.args.number c.as_str.result.now c.args.values.now (Some c.in-Some.value.now) small (c.as_str.ensures.value ∙ c.in_ok-key.ensures.ok) c.in-Some.ensures.value in
-      c.full_index.ensures ∙ ap (option_and_then not_empty) (first_found c.args.strings.now ps c.args.values.now (value_key c.args.number) (Some c.in-Some.value.now) h (key_asked c.args.number small) found));
+      c.full_index.ensures ∙ ap (option_and_then not_empty)
+      (first_found c.args.strings.now ps c.args.values.now (value_key c.args.number) (Some c.in-Some.value.now) h (key_asked c.args.number small) found));
 }
 
 pub returns : goal.returns

@@ -16,4 +16,5 @@ returns-clause-read_back c =
     let count : c.var_len-4.result ≡ length (spell (length strings)) = c.var_len-4.ensures.exact ∙ ap (λ n. length (spell n)) c.len-count.ensures in
     let whole : size ≡ 6 + length (body_bytes start duration id strings root) = omega (arith, body_measured start duration id strings root) in
     read_back start duration id strings root c.push_element.new.out.items c.requires.indices c.requires.depth c.requires.size c.in_ok-push_opening.ensures.texts
-    (record_written size start duration id strings root c.in_ok-out.out.items c.push_opening.new.out.items c.push_element.new.out.items (tree_bytes root) c.in_ok-out.ensures.items c.in_ok-push_opening.ensures.ok c.in_ok-push_element.ensures.ok refl whole)
+    (record_written size start duration id strings root c.in_ok-out.out.items c.push_opening.new.out.items c.push_element.new.out.items
+    (tree_bytes root) c.in_ok-out.ensures.items c.in_ok-push_opening.ensures.ok c.in_ok-push_element.ensures.ok refl whole)

@@ -12,7 +12,8 @@ pub loop-class-preserved : goal.loop-class-preserved
 loop-class-preserved c = λ id.
     let class = c.class-item.result in
     let there = listed_at c.as_slice-class-items.ensures c.loop-class.class-index class (omega arith) c.class-item.is in
-    described_next (describes c.args.filter.now) c.args.classes.now c.loop-class.class-index class id (is_in c.args.used.now.ids id) (is_in c.loop-class.used.ids id) (is_in c.add_if_described.new.used.ids id) there (c.loop-class.invariant id) (c.in_ok-add_if_described.ensures id)
+    described_next (describes c.args.filter.now) c.args.classes.now c.loop-class.class-index class id (is_in c.args.used.now.ids id) (is_in c.loop-class.used.ids id)
+    (is_in c.add_if_described.new.used.ids id) there (c.loop-class.invariant id) (c.in_ok-add_if_described.ensures id)
 
 pub returns : goal.returns
 returns c = λ id.

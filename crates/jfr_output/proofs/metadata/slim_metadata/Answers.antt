@@ -26,4 +26,5 @@ returns-clause-exact c =
     (subst (λ w. IfOk c.slim.result (λ found. IfSome found (λ v. AllByRecursion IsText w))) (λ i. (slim_body (b i) (s i)).strings) c.slim.ensures.texts)
 
 pub returns-clause-metadata : goal.returns-clause-metadata
-returns-clause-metadata c = found_record items (describes c.args.filter.now) c.args.chunk.now (kept_by c.args.chunk.now c.args.kept.now) (metadata_size c.args.chunk.now) c.slim.result (returns-clause-exact c)
+returns-clause-metadata c = found_record items (describes c.args.filter.now) c.args.chunk.now (kept_by c.args.chunk.now c.args.kept.now) (metadata_size c.args.chunk.now) c.slim.result
+    (returns-clause-exact c)

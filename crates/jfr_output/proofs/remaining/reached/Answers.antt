@@ -9,8 +9,10 @@ is_reached-requires c = omega (arith, c.requires, ap length c.as_slice-entry-ite
 
 pub loop-at-preserved : goal.loop-at-preserved
 loop-at-preserved c =
-    marked_next c.args.marks.now c.args.pools.now c.loop-at.remaining.items c.push_if.new.remaining.items c.loop-at.at _ c.is_reached.result (omega (arith, c.requires, ap length c.as_slice-entry-items.ensures))
-    (ap (λ z. slice_get z c.loop-at.at) (sym c.as_slice-entry-items.ensures) ∙ slice_get-get_or c.as_slice-entry-items.result.now c.loop-at.at _ (omega arith)) c.is_reached.ensures c.loop-at.invariant c.in_ok-push_if.ensures.ok
+    marked_next c.args.marks.now c.args.pools.now c.loop-at.remaining.items c.push_if.new.remaining.items c.loop-at.at _ c.is_reached.result
+    (omega (arith, c.requires, ap length c.as_slice-entry-items.ensures))
+    (ap (λ z. slice_get z c.loop-at.at) (sym c.as_slice-entry-items.ensures) ∙ slice_get-get_or c.as_slice-entry-items.result.now c.loop-at.at _ (omega arith)) c.is_reached.ensures c.loop-at.invariant
+    c.in_ok-push_if.ensures.ok
 
 pub returns : goal.returns
 returns c = marked_all c.args.marks.now c.args.pools.now c.loop-at.remaining.items c.loop-at.at (omega (arith, c.requires, ap length c.as_slice-entry-items.ensures)) c.loop-at.invariant

@@ -13,16 +13,23 @@ pass_record-remaining_record-requires-clause-more c =
     let p = c.args.chunk.now in
     let there = ap (λ rs. option_map (λ (r : Framed). r.at) (slice_get rs c.records.cursor.frame)) (sym c.frames-frames.ensures) ∙ sym c.in-Some.ensures in
     let small : c.in-Some.at < 2 ^ 64 = search rules in
-    omega (arith, small, number_below 68 p.records c.records.cursor.frame c.in-Some.at (rising_of p.bytes 68 68 (length p.bytes) p.records (omega arith) c.records.invariant.cursor.parts.records) there)
+    omega (
+      arith,
+      small,
+      number_below 68 p.records c.records.cursor.frame c.in-Some.at (rising_of p.bytes 68 68 (length p.bytes) p.records (omega arith) c.records.invariant.cursor.parts.records)
+          there,
+    )
 
 pub returns-then-is_some-clause-exact : goal.returns-then-is_some-clause-exact
 returns-then-is_some-clause-exact c = λ new.
-    let n = remaining_record_next new c.args.chunk.now c.args.kept.now c.records.cursor c.pass_record-remaining_record.new.cursor _ c.in-Some.at c.pass_record-remaining_record.result c.frames-frames.ensures (sym c.in-Some.ensures) c.pass_record-remaining_record.ensures.next (c.pass_record-remaining_record.ensures.exact new) in
+    let n = remaining_record_next new c.args.chunk.now c.args.kept.now c.records.cursor c.pass_record-remaining_record.new.cursor _ c.in-Some.at c.pass_record-remaining_record.result
+    c.frames-frames.ensures (sym c.in-Some.ensures) c.pass_record-remaining_record.ensures.next (c.pass_record-remaining_record.ensures.exact new) in
     told_some new _ _ _ (c.records.invariant.same new ∙ n) (sym c.is_some.ensures ∙ c.if-is_some.true)
 
 pub records-preserved : goal.records-preserved
 records-preserved c =
-    let n = λ (new : Option (List ℕ)). remaining_record_next new c.args.chunk.now c.args.kept.now c.records.cursor c.pass_record-remaining_record.new.cursor _ c.in-Some.at c.pass_record-remaining_record.result c.frames-frames.ensures (sym c.in-Some.ensures) c.pass_record-remaining_record.ensures.next (c.pass_record-remaining_record.ensures.exact new) in
+    let n = λ (new : Option (List ℕ)). remaining_record_next new c.args.chunk.now c.args.kept.now c.records.cursor c.pass_record-remaining_record.new.cursor _ c.in-Some.at
+    c.pass_record-remaining_record.result c.frames-frames.ensures (sym c.in-Some.ensures) c.pass_record-remaining_record.ensures.next (c.pass_record-remaining_record.ensures.exact new) in
     record { cursor = c.pass_record-remaining_record.ensures.cursor; same = λ new. told_none new _ _ _ (c.records.invariant.same new ∙ n new) (sym c.is_some.ensures ∙ c.if-is_some.false) }
 
 pub records-smaller : goal.records-smaller

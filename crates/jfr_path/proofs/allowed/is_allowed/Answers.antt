@@ -21,5 +21,6 @@ returns-clause-ok c = λ g texts names categories.
     let whole : allows_texts g IncludeCategories ExcludeCategories (map (text_at texts) class.categories.items) ≡ is_named_allowed g texts class =
     ap (λ b. b && allows_texts g IncludeCategories ExcludeCategories (map (text_at texts) class.categories.items)) by_name ∙ sym (class_by_names g texts class) in
     subst (λ (o : Options). c.in_ok-allowed.allowed ≡ allows_texts o.filter o.include o.exclude (map (text_at o.strings) class.categories.items)) categories
-    (c.in_ok-allowed.ensures.ok ∙ ap (λ z. allows_texts c.args.categories.now.filter c.args.categories.now.include c.args.categories.now.exclude (map (text_at c.args.categories.now.strings) z)) c.deref.ensures.value)
+    (c.in_ok-allowed.ensures.ok ∙ ap (λ z. allows_texts c.args.categories.now.filter c.args.categories.now.include c.args.categories.now.exclude (map (text_at c.args.categories.now.strings) z))
+    c.deref.ensures.value)
     ∙ whole)

@@ -23,7 +23,8 @@ loop-number-preserved c =
       filter = ap (λ (z : Asked). z.filter) c.in_ok-keep.ensures.same ∙ c.loop-number.invariant.filter;
       chunk = ap (λ (z : Asked). z.chunk) c.in_ok-keep.ensures.same ∙ c.loop-number.invariant.chunk;
       room = ap length c.set.ensures ∙ (length-set c.loop-number.kept c.loop-number.number c.in_ok-keep.keep ∙ c.loop-number.invariant.room);
-      so_far = ap (take (c.loop-number.number + 1)) c.set.ensures ∙ set_next c.loop-number.kept (chosen c.args.filter.now c.args.chunk.now) c.loop-number.number c.in_ok-keep.keep l s c.loop-number.invariant.so_far;
+      so_far = ap (take (c.loop-number.number + 1)) c.set.ensures ∙ set_next c.loop-number.kept (chosen c.args.filter.now c.args.chunk.now) c.loop-number.number c.in_ok-keep.keep l s
+          c.loop-number.invariant.so_far;
     }
 
 pub returns-then-are_all_kept : goal.returns-then-are_all_kept

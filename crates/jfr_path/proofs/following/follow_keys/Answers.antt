@@ -8,5 +8,6 @@ pub loop-preserved : goal.loop-preserved
 loop-preserved c = record {
   value = c.in-Some.ensures.value;
   bytes = c.in-Some.ensures.bytes;
-  left = follows_on always c.args.chunk.now 16 c.loop.counter (node_of c.args.node.now) (node_of c.loop.value) (node_of c.in-Some.next) c.loop-test.true c.loop.invariant.left refl c.in-Some.ensures.exact;
+  left = follows_on always c.args.chunk.now 16 c.loop.counter (node_of c.args.node.now) (node_of c.loop.value)
+      (node_of c.in-Some.next) c.loop-test.true c.loop.invariant.left refl c.in-Some.ensures.exact;
 }

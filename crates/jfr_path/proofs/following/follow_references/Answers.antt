@@ -13,6 +13,7 @@ loop-preserved c = record {
   value = c.in-Some.ensures.value;
   bytes = c.in-Some.ensures.bytes;
   left =
-      follows_on is_reference c.args.chunk.now c.args.most c.loop.counter (node_of c.args.node.now) (node_of c.loop.value) (node_of c.in-Some.next) c.loop-test.true c.loop.invariant.left (sym c.is_reference.ensures ∙ c.if-not-is_reference.false)
+      follows_on is_reference c.args.chunk.now c.args.most c.loop.counter (node_of c.args.node.now) (node_of c.loop.value) (node_of c.in-Some.next) c.loop-test.true c.loop.invariant.left
+      (sym c.is_reference.ensures ∙ c.if-not-is_reference.false)
       c.in-Some.ensures.exact;
 }

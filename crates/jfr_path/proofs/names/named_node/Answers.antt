@@ -11,7 +11,8 @@ returns-in_err-place-clause-exact c =
     let l = c.loop-name in
     let there = sym (listed_at c.as_slice-name-items.ensures l.name-index c.name-item.result (omega arith) c.name-item.is ∙ ap Some (sym c.as_str.ensures)) in
     rw c.from_residual.ensures
-    (named_off c.args.chunk.now (named_node c.args.chunk.now (node_of c.args.node.now) c.args.names.now) c.args.names.now l.name-index (chars c.as_str.result.now) (node_of l.place) (node_of c.follow_references-holder.result) l.invariant.left there c.follow_references-holder.ensures.exact c.in_err-place.ensures.exact)
+    (named_off c.args.chunk.now (named_node c.args.chunk.now (node_of c.args.node.now) c.args.names.now) c.args.names.now l.name-index (chars c.as_str.result.now) (node_of l.place)
+    (node_of c.follow_references-holder.result) l.invariant.left there c.follow_references-holder.ensures.exact c.in_err-place.ensures.exact)
 
 pub loop-name-preserved : goal.loop-name-preserved
 loop-name-preserved c =
@@ -21,7 +22,8 @@ loop-name-preserved c =
       value = c.in_ok-place.ensures.value;
       bytes = c.in_ok-place.ensures.bytes;
       left =
-          named_on c.args.chunk.now (named_node c.args.chunk.now (node_of c.args.node.now) c.args.names.now) c.args.names.now l.name-index (chars c.as_str.result.now) (node_of l.place) (node_of c.follow_references-holder.result) (node_of c.in_ok-place.place) l.invariant.left there
+          named_on c.args.chunk.now (named_node c.args.chunk.now (node_of c.args.node.now) c.args.names.now) c.args.names.now l.name-index (chars c.as_str.result.now) (node_of l.place)
+          (node_of c.follow_references-holder.result) (node_of c.in_ok-place.place) l.invariant.left there
           c.follow_references-holder.ensures.exact c.in_ok-place.ensures.exact;
     }
 

@@ -7,7 +7,8 @@ use Rattle.jfr_plan.proofs.effects.write_file.Goals as goal
 pub returns-in_err-create_output-clause-contents : goal.returns-in_err-create_output-clause-contents
 returns-in_err-create_output-clause-contents g c =
     let p = err_from_is_err_and c.from_residual.result c.from_residual.ensures.1 in
-    rw (p.1, p.2) (leaves_more (Create c.args.name.now ∷ []) (Append c.args.bytes.now ∷ Finish ∷ []) c.in_err-create_output.field-0.0 (g.P.Place.state c.args.place.now) (g.P.Place.state c.create_output.new.place) c.in_err-create_output.ensures.contents)
+    rw (p.1, p.2) (leaves_more (Create c.args.name.now ∷ []) (Append c.args.bytes.now ∷ Finish ∷ []) c.in_err-create_output.field-0.0 (g.P.Place.state c.args.place.now)
+    (g.P.Place.state c.create_output.new.place) c.in_err-create_output.ensures.contents)
 
 pub returns-in_err-create_output-clause-counts : goal.returns-in_err-create_output-clause-counts
 returns-in_err-create_output-clause-counts g c =
@@ -24,7 +25,8 @@ returns-in_err-append_output-clause-contents g c =
     let z = g.P.Place.state c.append_output.new.place in
     let made = c.in_ok-create_output.ensures in
     let e = c.in_err-append_output.field-0.0 in
-    rw (p.1, p.2) (leaves_more (Create c.args.name.now ∷ append) (Finish ∷ []) e x z (leaves_then create append c.in_ok-create_output.field-0 (Err e) x y z made.counts made.contents c.in_err-append_output.ensures.contents))
+    rw (p.1, p.2) (leaves_more (Create c.args.name.now ∷ append) (Finish ∷ []) e x z
+    (leaves_then create append c.in_ok-create_output.field-0 (Err e) x y z made.counts made.contents c.in_err-append_output.ensures.contents))
 
 pub returns-in_err-append_output-clause-counts : goal.returns-in_err-append_output-clause-counts
 returns-in_err-append_output-clause-counts g c =

@@ -11,8 +11,10 @@ returns-in_err-key-clause-exact c =
 pub returns-in_err-end-clause-exact : goal.returns-in_err-end-clause-exact
 returns-in_err-end-clause-exact c =
     let p = err_from_is_err_and c.from_residual-in_err-end.result c.from_residual-in_err-end.ensures.1 in
-    rw (p.1, p.2) (entry_valued c.args.pool c.args.body.classes.now c.args.body.chunk.now c.args.body.limit c.args.at c.in_ok-key.key c.in_ok-key.ensures.exact ∙ ap (valued c.args.pool c.args.at c.in_ok-key.key) (sym (rw c.requires.shape at c.end_by_layout.ensures.exact) ∙ c.in_err-end.was))
+    rw (p.1, p.2) (entry_valued c.args.pool c.args.body.classes.now c.args.body.chunk.now c.args.body.limit c.args.at c.in_ok-key.key c.in_ok-key.ensures.exact
+    ∙ ap (valued c.args.pool c.args.at c.in_ok-key.key) (sym (rw c.requires.shape at c.end_by_layout.ensures.exact) ∙ c.in_err-end.was))
 
 pub returns-clause-exact : goal.returns-clause-exact
 returns-clause-exact c =
-    entry_valued c.args.pool c.args.body.classes.now c.args.body.chunk.now c.args.body.limit c.args.at c.in_ok-key.key c.in_ok-key.ensures.exact ∙ ap (valued c.args.pool c.args.at c.in_ok-key.key) (sym (rw c.requires.shape at c.end_by_layout.ensures.exact) ∙ c.in_ok-end.was)
+    entry_valued c.args.pool c.args.body.classes.now c.args.body.chunk.now c.args.body.limit c.args.at c.in_ok-key.key c.in_ok-key.ensures.exact
+    ∙ ap (valued c.args.pool c.args.at c.in_ok-key.key) (sym (rw c.requires.shape at c.end_by_layout.ensures.exact) ∙ c.in_ok-end.was)

@@ -10,7 +10,8 @@ put-requires g c = omega (arith, c.requires c.loop-number.number-index 0 c.loop-
 
 pub loop-number-preserved : goal.loop-number-preserved
 loop-number-preserved g c = record {
-  puts = puts_more c.args.entries.now c.loop-number.number-index c.args.list.now c.loop-number.list c.put.new.self c.loop-number-test.true c.loop-number.invariant.puts c.put.ensures.flags c.put.ensures.order;
+  puts = puts_more c.args.entries.now c.loop-number.number-index c.args.list.now c.loop-number.list c.put.new.self c.loop-number-test.true c.loop-number.invariant.puts c.put.ensures.flags
+      c.put.ensures.order;
   size = ap length c.put.ensures.flags ∙ (length-set c.loop-number.list.flags.items (slice_index_or c.args.entries.now c.loop-number.number-index 0) true ∙ c.loop-number.invariant.size);
   cost = omega (arith, c.tick.ensures, c.loop-number.invariant.cost);
 }

@@ -11,7 +11,8 @@ loop-next-init g c =
     let n : marked_count c.args.list.now.flags.items ≡ 0 = ap marked_count c.requires ∙ count_none (length c.args.chunk.now.entries) in
     let a : vec_len c.args.list.now.order ≡ marked_count c.args.list.now.flags.items = c.args.list.now.each in
     let o : c.args.list.now.order.items ≡ [] = nil_from_length c.args.list.now.order.items (omega arith) in
-    going_starts c.args.chunk.now c.args.kept.now c.args.steps.now c.args.list.now.flags.items c.put_roots.new.list.flags.items c.args.list.now.order.items c.put_roots.new.list.order.items c.put_roots.new.steps
+    going_starts c.args.chunk.now c.args.kept.now c.args.steps.now c.args.list.now.flags.items c.put_roots.new.list.flags.items c.args.list.now.order.items c.put_roots.new.list.order.items
+    c.put_roots.new.steps
     c.requires o c.put_roots.ensures.puts.marks c.put_roots.ensures.puts.order c.put_roots.ensures.cost
 
 pub loop-next-smaller : goal.loop-next-smaller
@@ -24,7 +25,8 @@ loop-next-smaller g c =
 pub loop-next-preserved : goal.loop-next-preserved
 loop-next-preserved g c =
     let h : c.loop-next.next < length c.loop-next.list.order.items = omega arith in
-    let e : c.index-number.result.now ≡ slice_index c.loop-next.list.order.items c.loop-next.next = c.index-number.ensures ∙ get_or_default_zero c.loop-next.list.order.items c.loop-next.next c.index-number.result.now h in
+    let e : c.index-number.result.now ≡ slice_index c.loop-next.list.order.items c.loop-next.next =
+    c.index-number.ensures ∙ get_or_default_zero c.loop-next.list.order.items c.loop-next.next c.index-number.result.now h in
     going_on c.args.chunk.now c.args.kept.now c.args.steps.now c.loop-next.list.flags.items c.put_entry.new.list.flags.items c.loop-next.list.order.items c.put_entry.new.list.order.items
     c.loop-next.next c.loop-next.steps c.put_entry.new.steps c.index-number.result.now h c.loop-next.invariant e c.put_entry.ensures.puts.marks c.put_entry.ensures.puts.order c.put_entry.ensures.cost
 
@@ -36,4 +38,5 @@ returns-clause-exact g c =
 pub returns-clause-cost : goal.returns-clause-cost
 returns-clause-cost g c =
     let h : length c.loop-next.list.order.items ≤ c.loop-next.next = omega arith in
-    going_cost c.args.chunk.now c.args.kept.now c.parts_are_valid.ensures.parts c.args.steps.now c.loop-next.list.flags.items c.loop-next.list.order.items c.loop-next.next c.loop-next.steps h c.loop-next.invariant
+    going_cost c.args.chunk.now c.args.kept.now c.parts_are_valid.ensures.parts c.args.steps.now c.loop-next.list.flags.items c.loop-next.list.order.items c.loop-next.next c.loop-next.steps h
+    c.loop-next.invariant

@@ -7,7 +7,9 @@ pub returns-clause-rising : goal.returns-clause-rising
 returns-clause-rising c = in_order c.sort_unstable.new.self.items c.dedup.new.self.items c.sort_unstable.ensures.sorted (dedup_is pair_same _ _ c.dedup.ensures.filtered)
 
 pub returns-clause-kept : goal.returns-clause-kept
-returns-clause-kept c = λ t h. all_kept c.sort_unstable.new.self.items c.dedup.new.self.items (dedup_is pair_same _ _ c.dedup.ensures.filtered) t (Contains-permutation _ _ t c.sort_unstable.ensures.permutation h)
+returns-clause-kept c = λ t h. all_kept c.sort_unstable.new.self.items c.dedup.new.self.items (dedup_is pair_same _ _ c.dedup.ensures.filtered) t
+    (Contains-permutation _ _ t c.sort_unstable.ensures.permutation h)
 
 pub returns-clause-none_added : goal.returns-clause-none_added
-returns-clause-none_added c = λ t h. Contains-permutation _ _ t (IsPermutation-sym _ _ c.sort_unstable.ensures.permutation) (no_more c.sort_unstable.new.self.items c.dedup.new.self.items (dedup_is pair_same _ _ c.dedup.ensures.filtered) t h)
+returns-clause-none_added c = λ t h. Contains-permutation _ _ t (IsPermutation-sym _ _ c.sort_unstable.ensures.permutation)
+    (no_more c.sort_unstable.new.self.items c.dedup.new.self.items (dedup_is pair_same _ _ c.dedup.ensures.filtered) t h)

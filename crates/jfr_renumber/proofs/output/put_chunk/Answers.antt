@@ -16,7 +16,8 @@ unreachable-requires c =
     let p = s.chunk.now in
     let new = option_map (λ s. s.now) s.metadata in
     let w = with_keys (number_or_zero s.rewriting.now) new in
-    not_too_long c.in-Err-TooLong.field-0 (λ (out : Vec ℕ Global). out.items ≡ rewritten w p (kept_by p s.kept.now) s.entries.now) (CarriesAll w p (kept_by p s.kept.now) s.entries.now) c.in-Err-TooLong.field-0-is c.in-Err-TooLong.ensures
+    not_too_long c.in-Err-TooLong.field-0 (λ (out : Vec ℕ Global). out.items ≡ rewritten w p (kept_by p s.kept.now) s.entries.now)
+    (CarriesAll w p (kept_by p s.kept.now) s.entries.now) c.in-Err-TooLong.field-0-is c.in-Err-TooLong.ensures
     (all_carried new p c.parts_are_valid.ensures.parts s.kept.now s.rewriting.now s.entries.now c.requires.keys c.requires.entries c.requires.metadata)
 
 pub returns-in-Ok : goal.returns-in-Ok

@@ -2,7 +2,8 @@ use Rattle.jfr_renumber.proofs.HeadlineLaws.{headline, is_output}
 use Rattle.jfr_renumber.proofs.stream.renumber_stream.Goals as goal
 
 pub returns-clause-headline : goal.returns-clause-headline
-returns-clause-headline g c = headline c.args.filter.now c.args.input.now c.args.output.now c.make_stream.result (g.P.Place.state c.args.place.now) (g.P.Place.state c.make_stream.new.place) c.make_stream.ensures.ran.done c.make_stream.ensures.ran.refused
+returns-clause-headline g c = headline c.args.filter.now c.args.input.now c.args.output.now c.make_stream.result (g.P.Place.state c.args.place.now)
+    (g.P.Place.state c.make_stream.new.place) c.make_stream.ensures.ran.done c.make_stream.ensures.ran.refused
 
 pub returns-clause-each : goal.returns-clause-each
 returns-clause-each g c = is_output c.args.filter.now

@@ -17,7 +17,8 @@ pub returns-clause-texts : goal.returns-clause-texts
 returns-clause-texts g c = λ all rest before i.
     let n = node_of c.args.event.now.node in
     let text = text_by c.args.writer.now c.args.selection.now.style.depth n in
-    let bytes = ap (λ (w : Writer). encode_utf8_all (text_by w c.args.selection.now.style.depth n)) c.requires.writer ∙ writer_bytes c.args.selection.now.style.json c.args.selection.now.chunk.now c.args.selection.now.style.depth n in
+    let bytes = ap (λ (w : Writer). encode_utf8_all (text_by w c.args.selection.now.style.depth n)) c.requires.writer
+    ∙ writer_bytes c.args.selection.now.style.json c.args.selection.now.chunk.now c.args.selection.now.style.depth n in
     let more = written_more c.args.page.now c.show.new.page text c.in_ok-show.ensures.ok ∙ ap (λ z. encode_utf8_all c.args.page.now ++ z) bytes in
     c.write_full_page.ensures.texts all rest before
     (gathered_more all before (g.O.Sink.state c.args.out.now).written (encode_utf8_all c.args.page.now) (encode_utf8_all c.show.new.page)

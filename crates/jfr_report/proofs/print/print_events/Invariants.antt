@@ -10,7 +10,8 @@ use Rattle.jfr_report.proofs.print.print_events.Given as goal
 abbrev pub invariant-loop-number : goal.invariant-loop-number
 invariant-loop-number g l = record {
   gathered : IsGathered (events_bytes l.fn.selection.style.json l.fn.selection.style.depth l.fn.selection.chunk.now (kept_by l.fn.selection.chunk.now l.fn.selection.kept.now)) (g.O.Sink.state l.fn.out).written (g.O.Sink.state l.out).written (encode_utf8_all l.page)
-      (events_bytes l.fn.selection.style.json l.fn.selection.style.depth l.fn.selection.chunk.now (marked (drop l.number l.fn.selection.kept.now) (drop l.number (events_of l.fn.selection.chunk.now))));
+      (events_bytes l.fn.selection.style.json l.fn.selection.style.depth l.fn.selection.chunk.now
+      (marked (drop l.number l.fn.selection.kept.now) (drop l.number (events_of l.fn.selection.chunk.now))));
   writer : l.writer ≡ writer_of l.fn.selection.style.json l.fn.selection.chunk.now;
   faults : (g.O.Sink.state l.out).faults ≡ (g.O.Sink.state l.fn.out).faults;
 }

@@ -16,7 +16,8 @@ put_size-requires-clause-within g c =
     let l = c.args.checkpoint.link in
     let d = c.args.checkpoint.delta in
     let es = c.args.checkpoint.entries.now in
-    size_within w l.frame c.args.out.now.items (old_size w p l c.requires.link d es) (checkpoint_tail w p l d (by_pool es)) c.put_body.new.out.items c.len-start.result (c.len-start.ensures ∙ c.args.out.now.ok.0) (old_width w p l c.requires.link d es) c.in_ok-put_body.ensures.ok
+    size_within w l.frame c.args.out.now.items (old_size w p l c.requires.link d es) (checkpoint_tail w p l d (by_pool es)) c.put_body.new.out.items c.len-start.result
+    (c.len-start.ensures ∙ c.args.out.now.ok.0) (old_width w p l c.requires.link d es) c.in_ok-put_body.ensures.ok
 
 pub returns : goal.returns
 returns g c =
@@ -25,5 +26,6 @@ returns g c =
     let l = c.args.checkpoint.link in
     let d = c.args.checkpoint.delta in
     let es = c.args.checkpoint.entries.now in
-    sized_last w l.frame c.args.out.now.items (old_size w p l c.requires.link d es) (checkpoint_tail w p l d (by_pool es)) c.put_body.new.out.items c.len-start.result (c.len-start.ensures ∙ c.args.out.now.ok.0) (old_width w p l c.requires.link d es) c.in_ok-put_body.ensures.ok
+    sized_last w l.frame c.args.out.now.items (old_size w p l c.requires.link d es) (checkpoint_tail w p l d (by_pool es)) c.put_body.new.out.items c.len-start.result
+    (c.len-start.ensures ∙ c.args.out.now.ok.0) (old_width w p l c.requires.link d es) c.in_ok-put_body.ensures.ok
     c.put_size.result c.put_size.new.out.items c.put_size.ensures

@@ -8,7 +8,8 @@ use Rattle.jfr_rewrite.proofs.checkpoints.put_pools.Given as goal
 abbrev pub invariant-pools : goal.invariant-pools
 invariant-pools g l =
     AllByRecursion (IsEntryIn l.chunk.bytes l.chunk.classes) l.rest
-    × (l.out.items ++ flat_map (group_bytes (g.R.Rewriter.rewrite l.rewriting) l.chunk) (by_pool l.rest) ≡ l.fn.out.items ++ flat_map (group_bytes (g.R.Rewriter.rewrite l.rewriting) l.chunk) (by_pool l.entries))
+    × (l.out.items ++ flat_map (group_bytes (g.R.Rewriter.rewrite l.rewriting) l.chunk) (by_pool l.rest) ≡ l.fn.out.items ++ flat_map (group_bytes (g.R.Rewriter.rewrite l.rewriting) l.chunk)
+    (by_pool l.entries))
 
 abbrev pub decreases-pools : goal.decreases-pools
 decreases-pools g l = length l.rest

@@ -22,7 +22,8 @@ returns-then-is_unchanged g c =
       ok =
           c.in_ok-extend_from_slice.ensures.items
           ∙ (ap (λ z. c.args.out.now.items ++ slice_range z c.args.from c.args.to) c.bytes.ensures.exact
-          ∙ ap (λ z. c.args.out.now.items ++ z) (stays_within ch p (node_of c.args.node) c.args.from c.args.to c.requires.start c.requires.value.1.order c.requires.end (c.is_unchanged.ensures c.if-is_unchanged.true)));
+          ∙ ap (λ z. c.args.out.now.items ++ z) (stays_within ch p (node_of c.args.node) c.args.from c.args.to c.requires.start c.requires.value.1.order c.requires.end
+          (c.is_unchanged.ensures c.if-is_unchanged.true)));
     }
 
 pub returns : goal.returns
@@ -37,7 +38,8 @@ returns g c =
     let taken = subst (λ z. TakesAll (CopiesLeaf ch p) z old copy) (leaves_here p c.classes.result.now c.args.node.bytes.now n c.classes.ensures c.requires.of_chunk) c.visit_leaves.ensures.exact in
     let copied = copies_all ch p n.at n.end all old copy (node_laid p.classes c.parts_are_valid.ensures.sound p.bytes n c.requires.value.0 i) taken c.if-copy.false in
     record {
-      ok = copied_within ch p n c.requires.value.0 c.args.from c.args.to copy.copied c.args.out.now.items copy.out.items _ c.parts_are_valid.ensures.sound i c.visit_leaves.ensures.ready.0 c.requires.end
+      ok = copied_within ch p n c.requires.value.0 c.args.from c.args.to copy.copied c.args.out.now.items copy.out.items _ c.parts_are_valid.ensures.sound i c.visit_leaves.ensures.ready.0
+          c.requires.end
           (copied.1 ∙ ap (λ z. (z.items ++ slice_range p.bytes c.args.from n.at) ++ flat_map (leaf_becomes ch) all) c.in_ok-try_take.ensures.value)
           (c.in_ok-extend_from_slice-2.ensures.items ∙ ap (λ z. copy.out.items ++ slice_range z copy.copied c.args.to) c.bytes-2.ensures.exact);
     }

@@ -26,4 +26,5 @@ pub returns-in-Some : goal.returns-in-Some
 returns-in-Some g c =
     let w = g.R.Rewriter.rewrite c.args.rewriting.now in
     let p = c.args.chunk.now in
-    subst (λ o. IfSome o (λ e. Wrote c.put_event.result (λ done. c.put_event.new.out.items ≡ c.args.out.now.items ++ event_bytes w p e) (CarriesTail w e.record_of (event_tail w p e)))) c.in-Some.ensures.exact c.put_event.ensures
+    subst (λ o. IfSome o (λ e. Wrote c.put_event.result (λ done. c.put_event.new.out.items ≡ c.args.out.now.items ++ event_bytes w p e) (CarriesTail w e.record_of (event_tail w p e))))
+    c.in-Some.ensures.exact c.put_event.ensures

@@ -23,4 +23,5 @@ returns g c =
     let w = with_metadata (g.R.Rewriter.rewrite s.rewriting.now) new in
     let kept = kept_by p s.kept.now in
     is_rewritten w p kept s.entries.now c.with_header.result.items
-    (all_assembled p (new_bytes w p kept s.entries.now) (output_records new p kept) (progress_of c.put_records.new.output) (header_of (take 68 p.bytes)) c.with_header.result.items c.in_ok-put_records.ensures refl c.with_header.ensures)
+    (all_assembled p (new_bytes w p kept s.entries.now) (output_records new p kept) (progress_of c.put_records.new.output)
+    (header_of (take 68 p.bytes)) c.with_header.result.items c.in_ok-put_records.ensures refl c.with_header.ensures)

@@ -13,5 +13,6 @@ loop-count-preserved c =
     let drawn : c.next_draw-draw.result ≡ draw c.args.seed (c.loop-count.count + 1) = c.next_draw-draw.ensures ∙ ap next_draw held.drawn ∙ sym (draw_more c.args.seed c.loop-count.count) in
     record {
       drawn = drawn;
-      done = c.in_ok-push_event.ensures ∙ parts_next (event c.args.seed c.args.events) c.loop-count.count c.args.into.now.items c.loop-count.into.items _ held.done (event_of_draw c.args.seed c.args.events (c.loop-count.count + 1) c.next_draw-draw.result drawn);
+      done = c.in_ok-push_event.ensures ∙ parts_next (event c.args.seed c.args.events) c.loop-count.count c.args.into.now.items c.loop-count.into.items _ held.done
+          (event_of_draw c.args.seed c.args.events (c.loop-count.count + 1) c.next_draw-draw.result drawn);
     }

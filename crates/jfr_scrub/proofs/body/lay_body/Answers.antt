@@ -27,8 +27,11 @@ output_records-init c =
     record {
       cursor = cursor_first p c.args.kept.now a;
       body = going_none p c.args.remaining.now (output_records (option_map (λ s. s.now) c.args.slim) p kept) _ (λ i. record { output = start i; at = 68; newest = None; metadata = None })
-          (subst (λ (z : List EntryAt). AllByRecursion (WrittenFits p.bytes z) (written p.bytes z 68 None (output_records (option_map (λ s. s.now) c.args.slim) p kept))) (sym c.requires.remaining) (subst (λ w. AllByRecursion (WrittenFits p.bytes (remain p kept)) (written p.bytes (remain p kept) 68 None (output_records w p kept))) (sym n.is) (all_fit n.names p a kept)))
-          (subst (λ (z : List EntryAt). 68 + length (flat_map (written_bytes p.bytes z) (written p.bytes z 68 None (output_records (option_map (λ s. s.now) c.args.slim) p kept))) ≤ length p.bytes) (sym c.requires.remaining) (subst (λ w. 68 + length (flat_map (written_bytes p.bytes (remain p kept)) (written p.bytes (remain p kept) 68 None (output_records w p kept))) ≤ length p.bytes) (sym n.is) (all_within n.names p a kept)));
+          (subst (λ (z : List EntryAt). AllByRecursion (WrittenFits p.bytes z) (written p.bytes z 68 None (output_records (option_map (λ s. s.now) c.args.slim) p kept))) (sym c.requires.remaining)
+          (subst (λ w. AllByRecursion (WrittenFits p.bytes (remain p kept)) (written p.bytes (remain p kept) 68 None (output_records w p kept))) (sym n.is) (all_fit n.names p a kept)))
+          (subst (λ (z : List EntryAt). 68 + length (flat_map (written_bytes p.bytes z) (written p.bytes z 68 None (output_records (option_map (λ s. s.now) c.args.slim) p kept))) ≤ length p.bytes)
+          (sym c.requires.remaining) (subst (λ w. 68 + length (flat_map (written_bytes p.bytes (remain p kept)) (written p.bytes (remain p kept) 68 None (output_records w p kept))) ≤ length p.bytes)
+          (sym n.is) (all_within n.names p a kept)));
       copied = so_far_none _ _ _;
       made = ap (λ z. z ++ flat_map (output_record_parts c.args.remaining.now) (output_records (option_map (λ s. s.now) c.args.slim) p kept)) c.new.ensures.made;
     }
@@ -45,12 +48,14 @@ lay_run-requires-clause-room c =
     subst (λ (z : List _). c.output_records.body.at + (c.pass_run.result.to - c.pass_run.result.from) ≤ length z) (sym c.output_records.invariant.body.chunk) (going_within _ _ _ _ _ g)
 
 pub returns-in_default-clause-ok : goal.returns-in_default-clause-ok
-returns-in_default-clause-ok c = going_all _ _ _ _ _ (going_run _ _ _ _ _ _ _ _ _ _ _ c.pass_run.ensures.run c.output_records.invariant.body c.in_ok-lay_run.ensures.ok (c.in_default.ensures.exact _)) refl
+returns-in_default-clause-ok c = going_all _ _ _ _ _ (going_run _ _ _ _ _ _ _ _ _ _ _ c.pass_run.ensures.run c.output_records.invariant.body c.in_ok-lay_run.ensures.ok (c.in_default.ensures.exact _))
+    refl
 
 pub returns-in_default-clause-copied : goal.returns-in_default-clause-copied
 returns-in_default-clause-copied c =
     let u = c.pass_run.ensures.run in
-    let s = so_far_done _ _ _ _ (so_far_run c.args.chunk.now.bytes c.args.remaining.now _ _ _ _ _ u.records _ _ (u.output_records _) u.tiles c.output_records.invariant.copied c.in_ok-lay_run.ensures.grows.keeps c.in_ok-lay_run.ensures.copied) (c.in_default.ensures.exact _) in
+    let s = so_far_done _ _ _ _ (so_far_run c.args.chunk.now.bytes c.args.remaining.now _ _ _ _ _ u.records _ _
+    (u.output_records _) u.tiles c.output_records.invariant.copied c.in_ok-lay_run.ensures.grows.keeps c.in_ok-lay_run.ensures.copied) (c.in_default.ensures.exact _) in
     λ qs k. s qs k tt
 
 pub returns-in_default-clause-made : goal.returns-in_default-clause-made
@@ -61,7 +66,8 @@ returns-in_default-clause-made c =
 pub lay_record-requires-clause-fits : goal.lay_record-requires-clause-fits
 lay_record-requires-clause-fits c =
     let g = going_run _ _ _ _ _ _ _ _ _ _ _ c.pass_run.ensures.run c.output_records.invariant.body c.in_ok-lay_run.ensures.ok (c.in-Some.ensures.exact _) in
-    subst (λ (z : List _). OutputRecordFits z c.args.remaining.now (output_record_for (option_map (λ s. s.now) c.args.slim) c.in-Some.remaining_record) c.lay_run.new.body.at c.lay_run.new.body.newest) (sym g.chunk) g.fits.0
+    subst (λ (z : List _). OutputRecordFits z c.args.remaining.now (output_record_for (option_map (λ s. s.now) c.args.slim) c.in-Some.remaining_record) c.lay_run.new.body.at c.lay_run.new.body.newest)
+    (sym g.chunk) g.fits.0
 
 pub lay_record-requires-clause-order : goal.lay_record-requires-clause-order
 lay_record-requires-clause-order c = subst (NotFalling 0) (sym c.requires.remaining) (left_order c.args.chunk.now c.bytes.ensures.parts (kept_by c.args.chunk.now c.args.kept.now))
@@ -76,24 +82,31 @@ lay_record-requires-clause-ranges c =
 pub lay_record-requires-clause-room : goal.lay_record-requires-clause-room
 lay_record-requires-clause-room c =
     let g = going_run _ _ _ _ _ _ _ _ _ _ _ c.pass_run.ensures.run c.output_records.invariant.body c.in_ok-lay_run.ensures.ok (c.in-Some.ensures.exact _) in
-    subst (λ (z : List _). c.lay_run.new.body.at + length (bytes_of z c.args.remaining.now (output_record_for (option_map (λ s. s.now) c.args.slim) c.in-Some.remaining_record) c.lay_run.new.body.at c.lay_run.new.body.newest) ≤ length z) (sym g.chunk) (going_room _ _ _ _ _ _ g)
+    subst (λ (z : List _). c.lay_run.new.body.at + length
+    (bytes_of z c.args.remaining.now (output_record_for (option_map (λ s. s.now) c.args.slim) c.in-Some.remaining_record) c.lay_run.new.body.at c.lay_run.new.body.newest) ≤ length z) (sym g.chunk)
+    (going_room _ _ _ _ _ _ g)
 
 pub output_records-preserved : goal.output_records-preserved
 output_records-preserved c =
     let g = going_run _ _ _ _ _ _ _ _ _ _ _ c.pass_run.ensures.run c.output_records.invariant.body c.in_ok-lay_run.ensures.ok (c.in-Some.ensures.exact _) in
     record {
       cursor = c.in-Some.ensures.cursor;
-      body = going_next _ _ _ _ _ _ _ _ g refl (c.in_ok-lay_record.ensures.ok (metadata_at c.args.chunk.now.bytes) c.in-Some.ensures.metadata) (some_written c.args.chunk.now.bytes c.args.remaining.now (output_record_for (option_map (λ s. s.now) c.args.slim) c.in-Some.remaining_record) c.lay_run.new.body.at c.lay_run.new.body.newest g.fits.0);
+      body = going_next _ _ _ _ _ _ _ _ g refl (c.in_ok-lay_record.ensures.ok (metadata_at c.args.chunk.now.bytes) c.in-Some.ensures.metadata)
+          (some_written c.args.chunk.now.bytes c.args.remaining.now (output_record_for (option_map (λ s. s.now) c.args.slim) c.in-Some.remaining_record) c.lay_run.new.body.at c.lay_run.new.body.newest
+          g.fits.0);
       copied =
           let p = c.args.chunk.now in
           let u = c.pass_run.ensures.run in
-          let ranges : AllByRecursion (HasRange (length p.bytes)) c.args.remaining.now = subst (AllByRecursion (HasRange (length p.bytes))) (sym c.requires.remaining) (left_ranges p c.bytes.ensures.parts (kept_by p c.args.kept.now)) in
+          let ranges : AllByRecursion (HasRange (length p.bytes)) c.args.remaining.now =
+          subst (AllByRecursion (HasRange (length p.bytes))) (sym c.requires.remaining) (left_ranges p c.bytes.ensures.parts (kept_by p c.args.kept.now)) in
           so_far_output_record p.bytes c.args.remaining.now _ _ _ _ _ _ _ ranges g.fits.0
-          (so_far_run p.bytes c.args.remaining.now _ _ _ _ _ u.records _ _ ((u.output_records _) ∙ ap (λ ss. map (λ r. Whole r) u.records ++ ss) (c.in-Some.ensures.exact _)) u.tiles c.output_records.invariant.copied c.in_ok-lay_run.ensures.grows.keeps c.in_ok-lay_run.ensures.copied)
+          (so_far_run p.bytes c.args.remaining.now _ _ _ _ _ u.records _ _ ((u.output_records _) ∙ ap (λ ss. map (λ r. Whole r) u.records ++ ss) (c.in-Some.ensures.exact _)) u.tiles
+          c.output_records.invariant.copied c.in_ok-lay_run.ensures.grows.keeps c.in_ok-lay_run.ensures.copied)
           c.in_ok-lay_record.ensures.grows.keeps c.in_ok-lay_record.ensures.copied;
       made =
           let u = c.pass_run.ensures.run in
-          parts_next c.args.remaining.now _ _ _ u.records _ _ _ _ _ (u.output_records _) (c.in-Some.ensures.exact _) c.in_ok-lay_run.ensures.grows c.in_ok-lay_record.ensures.grows c.output_records.invariant.made;
+          parts_next c.args.remaining.now _ _ _ u.records _ _ _ _ _ (u.output_records _) (c.in-Some.ensures.exact _) c.in_ok-lay_run.ensures.grows c.in_ok-lay_record.ensures.grows
+          c.output_records.invariant.made;
     }
 
 pub output_records-smaller : goal.output_records-smaller

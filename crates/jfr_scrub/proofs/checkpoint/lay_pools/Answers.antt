@@ -20,15 +20,20 @@ pools-preserved c =
     let n = c.pool_len.ensures.exact in
     let pool = c.split_at.ensures.front ∙ ap (λ k. take k c.pools.rest.now) n in
     let others = c.split_at.ensures.back ∙ ap (λ k. drop k c.pools.rest.now) n in
-    let laid = group_laid (output_so_far c.pools.output) (output_so_far c.put_integer.new.self) (output_so_far c.put_integer-in-Some.new.self) (output_so_far c.lay_entries.new.output) (spell c.in-Some.first.now.class) (spell (length c.split_at.result.0.now)) (λ z. flat_map (entry_bytes z) c.split_at.result.0.now) c.in_ok-put_integer.ensures.ok c.in_ok-put_integer-2.ensures.ok c.in_ok-lay_entries.ensures.ok in
-    let grows = grows_then _ _ _ (PoolClass ∷ []) (EntryCount ∷ []) c.in_ok-put_integer.ensures.grows (grows_then _ _ _ (EntryCount ∷ []) [] c.in_ok-put_integer-2.ensures.grows c.in_ok-lay_entries.ensures.grows) in
+    let laid = group_laid (output_so_far c.pools.output) (output_so_far c.put_integer.new.self) (output_so_far c.put_integer-in-Some.new.self) (output_so_far c.lay_entries.new.output)
+    (spell c.in-Some.first.now.class) (spell (length c.split_at.result.0.now)) (λ z. flat_map (entry_bytes z) c.split_at.result.0.now) c.in_ok-put_integer.ensures.ok
+    c.in_ok-put_integer-2.ensures.ok c.in_ok-lay_entries.ensures.ok in
+    let grows = grows_then _ _ _ (PoolClass ∷ []) (EntryCount ∷ []) c.in_ok-put_integer.ensures.grows
+    (grows_then _ _ _ (EntryCount ∷ []) [] c.in_ok-put_integer-2.ensures.grows c.in_ok-lay_entries.ensures.grows) in
     record {
       pools = subst (λ z. LayingPools (output_so_far c.args.output.now) (output_so_far c.lay_entries.new.output) c.args.entries.now z) (sym others)
           (laying_next _ _ _ _ _ _ c.pools.invariant.pools (sym c.in-Some.ensures.value)
           (laid ∙ ap (λ z. more (more (more (output_so_far c.pools.output) (spell c.in-Some.first.now.class)) (spell (length z))) (flat_map (entry_bytes c.pools.output.chunk) z)) pool));
       copied = subst (λ z. SoFar EntryIsCopied c.lay_entries.new.output.pieces z c.args.entries.now) (sym others)
-          (so_far_entries _ _ _ _ _ _ _ c.pools.invariant.copied grows.keeps pool (subst (AllByRecursion (HasRange _)) (sym pool) (range_take _ _ _ c.pools.invariant.pools.ranges)) c.in_ok-lay_entries.ensures.copied);
-      made = making_next _ _ _ (PoolClass ∷ EntryCount ∷ []) _ _ _ (pools_parts c.pools.rest.now c.split_at.result.1.now c.in-Some.first.now c.pool_len.result (sym c.in-Some.ensures.value) n c.split_at.ensures.back) c.pools.invariant.made grows;
+          (so_far_entries _ _ _ _ _ _ _ c.pools.invariant.copied grows.keeps pool (subst (AllByRecursion (HasRange _)) (sym pool) (range_take _ _ _ c.pools.invariant.pools.ranges))
+          c.in_ok-lay_entries.ensures.copied);
+      made = making_next _ _ _ (PoolClass ∷ EntryCount ∷ []) _ _ _
+          (pools_parts c.pools.rest.now c.split_at.result.1.now c.in-Some.first.now c.pool_len.result (sym c.in-Some.ensures.value) n c.split_at.ensures.back) c.pools.invariant.made grows;
     }
 
 pub pools-smaller : goal.pools-smaller

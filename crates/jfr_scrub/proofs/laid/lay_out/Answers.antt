@@ -30,9 +30,11 @@ returns-clause-laid c =
       becomes = laid_all (option_map (λ s. s.now) c.args.slim) p kept _ _ _ _ _ remaining c.in_ok-body.ensures.ok c.header.ensures c.output_header-header.ensures c.in_ok-pieces.ensures.ok;
       of_chunk = search rules;
       made = search rules;
-      kinds = c.in_ok-pieces.ensures.made ∙ ap (λ z. ChunkHeader ∷ z) (c.in_ok-body.ensures.made ∙ ap (λ (z : List EntryAt). flat_map (output_record_parts z) (output_records (option_map (λ s. s.now) c.args.slim) p kept)) remaining);
+      kinds = c.in_ok-pieces.ensures.made ∙ ap (λ z. ChunkHeader ∷ z)
+          (c.in_ok-body.ensures.made ∙ ap (λ (z : List EntryAt). flat_map (output_record_parts z) (output_records (option_map (λ s. s.now) c.args.slim) p kept)) remaining);
       events_copied = events_are_copied (option_map (λ s. s.now) c.args.slim) p c.lay_body.ensures.accepted.parts qs c.args.kept.now _ copied;
-      entries_copied = entries_are_copied (option_map (λ s. s.now) c.args.slim) p c.lay_body.ensures.accepted.parts qs kept (subst (λ (z : List EntryAt). AllByRecursion (OutputRecordIsCopied z qs) (output_records (option_map (λ s. s.now) c.args.slim) p kept)) remaining copied);
+      entries_copied = entries_are_copied (option_map (λ s. s.now) c.args.slim) p c.lay_body.ensures.accepted.parts qs kept
+          (subst (λ (z : List EntryAt). AllByRecursion (OutputRecordIsCopied z qs) (output_records (option_map (λ s. s.now) c.args.slim) p kept)) remaining copied);
       metadata_copied = metadata_is_copied (option_map (λ s. s.now) c.args.slim) p c.lay_body.ensures.accepted.parts qs kept _ copied;
       events = c.kept_count.ensures ∙ marked_count c.args.kept.now (events_of p) c.requires.kept;
       entries = ap (λ (z : List EntryAt). length z) remaining;

@@ -18,8 +18,11 @@ returns c =
     let named = c.in_ok-push_string.ensures.ok ∙ ap (λ z. string_bytes c.push_str.new.self ++ compact_text (string z)) name in
     let values = c.in_ok-push_node.ensures.ok in
     record {
-      ok = parts_added was (string_bytes c.push_str.new.self) (string_bytes c.push_string.new.out) (string_bytes c.push_str-2.new.self) (string_bytes c.push_node.new.out) (string_bytes c.push_str-3.new.self) (codes "{\"type\":") (compact_text (text_json (class_name p.classes m.shape.class))) (codes ",\"values\":") (compact_text (node_json p (referred_json p c.args.source.now.reach.references) m)) (codes "}")
+      ok = parts_added was (string_bytes c.push_str.new.self) (string_bytes c.push_string.new.out) (string_bytes c.push_str-2.new.self) (string_bytes c.push_node.new.out)
+          (string_bytes c.push_str-3.new.self) (codes "{\"type\":") (compact_text (text_json (class_name p.classes m.shape.class))) (codes ",\"values\":")
+          (compact_text (node_json p (referred_json p c.args.source.now.reach.references) m)) (codes "}")
           c.in_ok-push_str.ensures.bytes named c.in_ok-push_str-2.ensures.bytes values c.in_ok-push_str-3.ensures.bytes
-          ∙ (ap (λ z. was ++ z) (event_text p c.args.source.now.reach.references m) ∙ ap (λ (n : NodeAt). was ++ compact_text (event_data p c.args.source.now.reach.references n)) c.fields_of-node.ensures.exact);
+          ∙ (ap (λ z. was ++ z) (event_text p c.args.source.now.reach.references m)
+          ∙ ap (λ (n : NodeAt). was ++ compact_text (event_data p c.args.source.now.reach.references n)) c.fields_of-node.ensures.exact);
       cached = c.in_ok-push_node.ensures.cached;
     }

@@ -23,4 +23,7 @@ loop-index-preserved c =
 pub returns : goal.returns
 returns c =
     let names = c.in_ok-classes.classes.items in
-    record { ok = leaders_all c.args.chunk.now.classes c.args.chunk.now.body.strings names c.loop-index.index c.loop-index.leaders.items c.in_ok-classes.ensures.ok (omega (arith, ap length c.deref-class-items.ensures.value)) c.loop-index.invariant.1 }
+    record {
+      ok = leaders_all c.args.chunk.now.classes c.args.chunk.now.body.strings names c.loop-index.index c.loop-index.leaders.items c.in_ok-classes.ensures.ok
+          (omega (arith, ap length c.deref-class-items.ensures.value)) c.loop-index.invariant.1;
+    }

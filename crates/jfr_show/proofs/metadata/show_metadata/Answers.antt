@@ -12,4 +12,8 @@ loop-class-preserved c =
     pieces_more (class_lines classes) classes i class c.push_ascii-2.new.self c.loop-class.out c.show_class.new.out at c.loop-class.invariant c.in_ok-show_class.ensures.ok
 
 pub returns : goal.returns
-returns c = record { ok = metadata_is c.args.chunk.now c.classes-classes.result.now c.args.number c.loop-class.class-index c.args.out.now c.push_ascii.new.self c.push_number.new.self c.push_ascii-2.new.self c.loop-class.out (search rules) (omega (arith, ap length c.as_slice-class-items.ensures)) c.in_ok-push_ascii.ensures.ok c.in_ok-push_number.ensures.ok c.in_ok-push_ascii-2.ensures.ok c.loop-class.invariant }
+returns c = record {
+  ok = metadata_is c.args.chunk.now c.classes-classes.result.now c.args.number c.loop-class.class-index c.args.out.now c.push_ascii.new.self c.push_number.new.self
+      c.push_ascii-2.new.self c.loop-class.out (search rules) (omega (arith, ap length c.as_slice-class-items.ensures)) c.in_ok-push_ascii.ensures.ok c.in_ok-push_number.ensures.ok
+      c.in_ok-push_ascii-2.ensures.ok c.loop-class.invariant;
+}

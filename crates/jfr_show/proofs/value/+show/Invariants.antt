@@ -41,7 +41,9 @@ abbrev pub invariant-show_fields-loop-layout : goal.invariant-show_fields-loop-l
 invariant-show_fields-loop-layout l = record {
   cached : AreCached l.view.chunk.now l.cache;
   number : l.number ≡ l.layout-index;
-  left : (to : ℕ) (vs : Values) (class : Class) → AreValues l.view.chunk.now.classes l.view.chunk.now.bytes l.at to (field_shapes l.view.chunk.now.classes l.class_index) vs → slice_get l.view.chunk.now.classes l.class_index ≡ Some class
+  left : (to : ℕ) (vs : Values) (class : Class) → AreValues l.view.chunk.now.classes l.view.chunk.now.bytes l.at to (field_shapes l.view.chunk.now.classes l.class_index) vs
+      → slice_get l.view.chunk.now.classes l.class_index ≡ Some class
       → StillToShow l.view.chunk.now.classes l.view.chunk.now.bytes to (l.initial.out ++ field_lines (l.view.depth.level + 1) class.fields (shown_all l.view.chunk.now.classes (referred l.view.chunk.now l.view.depth.reach.references) (l.view.depth.level + 1) vs))
-      (onto_fields l.view.chunk.now.classes (referred l.view.chunk.now l.view.depth.reach.references) (l.view.depth.level + 1) (drop l.layout-index class.fields)) (drop l.layout-index (field_shapes l.view.chunk.now.classes l.class_index)) l.to l.out;
+      (onto_fields l.view.chunk.now.classes (referred l.view.chunk.now l.view.depth.reach.references) (l.view.depth.level + 1) (drop l.layout-index class.fields))
+      (drop l.layout-index (field_shapes l.view.chunk.now.classes l.class_index)) l.to l.out;
 }

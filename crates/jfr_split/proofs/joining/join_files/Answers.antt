@@ -26,7 +26,8 @@ files-preserved g c =
     let steady : here.steady ≡ before.steady = c.files.invariant.counts.3 in
     record {
       joined = λ output contents can.
-          file_joined output c.args.files.now contents c.files.file-index c.files.at.start c.files.at.number c.file-item.result before.steady before.contents here.contents after.contents c.join_file.new.at.start c.join_file.new.at.number name
+          file_joined output c.args.files.now contents c.files.file-index c.files.at.start c.files.at.number c.file-item.result before.steady before.contents here.contents after.contents
+          c.join_file.new.at.start c.join_file.new.at.number name
           (omega (arith, c.files-test.true)) (c.as_str.ensures.value ∙ ap (λ (s : String Global). string_bytes s) c.file-item.is) can (c.files.invariant.joined output contents can)
           (λ earlier at. subst (λ (st : Bool). IfKnown here.contents after.contents (OutcomeOf st adding earlier name None None (Ends Fine))) steady (c.in-Done.ensures.contents earlier at))
           (λ earlier at. c.join_file.ensures.later earlier at c.in-Done.is);
@@ -44,7 +45,8 @@ returns-in_default g c =
     record {
       contents = λ output contents can.
           file_ended output c.args.files.now contents c.files.file-index c.files.at.start c.files.at.number c.file-item.result before.steady before.contents here.contents after.contents ended name
-          (omega (arith, c.files-test.true)) (c.as_str.ensures.value ∙ ap (λ (s : String Global). string_bytes s) c.file-item.is) (λ e. c.in_default.not-Done (fine_done c.join_file.result e)) can (c.files.invariant.joined output contents can)
+          (omega (arith, c.files-test.true)) (c.as_str.ensures.value ∙ ap (λ (s : String Global). string_bytes s) c.file-item.is) (λ e. c.in_default.not-Done (fine_done c.join_file.result e)) can
+          (c.files.invariant.joined output contents can)
           (λ earlier at. subst (λ (st : Bool). IfKnown here.contents after.contents (OutcomeOf st adding earlier name None None ended)) steady (c.join_file.ensures.contents earlier at));
       counts = tallied_after File ended (without_sink before) (without_sink here) (without_sink after) c.files.invariant.counts c.join_file.ensures.counts;
     }
@@ -55,12 +57,16 @@ returns-in-Ok-clause-contents g c = λ output contents can.
     let here = g.P.Place.state c.files.place in
     let after = g.P.Place.state c.finish_output.new.place in
     let steady : here.steady ≡ before.steady = c.files.invariant.counts.3 in
-    files_ended before.steady output c.args.files.now contents c.files.file-index c.files.at.start c.files.at.number (Ok c.in-Ok.field-0) before.contents here.contents after.contents c.files-test.false can (c.files.invariant.joined output contents can)
+    files_ended before.steady output c.args.files.now contents c.files.file-index c.files.at.start c.files.at.number
+    (Ok c.in-Ok.field-0) before.contents here.contents after.contents c.files-test.false can (c.files.invariant.joined output contents can)
     (subst (λ (st : Bool). IfKnown here.contents after.contents (PartWorld st (Goes (Finish ∷ [])) (Ok c.in-Ok.field-0) None None)) steady (c.in-Ok.ensures.contents no_sink))
 
 pub returns-in-Ok-clause-counts : goal.returns-in-Ok-clause-counts
-returns-in-Ok-clause-counts g c =
-    (tt, counted_after Unchanged Unchanged Unchanged (without_sink (g.P.Place.state c.args.place.now)) (without_sink (g.P.Place.state c.files.place)) (without_sink (g.P.Place.state c.finish_output.new.place)) c.files.invariant.counts (c.in-Ok.ensures.counts no_sink))
+returns-in-Ok-clause-counts g c = (
+  tt,
+  counted_after Unchanged Unchanged Unchanged (without_sink (g.P.Place.state c.args.place.now)) (without_sink (g.P.Place.state c.files.place))
+      (without_sink (g.P.Place.state c.finish_output.new.place)) c.files.invariant.counts (c.in-Ok.ensures.counts no_sink),
+)
 
 pub returns-clause-contents : goal.returns-clause-contents
 returns-clause-contents g c = λ output contents can.
@@ -68,7 +74,8 @@ returns-clause-contents g c = λ output contents can.
     let here = g.P.Place.state c.files.place in
     let after = g.P.Place.state c.finish_output.new.place in
     let steady : here.steady ≡ before.steady = c.files.invariant.counts.3 in
-    files_ended before.steady output c.args.files.now contents c.files.file-index c.files.at.start c.files.at.number (Err c.in-Err.ending) before.contents here.contents after.contents c.files-test.false can (c.files.invariant.joined output contents can)
+    files_ended before.steady output c.args.files.now contents c.files.file-index c.files.at.start c.files.at.number
+    (Err c.in-Err.ending) before.contents here.contents after.contents c.files-test.false can (c.files.invariant.joined output contents can)
     (subst (λ (st : Bool). IfKnown here.contents after.contents (PartWorld st (Goes (Finish ∷ [])) (Err c.in-Err.ending) None None)) steady (c.in-Err.ensures.contents no_sink))
 
 pub returns-clause-counts : goal.returns-clause-counts

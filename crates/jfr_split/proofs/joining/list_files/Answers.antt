@@ -10,7 +10,8 @@ pub returns-in_err-names-clause-ended : goal.returns-in_err-names-clause-ended
 returns-in_err-names-clause-ended g c =
     let p = err_from_is_err_and c.from_residual.result c.from_residual.ensures.1 in
     let r = gave_up c.list.result c.map_err.result c.in_err-names.field-0.0 c.map_err.ensures.cases c.in_err-names.was in
-    rw (p.1, p.2) (λ plan. not_listed _ (g.P.Place.state c.args.place.now).steady plan r.0 c.in_err-names.field-0.0 None (g.P.Place.state c.args.place.now).contents (g.P.Place.state c.list.new.self).contents r.2
+    rw (p.1, p.2) (λ plan. not_listed _ (g.P.Place.state c.args.place.now).steady plan r.0 c.in_err-names.field-0.0 None (g.P.Place.state c.args.place.now).contents
+    (g.P.Place.state c.list.new.self).contents r.2
     (rw r.1 at c.list.ensures.contents)
     (rw r.1 at c.list.ensures.steady))
 

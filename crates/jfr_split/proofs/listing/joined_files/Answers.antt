@@ -11,7 +11,8 @@ loop-name-preserved c =
     let index = c.loop-name.name-index in
     let item = slice_get-get_or items index c.name-item.result (omega arith) ∙ ap Some (sym c.name-item.is ∙ sym c.as_str.ensures) in
     let at = ap (λ z. slice_get z index) (sym c.as_slice-name-items.ensures) ∙ item in
-    listed_more c.args.folder.now c.args.names.now index c.as_str.result.now c.loop-name.files.items c.push_file.new.files.items (omega (arith, ap length c.as_slice-name-items.ensures)) at c.as_str.utf8 c.loop-name.invariant c.in_ok-push_file.ensures
+    listed_more c.args.folder.now c.args.names.now index c.as_str.result.now c.loop-name.files.items c.push_file.new.files.items
+    (omega (arith, ap length c.as_slice-name-items.ensures)) at c.as_str.utf8 c.loop-name.invariant c.in_ok-push_file.ensures
 
 pub returns : goal.returns
 returns c = λ files listing.

@@ -19,7 +19,8 @@ returns-clause-ran g c =
 pub returns-clause-too_many : goal.returns-clause-too_many
 returns-clause-too_many g c = λ e.
     let contents = c.run_stage.ensures.contents [] (of_none c.args.rule.now ∙ sym c.none.ensures) (c.first-at.ensures.start, c.first-at.ensures.number) in
-    subst (λ (y : Ending). After (splitting c.args.rule.now c.args.file.now) [] c.args.file.now (command_end y) (without_sink (g.P.Place.state c.args.place.now)) (without_sink (g.P.Place.state c.run_stage.new.place))) e contents
+    subst (λ (y : Ending). After (splitting c.args.rule.now c.args.file.now) [] c.args.file.now (command_end y) (without_sink (g.P.Place.state c.args.place.now))
+    (without_sink (g.P.Place.state c.run_stage.new.place))) e contents
 
 pub returns-clause-can_create : goal.returns-clause-can_create
 returns-clause-can_create g c = λ can.

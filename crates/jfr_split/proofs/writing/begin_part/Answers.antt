@@ -17,13 +17,15 @@ returns-in_err-open_part-clause-contents g c = λ sink.
     let x = g.P.Place.state c.args.place.now in
     let y = g.P.Place.state c.open_part.new.place in
     let less : c.args.part.now.number < c.args.split.rule.now.max_parts = omega (arith, c.if-split-part.false) in
-    rw (p.1, p.2) (subst (λ (a : Asked). IsAfterPart a (Err c.in_err-open_part.field-0.0) (outside x sink) (outside y sink)) (sym (asks_some c.args.split.rule.now name c.args.part.now c.args.chunk.now less))
+    rw (p.1, p.2) (subst (λ (a : Asked). IsAfterPart a (Err c.in_err-open_part.field-0.0) (outside x sink) (outside y sink))
+    (sym (asks_some c.args.split.rule.now name c.args.part.now c.args.chunk.now less))
     (leaves_more (closing c.args.part.now ++ Create (name (c.args.part.now.number + 1)) ∷ []) (Append c.args.chunk.now ∷ []) c.in_err-open_part.field-0.0 x y c.in_err-open_part.ensures.contents sink))
 
 pub returns-in_err-open_part-clause-counts : goal.returns-in_err-open_part-clause-counts
 returns-in_err-open_part-clause-counts g c = λ sink.
     let p = err_from_is_err_and c.from_residual.result c.from_residual.ensures.1 in
-    rw (p.1, p.2) ((tallied (Err c.in_err-open_part.field-0.0) (outside (g.P.Place.state c.args.place.now) sink) (outside (g.P.Place.state c.open_part.new.place) sink) (c.in_err-open_part.ensures.counts sink)).1)
+    rw (p.1, p.2) ((tallied (Err c.in_err-open_part.field-0.0) (outside (g.P.Place.state c.args.place.now) sink) (outside (g.P.Place.state c.open_part.new.place) sink)
+    (c.in_err-open_part.ensures.counts sink)).1)
 
 pub returns-clause-contents : goal.returns-clause-contents
 returns-clause-contents g c = λ sink.
@@ -33,11 +35,13 @@ returns-clause-contents g c = λ sink.
     let z = g.P.Place.state c.append_output.new.place in
     let less : c.args.part.now.number < c.args.split.rule.now.max_parts = omega (arith, c.if-split-part.false) in
     subst (λ (a : Asked). IsAfterPart a c.append_output.result (outside x sink) (outside z sink)) (sym (asks_some c.args.split.rule.now name c.args.part.now c.args.chunk.now less))
-    (leaves_then (closing c.args.part.now ++ Create (name (c.args.part.now.number + 1)) ∷ []) (Append c.args.chunk.now ∷ []) c.in_ok-open_part.field-0 c.append_output.result x y z c.in_ok-open_part.ensures.counts c.in_ok-open_part.ensures.contents c.append_output.ensures.contents sink)
+    (leaves_then (closing c.args.part.now ++ Create (name (c.args.part.now.number + 1)) ∷ []) (Append c.args.chunk.now ∷ []) c.in_ok-open_part.field-0 c.append_output.result x y z
+    c.in_ok-open_part.ensures.counts c.in_ok-open_part.ensures.contents c.append_output.ensures.contents sink)
 
 pub returns-clause-counts : goal.returns-clause-counts
 returns-clause-counts g c = λ sink.
     let x = g.P.Place.state c.args.place.now in
     let z = g.P.Place.state c.append_output.new.place in
     let r = c.append_output.result in
-    (tallied r (outside x sink) (outside z sink) (counts_then c.in_ok-open_part.field-0 r x (g.P.Place.state c.open_part.new.place) z c.in_ok-open_part.ensures.counts c.append_output.ensures.counts sink)).1
+    (tallied r (outside x sink) (outside z sink)
+    (counts_then c.in_ok-open_part.field-0 r x (g.P.Place.state c.open_part.new.place) z c.in_ok-open_part.ensures.counts c.append_output.ensures.counts sink)).1

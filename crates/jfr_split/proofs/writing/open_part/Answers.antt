@@ -13,7 +13,8 @@ returns-in_err-close_part g c =
     let p = err_from_is_err_and c.from_residual.result c.from_residual.ensures.1 in
     let create = Create (part_name (folder_of c.args.split.rule.now) c.args.split.file.now (c.args.part.now.number + 1)) ∷ [] in
     record {
-      contents = rw (p.1, p.2) (leaves_more (closing c.args.part.now) create c.in_err-close_part.field-0.0 (g.P.Place.state c.args.place.now) (g.P.Place.state c.close_part.new.place) c.in_err-close_part.ensures.contents);
+      contents = rw (p.1, p.2) (leaves_more (closing c.args.part.now) create c.in_err-close_part.field-0.0 (g.P.Place.state c.args.place.now)
+          (g.P.Place.state c.close_part.new.place) c.in_err-close_part.ensures.contents);
       counts = rw (p.1, p.2) c.in_err-close_part.ensures.counts;
     }
 
@@ -22,7 +23,8 @@ returns-in_err-name g c =
     let p = err_from_is_err_and c.from_residual-in_err-name.result c.from_residual-in_err-name.ensures.1 in
     let create = Create (part_name (folder_of c.args.split.rule.now) c.args.split.file.now (c.args.part.now.number + 1)) ∷ [] in
     record {
-      contents = rw (p.1, p.2) (leaves_none (closing c.args.part.now) create c.in_ok-close_part.field-0 (g.P.Place.state c.args.place.now) (g.P.Place.state c.close_part.new.place) c.in_ok-close_part.ensures.contents);
+      contents = rw (p.1, p.2) (leaves_none (closing c.args.part.now) create c.in_ok-close_part.field-0 (g.P.Place.state c.args.place.now)
+          (g.P.Place.state c.close_part.new.place) c.in_ok-close_part.ensures.contents);
       counts = rw (p.1, p.2) c.in_ok-close_part.ensures.counts;
     }
 
@@ -35,7 +37,10 @@ returns g c =
     let r = c.create_output.result in
     let closed = c.in_ok-close_part.ensures in
     record {
-      contents = leaves_then (closing c.args.part.now) (Create (part_name (folder_of c.args.split.rule.now) c.args.split.file.now (c.args.part.now.number + 1)) ∷ []) o r x y z closed.counts closed.contents
-          (subst (λ (n : List ℕ). IsPlaceAfter (Create n ∷ []) r y z) (c.as_str.ensures.value ∙ c.in_ok-name.ensures ∙ ap (λ (o : Option (List ℕ)). part_name o c.args.split.file.now (c.args.part.now.number + 1)) c.folder_name-folder.ensures) c.create_output.ensures.contents);
+      contents = leaves_then (closing c.args.part.now) (Create (part_name (folder_of c.args.split.rule.now) c.args.split.file.now (c.args.part.now.number + 1)) ∷ []) o r x y z closed.counts
+          closed.contents
+          (subst (λ (n : List ℕ). IsPlaceAfter (Create n ∷ []) r y z)
+          (c.as_str.ensures.value ∙ c.in_ok-name.ensures ∙ ap (λ (o : Option (List ℕ)). part_name o c.args.split.file.now (c.args.part.now.number + 1)) c.folder_name-folder.ensures)
+          c.create_output.ensures.contents);
       counts = counts_then o r x y z closed.counts c.create_output.ensures.counts;
     }

@@ -24,7 +24,9 @@ add_entry-requires-clause-fits c =
 
 pub returns-in_err-add_entry-clause-below : goal.returns-in_err-add_entry-clause-below
 returns-in_err-add_entry-clause-below c = λ old ts most h b.
-    subst (AreBelow (most + length ts)) (sym c.in_err-add_entry.ensures.unchanged) (pending_below (entry_text c.args.chunk.now) old ts (counts_in c.loop-number.counts) c.loop-number.number most (drop c.loop-number.number c.args.by_entry.now) (c.loop-number.invariant.pending old ts h) b)
+    subst (AreBelow (most + length ts)) (sym c.in_err-add_entry.ensures.unchanged)
+    (pending_below (entry_text c.args.chunk.now) old ts (counts_in c.loop-number.counts) c.loop-number.number most (drop c.loop-number.number c.args.by_entry.now)
+    (c.loop-number.invariant.pending old ts h) b)
 
 pub loop-number-preserved : goal.loop-number-preserved
 loop-number-preserved c = record {
@@ -36,5 +38,6 @@ loop-number-preserved c = record {
       let now = counts_in c.loop-number.counts in
       let n = get_or ns number 0 in
       let w : number < length ns = c.loop-number-test.true in
-      pending_next text old ts now number n (drop (number + 1) ns) (counts_in c.add_entry.new.counts) c.in_ok-add_entry.ensures.ok (subst (λ z. HasPending text old ts now number z) (drop_at_get ns number n (slice_get-get_or ns number 0 w)) (c.loop-number.invariant.pending old ts h)));
+      pending_next text old ts now number n (drop (number + 1) ns) (counts_in c.add_entry.new.counts) c.in_ok-add_entry.ensures.ok
+      (subst (λ z. HasPending text old ts now number z) (drop_at_get ns number n (slice_get-get_or ns number 0 w)) (c.loop-number.invariant.pending old ts h)));
 }

@@ -10,5 +10,6 @@ use Rattle.jfr_stacks.proofs.adding.add_entries.Given as goal
 abbrev pub invariant-loop-number : goal.invariant-loop-number
 invariant-loop-number l = record {
   ready : WritesFor l.chunk l.writer.frames;
-  pending : (old : Counts) (ts : List (List ℕ)) → HasPending (entry_text l.chunk) old ts (counts_in l.initial.counts) 0 l.by_entry → HasPending (entry_text l.chunk) old ts (counts_in l.counts) l.number (drop l.number l.by_entry);
+  pending : (old : Counts) (ts : List (List ℕ)) → HasPending (entry_text l.chunk) old ts (counts_in l.initial.counts) 0 l.by_entry
+      → HasPending (entry_text l.chunk) old ts (counts_in l.counts) l.number (drop l.number l.by_entry);
 }

@@ -56,7 +56,8 @@ returns-in_err-count_trace-clause-below c = λ most b.
     let r : length (events_of c.args.chunk.now) ≤ most_events = c.requires.few in
     let l : most + length i.done ≤ most + most_events = omega arith in
     subst (AreBelow (most + most_events)) (sym c.in_err-count_trace.ensures.unchanged)
-    (below_more (most + length i.done) (most + most_events) (counts_in c.loop-number.counts) l (pending_below (entry_text c.args.chunk.now) (counts_in c.args.counts.now) i.done (counts_in c.loop-number.counts) 0 most c.loop-number.by_entry.items i.pending b)))
+    (below_more (most + length i.done) (most + most_events) (counts_in c.loop-number.counts) l
+    (pending_below (entry_text c.args.chunk.now) (counts_in c.args.counts.now) i.done (counts_in c.loop-number.counts) 0 most c.loop-number.by_entry.items i.pending b)))
 
 take_new : (n : ℕ) (new rest : List ℕ) → length new ≡ n → take n (new ++ rest) ≡ new
 take_new n new rest l = ap (λ m. take m (new ++ rest)) (sym l) ∙ take-append_seam new rest
@@ -73,31 +74,39 @@ loop-number-preserved c =
       | in-Some+in_ok-count_trace w ↦
           let n = node_of w.in-Some.trace in
           let o : Option (List ℕ) = trace_text p (after_references 16 p n) in
-          let k : option_and_then (stack_of p) (kept_at p c.args.kept.now number) ≡ o = traced_all p (kept_at p c.args.kept.now number) ∙ ap (option_and_then (λ t. trace_text p (after_references 16 p t))) (sym w.in-Some.ensures.exact) in
+          let k : option_and_then (stack_of p) (kept_at p c.args.kept.now number) ≡ o =
+          traced_all p (kept_at p c.args.kept.now number) ∙ ap (option_and_then (λ t. trace_text p (after_references 16 p t))) (sym w.in-Some.ensures.exact) in
           let new = w.count_trace.new.by_entry in
           let d = i.done ++ option_to_list o in
           let q : c.match-kept_trace.by_entry.items ≡ new = ap (λ (v : Vec ℕ Global). v.items) w.by_entry-is ∙ take_new _ new _ (w.count_trace.auto.by_entry ∙ w.deref_mut.ensures.len) in
-          let h : HasPending (entry_text p) old d (counts_in w.count_trace.new.counts) 0 new = w.in_ok-count_trace.ensures.ok old i.done (subst (λ ns. HasPending (entry_text p) old i.done (counts_in c.loop-number.counts) 0 ns) (sym w.deref_mut.ensures.value) i.pending) in
+          let h : HasPending (entry_text p) old d (counts_in w.count_trace.new.counts) 0 new =
+          w.in_ok-count_trace.ensures.ok old i.done (subst (λ ns. HasPending (entry_text p) old i.done (counts_in c.loop-number.counts) 0 ns) (sym w.deref_mut.ensures.value) i.pending) in
           record {
             done = d;
-            rest = ap (λ z. (i.done ++ option_to_list z) ++ left (stack_of p) p c.args.kept.now (number + 1)) (sym k) ∙ done_next (stack_of p) p c.args.kept.now number i.done (kept_at p c.args.kept.now number) t c.requires.each refl i.rest;
+            rest = ap (λ z. (i.done ++ option_to_list z) ++ left (stack_of p) p c.args.kept.now (number + 1)) (sym k)
+                ∙ done_next (stack_of p) p c.args.kept.now number i.done (kept_at p c.args.kept.now number) t c.requires.each refl i.rest;
             few = let m = length_more i.done o in omega arith;
-            pending = subst (λ ns. HasPending (entry_text p) old d (counts_in c.match-kept_trace.counts) 0 ns) (sym q) (subst (λ m. HasPending (entry_text p) old d m 0 new) (sym (ap counts_in w.counts-is)) h);
+            pending = subst (λ ns. HasPending (entry_text p) old d (counts_in c.match-kept_trace.counts) 0 ns) (sym q)
+                (subst (λ m. HasPending (entry_text p) old d m 0 new) (sym (ap counts_in w.counts-is)) h);
             each = ap length q ∙ (w.count_trace.auto.by_entry ∙ (ap length w.deref_mut.ensures.value ∙ i.each));
             small = subst (AreAtMost (number + 1)) (sym q) (w.in_ok-count_trace.ensures.small number (subst (AreAtMost number) (sym w.deref_mut.ensures.value) i.small));
             ready = subst (λ (z : StackWriter). WritesFor p z.frames) (sym w.writer-is) w.in_ok-count_trace.ensures.ready;
           }
       | in_default w ↦
           let q : c.match-kept_trace.by_entry.items ≡ c.loop-number.by_entry.items = ap (λ (v : Vec ℕ Global). v.items) w.by_entry-is in
-          let k : option_and_then (stack_of p) (kept_at p c.args.kept.now number) ≡ None = traced_all p (kept_at p c.args.kept.now number) ∙ ap (option_and_then (λ t. trace_text p (after_references 16 p t))) (sym w.in_default.ensures.exact) in
+          let k : option_and_then (stack_of p) (kept_at p c.args.kept.now number) ≡ None =
+          traced_all p (kept_at p c.args.kept.now number) ∙ ap (option_and_then (λ t. trace_text p (after_references 16 p t))) (sym w.in_default.ensures.exact) in
           let d = i.done ++ [] in
-          let o : HasPending (entry_text p) old d (counts_in c.loop-number.counts) 0 c.loop-number.by_entry.items = pending_same (entry_text p) old i.done (counts_in c.loop-number.counts) c.loop-number.by_entry.items None refl i.pending in
+          let o : HasPending (entry_text p) old d (counts_in c.loop-number.counts) 0 c.loop-number.by_entry.items =
+          pending_same (entry_text p) old i.done (counts_in c.loop-number.counts) c.loop-number.by_entry.items None refl i.pending in
           let l : number ≤ number + 1 = omega arith in
           record {
             done = d;
-            rest = ap (λ z. (i.done ++ option_to_list z) ++ left (stack_of p) p c.args.kept.now (number + 1)) (sym k) ∙ done_next (stack_of p) p c.args.kept.now number i.done (kept_at p c.args.kept.now number) t c.requires.each refl i.rest;
+            rest = ap (λ z. (i.done ++ option_to_list z) ++ left (stack_of p) p c.args.kept.now (number + 1)) (sym k)
+                ∙ done_next (stack_of p) p c.args.kept.now number i.done (kept_at p c.args.kept.now number) t c.requires.each refl i.rest;
             few = let m = length_more i.done None in omega arith;
-            pending = subst (λ ns. HasPending (entry_text p) old d (counts_in c.match-kept_trace.counts) 0 ns) (sym q) (subst (λ m. HasPending (entry_text p) old d m 0 c.loop-number.by_entry.items) (sym (ap counts_in w.counts-is)) o);
+            pending = subst (λ ns. HasPending (entry_text p) old d (counts_in c.match-kept_trace.counts) 0 ns) (sym q)
+                (subst (λ m. HasPending (entry_text p) old d m 0 c.loop-number.by_entry.items) (sym (ap counts_in w.counts-is)) o);
             each = ap length q ∙ i.each;
             small = subst (AreAtMost (number + 1)) (sym q) (small_more number (number + 1) c.loop-number.by_entry.items l i.small);
             ready = subst (λ (z : StackWriter). WritesFor p z.frames) (sym w.writer-is) i.ready;

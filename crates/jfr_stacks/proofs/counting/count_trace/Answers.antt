@@ -23,7 +23,8 @@ returns-in-Entry-clause-ok c = λ old done h.
     let number = c.in-Entry.number in
     let p = c.args.chunk.now in
     let w : number < length ns = (let a = c.in-Entry.ensures.within in let b = c.requires.each in omega arith) in
-    pending_more (entry_text p) old done (counts_in c.args.counts.now) ns number (get_or ns number 0) (trace_text p (after_references 16 p (node_of c.args.trace.now))) (slice_get-get_or ns number 0 w) c.in-Entry.ensures.same h)
+    pending_more (entry_text p) old done (counts_in c.args.counts.now) ns number (get_or ns number 0) (trace_text p (after_references 16 p (node_of c.args.trace.now)))
+    (slice_get-get_or ns number 0 w) c.in-Entry.ensures.same h)
 
 pub returns-in-Inline-clause-ok : goal.returns-in-Inline-clause-ok
 returns-in-Inline-clause-ok c =
@@ -31,4 +32,5 @@ returns-in-Inline-clause-ok c =
     let now = counts_in c.args.counts.now in
     let new = counts_in c.add_trace.new.counts in
     on_ok_weaker c.add_trace.result (λ adds old done h.
-    pending_added (entry_text p) old done now c.args.by_entry.now (trace_text p (after_references 16 p (node_of c.args.trace.now))) new (subst (λ z. AddsText now (trace_text p z) 1 new) c.follow_references-value.ensures.exact adds) h) c.add_trace.ensures.ok
+    pending_added (entry_text p) old done now c.args.by_entry.now (trace_text p (after_references 16 p (node_of c.args.trace.now))) new
+    (subst (λ z. AddsText now (trace_text p z) 1 new) c.follow_references-value.ensures.exact adds) h) c.add_trace.ensures.ok

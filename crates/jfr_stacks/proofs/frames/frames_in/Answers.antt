@@ -9,9 +9,11 @@ returns-in_default-clause-ok c = no_frames c.args.chunk.now (node_of c.args.trac
 
 pub returns-then-not-array-clause-ok : goal.returns-then-not-array-clause-ok
 returns-then-not-array-clause-ok c =
-    sym (frames_found c.args.chunk.now (node_of c.args.trace.now) (node_of c.in-Some.field) (node_of c.follow_references-array.result) (c.in-Some.ensures.exact (codes "frames") c.requires.fields) c.follow_references-array.ensures.exact ∙ items_none c.args.chunk.now (node_of c.follow_references-array.result) c.if-not-array.true)
+    sym (frames_found c.args.chunk.now (node_of c.args.trace.now) (node_of c.in-Some.field) (node_of c.follow_references-array.result)
+    (c.in-Some.ensures.exact (codes "frames") c.requires.fields) c.follow_references-array.ensures.exact ∙ items_none c.args.chunk.now (node_of c.follow_references-array.result) c.if-not-array.true)
 
 pub returns-clause-ok : goal.returns-clause-ok
 returns-clause-ok c =
     ap Some c.in_ok-frames.ensures.ok
-    ∙ sym (frames_found c.args.chunk.now (node_of c.args.trace.now) (node_of c.in-Some.field) (node_of c.follow_references-array.result) (c.in-Some.ensures.exact (codes "frames") c.requires.fields) c.follow_references-array.ensures.exact ∙ items_some c.args.chunk.now (node_of c.follow_references-array.result) c.if-not-array.false)
+    ∙ sym (frames_found c.args.chunk.now (node_of c.args.trace.now) (node_of c.in-Some.field) (node_of c.follow_references-array.result)
+    (c.in-Some.ensures.exact (codes "frames") c.requires.fields) c.follow_references-array.ensures.exact ∙ items_some c.args.chunk.now (node_of c.follow_references-array.result) c.if-not-array.false)

@@ -22,7 +22,8 @@ unreachable-requires c =
     let s = c.args.shape in
     let t = c.requires.holds in
     let r = end_seen p.classes p.bytes s c.args.at c.args.limit t.0 c.requires.sound t.1 t.2 c.requires.within in
-    let e = c.end_of.ensures.exact ∙ (ap (λ z. end_or_flaw (run (value_format z s) c.bytes.result.now c.args.limit c.args.at)) c.classes.ensures ∙ (ap (λ z. end_or_flaw (run (value_format p.classes s) z c.args.limit c.args.at)) c.bytes.ensures.exact ∙ r)) in
+    let e = c.end_of.ensures.exact ∙ (ap (λ z. end_or_flaw (run (value_format z s) c.bytes.result.now c.args.limit c.args.at)) c.classes.ensures
+    ∙ (ap (λ z. end_or_flaw (run (value_format p.classes s) z c.args.limit c.args.at)) c.bytes.ensures.exact ∙ r)) in
     cc (sym c.in-Err.is ∙ e)
 
 pub returns : goal.returns
@@ -30,5 +31,6 @@ returns c = λ to t l.
     (let p = c.args.chunk.now in
     let s = c.args.shape in
     let r = end_seen p.classes p.bytes s c.args.at c.args.limit to c.requires.sound t l c.requires.within in
-    let e = c.end_of.ensures.exact ∙ (ap (λ z. end_or_flaw (run (value_format z s) c.bytes.result.now c.args.limit c.args.at)) c.classes.ensures ∙ (ap (λ z. end_or_flaw (run (value_format p.classes s) z c.args.limit c.args.at)) c.bytes.ensures.exact ∙ r)) in
+    let e = c.end_of.ensures.exact ∙ (ap (λ z. end_or_flaw (run (value_format z s) c.bytes.result.now c.args.limit c.args.at)) c.classes.ensures
+    ∙ (ap (λ z. end_or_flaw (run (value_format p.classes s) z c.args.limit c.args.at)) c.bytes.ensures.exact ∙ r)) in
     cc (sym c.in-Ok.is ∙ e))

@@ -37,7 +37,8 @@ item_end-end-requires-clause-order c =
     let n = node_of c.args.array.now in
     let s : Shape = item_of n.shape in
     let count = c.integer_at-count.result in
-    let g : Going p s n.end (children p.classes p.bytes n) _ c.items.at c.items.items.items = subst (λ m. Going p s n.end (children p.classes p.bytes n) m c.items.at c.items.items.items) (more_left count.value c.items.counter c.items-test.true) c.items.invariant in
+    let g : Going p s n.end (children p.classes p.bytes n) _ c.items.at c.items.items.items =
+    subst (λ m. Going p s n.end (children p.classes p.bytes n) m c.items.at c.items.items.items) (more_left count.value c.items.counter c.items-test.true) c.items.invariant in
     let f = first_left p s n.end (children p.classes p.bytes n) (count.value - (c.items.counter + 1)) c.items.at c.items.items.items g in
     let a = f.order in
     let b = f.within in
@@ -49,7 +50,8 @@ item_end-end-requires-clause-holds c =
     let n = node_of c.args.array.now in
     let s : Shape = item_of n.shape in
     let count = c.integer_at-count.result in
-    let g : Going p s n.end (children p.classes p.bytes n) _ c.items.at c.items.items.items = subst (λ m. Going p s n.end (children p.classes p.bytes n) m c.items.at c.items.items.items) (more_left count.value c.items.counter c.items-test.true) c.items.invariant in
+    let g : Going p s n.end (children p.classes p.bytes n) _ c.items.at c.items.items.items =
+    subst (λ m. Going p s n.end (children p.classes p.bytes n) m c.items.at c.items.items.items) (more_left count.value c.items.counter c.items-test.true) c.items.invariant in
     let f = first_left p s n.end (children p.classes p.bytes n) (count.value - (c.items.counter + 1)) c.items.at c.items.items.items g in
     (f.to, f.ends, f.within)
 
@@ -59,7 +61,8 @@ items-preserved c =
     let n = node_of c.args.array.now in
     let s : Shape = item_of n.shape in
     let count = c.integer_at-count.result in
-    let g : Going p s n.end (children p.classes p.bytes n) _ c.items.at c.items.items.items = subst (λ m. Going p s n.end (children p.classes p.bytes n) m c.items.at c.items.items.items) (more_left count.value c.items.counter c.items-test.true) c.items.invariant in
+    let g : Going p s n.end (children p.classes p.bytes n) _ c.items.at c.items.items.items =
+    subst (λ m. Going p s n.end (children p.classes p.bytes n) m c.items.at c.items.items.items) (more_left count.value c.items.counter c.items-test.true) c.items.invariant in
     let x : Node = record { shape = s; bytes = c.args.array.now.bytes; at = c.items.at; end = c.item_end-end.result } in
     subst (λ xs. Going p s n.end (children p.classes p.bytes n) (count.value - (c.items.counter + 1)) c.item_end-end.result xs) (sym c.in_ok-push.ensures.items)
     (item_next p s n.end (children p.classes p.bytes n) (count.value - (c.items.counter + 1)) c.items.at c.items.items.items x c.requires.of_chunk refl refl c.item_end-end.ensures g)

@@ -5,7 +5,11 @@ use Rattle.jfr_system.proofs.Pieces.{left_less, none_left, wrote_more}
 use Rattle.jfr_system.proofs.file_place.write_portions.Goals as goal
 
 pub loop-portion-init : goal.loop-portion-init
-loop-portion-init g c = record { wrote = Appends-nil (g.W.Write.contents c.args.writer.now); left = ap (λ i. i.rest.now) c.into_iter-portion-iterator.ensures.into_iter_gives ∙ c.chunks-portion-items.ensures.rest }
+loop-portion-init g c = record {
+  wrote = Appends-nil (g.W.Write.contents c.args.writer.now);
+  left = ap (λ i. i.rest.now) c.into_iter-portion-iterator.ensures.into_iter_gives
+      ∙ c.chunks-portion-items.ensures.rest;
+}
 
 pub loop-portion-preserved : goal.loop-portion-preserved
 loop-portion-preserved g c =

@@ -33,7 +33,8 @@ module _ (x : List ℕ) (end at : ℕ) {A : Type 0} (f : Format A) (g : A → Co
 pub returns-in_err-key-in-2-clause-exact : goal.returns-in_err-key-in-2-clause-exact
 returns-in_err-key-in-2-clause-exact c =
     let p = err_from_is_err_and c.from_residual.result c.from_residual.ensures.1 in
-    rw (p.1, p.2) (at_kind _ _ _ _ c.args.kind 2 c.in-2.is (fails c.args.bytes.now c.args.end (c.args.at + 1) integer (λ v. Key v) _ (int_missing _ _ _ (λ v s. Done v) _ c.in_err-key-in-2.ensures.exact)))
+    rw (p.1, p.2) (at_kind _ _ _ _ c.args.kind 2 c.in-2.is
+    (fails c.args.bytes.now c.args.end (c.args.at + 1) integer (λ v. Key v) _ (int_missing _ _ _ (λ v s. Done v) _ c.in_err-key-in-2.ensures.exact)))
 
 pub returns-in_err-read_bytes-in-3-clause-exact : goal.returns-in_err-read_bytes-in-3-clause-exact
 returns-in_err-read_bytes-in-3-clause-exact c =
@@ -75,7 +76,8 @@ returns-in_ok-read_bytes-in-3-clause-exact c =
     let s = c.spanned.result in
     let v = c.in_ok-read_bytes-in-3.field-0 in
     let e : content_of s ≡ Utf8 v.payload.now = ap (λ k. content_by k s) c.spanned.ensures.place.0 ∙ ap (λ b. Utf8 b) c.spanned.ensures.counted.0 in
-    at_kind _ _ _ _ c.args.kind 3 c.in-3.is (holds c.args.bytes.now c.args.end (c.args.at + 1) counted_bytes (λ b. Utf8 b) s v.payload.now v.end e c.spanned.ensures.place.2 c.in_ok-read_bytes-in-3.ensures.exact)
+    at_kind _ _ _ _ c.args.kind 3 c.in-3.is (holds c.args.bytes.now c.args.end (c.args.at + 1) counted_bytes
+    (λ b. Utf8 b) s v.payload.now v.end e c.spanned.ensures.place.2 c.in_ok-read_bytes-in-3.ensures.exact)
 
 pub returns-in_ok-read_integers-in-4-clause-exact : goal.returns-in_ok-read_integers-in-4-clause-exact
 returns-in_ok-read_integers-in-4-clause-exact c =
@@ -84,7 +86,8 @@ returns-in_ok-read_integers-in-4-clause-exact c =
     let told = c.spanned-in-4.ensures in
     let e : content_of s ≡ Units (first_integers v.count v.payload.now) =
     ap (λ k. content_by k s) told.place.0 ∙ (ap (λ n. Units (first_integers n s.payload.now)) told.counted.1 ∙ ap (λ b. Units (first_integers v.count b)) told.counted.0) in
-    at_kind _ _ _ _ c.args.kind 4 c.in-4.is (holds c.args.bytes.now c.args.end (c.args.at + 1) counted_integers (λ us. Units us) s (first_integers v.count v.payload.now) v.end e told.place.2 c.in_ok-read_integers-in-4.ensures.exact)
+    at_kind _ _ _ _ c.args.kind 4 c.in-4.is (holds c.args.bytes.now c.args.end (c.args.at + 1) counted_integers (λ us. Units us) s
+    (first_integers v.count v.payload.now) v.end e told.place.2 c.in_ok-read_integers-in-4.ensures.exact)
 
 pub returns-in_ok-read_bytes-in-5-clause-exact : goal.returns-in_ok-read_bytes-in-5-clause-exact
 returns-in_ok-read_bytes-in-5-clause-exact c =

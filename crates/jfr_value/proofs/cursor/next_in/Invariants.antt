@@ -10,5 +10,6 @@ abbrev pub invariant-loop-leaf : goal.invariant-loop-leaf
 invariant-loop-leaf l = record {
   frames : AreFrames l.walk.classes.now 0 l.cursor.stack;
   here : (vs : Values) × AreRemaining l.walk.classes.now l.walk.bytes.now l.walk.end l.cursor vs;
-  same : (vs : Values) → AreRemaining l.walk.classes.now l.walk.bytes.now l.walk.end l.initial.cursor vs → (ws : Values) × AreRemaining l.walk.classes.now l.walk.bytes.now l.walk.end l.cursor ws × (leaves_held (remaining_holders l.walk.classes.now l.initial.cursor.stack) l.initial.cursor.at vs ≡ leaves_held (remaining_holders l.walk.classes.now l.cursor.stack) l.cursor.at ws);
+  same : (vs : Values) → AreRemaining l.walk.classes.now l.walk.bytes.now l.walk.end l.initial.cursor vs
+      → (ws : Values) × AreRemaining l.walk.classes.now l.walk.bytes.now l.walk.end l.cursor ws × (leaves_held (remaining_holders l.walk.classes.now l.initial.cursor.stack) l.initial.cursor.at vs ≡ leaves_held (remaining_holders l.walk.classes.now l.cursor.stack) l.cursor.at ws);
 }

@@ -13,8 +13,10 @@ pub returns-then-remaining-eq0-clause-remaining : goal.returns-then-remaining-eq
 returns-then-remaining-eq0-clause-remaining c = λ vs r.
     (let e = no_items c.args.walk.now.classes.now c.args.value c.args.remaining c.if-remaining-eq0.true in (
       vs,
-      subst (λ (z : List Shape). AreValues c.args.walk.now.classes.now c.args.walk.now.bytes.now c.args.cursor.now.at c.args.walk.now.end (z ++ remaining_shapes c.args.walk.now.classes.now c.args.cursor.now.stack) vs) e r,
-      ap (λ z. leaves_held (z ++ remaining_holders c.args.walk.now.classes.now c.args.cursor.now.stack) c.args.cursor.now.at vs) (no_item_holders c.args.walk.now.classes.now c.args.value c.args.remaining c.if-remaining-eq0.true),
+      subst (λ (z : List Shape). AreValues c.args.walk.now.classes.now c.args.walk.now.bytes.now c.args.cursor.now.at c.args.walk.now.end
+          (z ++ remaining_shapes c.args.walk.now.classes.now c.args.cursor.now.stack) vs) e r,
+      ap (λ z. leaves_held (z ++ remaining_holders c.args.walk.now.classes.now c.args.cursor.now.stack) c.args.cursor.now.at vs)
+          (no_item_holders c.args.walk.now.classes.now c.args.value c.args.remaining c.if-remaining-eq0.true),
       omega arith,
     ))
 
@@ -24,20 +26,27 @@ push-requires c = let h = most_height c.args.value.shape.array (length c.args.cu
 pub enter-requires-clause-frames : goal.enter-requires-clause-frames
 enter-requires-clause-frames c =
     subst (λ (z : List Frame). AreFrames c.args.walk.now.classes.now 0 z) (sym c.push.ensures.items)
-    (frames_push c.args.walk.now.classes.now 0 (length c.args.cursor.now.stack + 1) c.args.cursor.now.stack (Items c.args.value (c.args.remaining - 1)) (omega arith) c.requires.frames c.requires.frame)
+    (frames_push c.args.walk.now.classes.now 0 (length c.args.cursor.now.stack + 1) c.args.cursor.now.stack (Items c.args.value (c.args.remaining - 1))
+    (omega arith) c.requires.frames c.requires.frame)
 
 pub enter-requires-clause-height : goal.enter-requires-clause-height
 enter-requires-clause-height c = rw c.push.ensures.len c.requires.frame.0
 
 pub enter-requires-clause-remaining : goal.enter-requires-clause-remaining
 enter-requires-clause-remaining c =
-    let q = pushed_item c.args.walk.now.classes.now c.args.cursor.now.stack c.push.new.self c.args.value c.args.remaining (omega arith) c.push.ensures.items in
-    (c.requires.remaining.0, subst (λ (z : List Shape). AreValues c.args.walk.now.classes.now c.args.walk.now.bytes.now c.args.cursor.now.at c.args.walk.now.end z c.requires.remaining.0) q c.requires.remaining.1)
+    let q = pushed_item c.args.walk.now.classes.now c.args.cursor.now.stack c.push.new.self c.args.value c.args.remaining (omega arith) c.push.ensures.items in (
+      c.requires.remaining.0,
+      subst (λ (z : List Shape). AreValues c.args.walk.now.classes.now c.args.walk.now.bytes.now c.args.cursor.now.at c.args.walk.now.end z c.requires.remaining.0) q
+          c.requires.remaining.1,
+    )
 
 pub returns-clause-remaining : goal.returns-clause-remaining
 returns-clause-remaining c = λ vs r.
     (let q = pushed_item c.args.walk.now.classes.now c.args.cursor.now.stack c.push.new.self c.args.value c.args.remaining (omega arith) c.push.ensures.items in
     let h = item_holders c.args.walk.now.classes.now c.args.cursor.now.stack c.push.new.self c.args.value c.args.remaining (omega arith) c.push.ensures.items in
-    subst (λ (z : ℕ). GoesOn c.args.walk.now.classes.now c.args.walk.now.bytes.now c.args.walk.now.end (frame_holders c.args.walk.now.classes.now (Items c.args.value c.args.remaining) ++ remaining_holders c.args.walk.now.classes.now c.args.cursor.now.stack) c.args.cursor.now.at vs (size_of_all vs + z) c.enter.new.cursor c.enter.result) c.push.ensures.len
-    (subst (λ z. GoesOn c.args.walk.now.classes.now c.args.walk.now.bytes.now c.args.walk.now.end z c.args.cursor.now.at vs (size_of_all vs + length c.push.new.self) c.enter.new.cursor c.enter.result) (sym h)
+    subst (λ (z : ℕ). GoesOn c.args.walk.now.classes.now c.args.walk.now.bytes.now c.args.walk.now.end
+    (frame_holders c.args.walk.now.classes.now (Items c.args.value c.args.remaining) ++ remaining_holders c.args.walk.now.classes.now c.args.cursor.now.stack) c.args.cursor.now.at vs
+    (size_of_all vs + z) c.enter.new.cursor c.enter.result) c.push.ensures.len
+    (subst (λ z. GoesOn c.args.walk.now.classes.now c.args.walk.now.bytes.now c.args.walk.now.end z c.args.cursor.now.at vs (size_of_all vs + length c.push.new.self) c.enter.new.cursor c.enter.result)
+    (sym h)
     (c.enter.ensures.remaining vs (subst (λ (z : List Shape). AreValues c.args.walk.now.classes.now c.args.walk.now.bytes.now c.args.cursor.now.at c.args.walk.now.end z vs) q r))))

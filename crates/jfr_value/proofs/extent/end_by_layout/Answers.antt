@@ -10,4 +10,5 @@ returns-clause-refused c = end_refused c.args.classes.now c.args.bytes.now c.arg
 
 pub returns-clause-reason : goal.returns-clause-reason
 returns-clause-reason c =
-    end_reason c.args.classes.now c.args.bytes.now c.args.layout.now.shape c.args.at c.args.end c.requires.order c.requires.within c.value_end.result c.value_end.ensures.exact c.requires.sound (layout_known c.args.classes.now c.args.layout.now c.requires.layout)
+    end_reason c.args.classes.now c.args.bytes.now c.args.layout.now.shape c.args.at c.args.end c.requires.order c.requires.within c.value_end.result c.value_end.ensures.exact c.requires.sound
+    (layout_known c.args.classes.now c.args.layout.now c.requires.layout)

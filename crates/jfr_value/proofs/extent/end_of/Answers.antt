@@ -18,4 +18,5 @@ returns-clause-refused c = end_refused c.args.classes.now c.args.bytes.now c.arg
 
 pub returns-clause-reason : goal.returns-clause-reason
 returns-clause-reason c =
-    end_reason c.args.classes.now c.args.bytes.now c.args.shape c.args.at c.args.end c.requires.order c.requires.within c.end_by_layout.result (returns-clause-exact c) c.layout_of-layout.ensures.sound c.requires.known
+    end_reason c.args.classes.now c.args.bytes.now c.args.shape c.args.at c.args.end c.requires.order c.requires.within c.end_by_layout.result
+    (returns-clause-exact c) c.layout_of-layout.ensures.sound c.requires.known

@@ -19,14 +19,16 @@ returns-in-ThreeIntegers-clause-numbers c = λ layouts p s. all_integers layouts
 
 pub returns-in-ThreeIntegers-clause-exact : goal.returns-in-ThreeIntegers-clause-exact
 returns-in-ThreeIntegers-clause-exact c = λ k levels layouts i p.
-    found_end _ _ _ c.ok-in-ThreeIntegers.ensures.value (c.integers_end-in-ThreeIntegers.ensures.exact ∙ integers_seen k levels c.args.bytes.now c.args.end 3 layouts c.args.at i (rw c.in-ThreeIntegers.is at p))
+    found_end _ _ _ c.ok-in-ThreeIntegers.ensures.value
+    (c.integers_end-in-ThreeIntegers.ensures.exact ∙ integers_seen k levels c.args.bytes.now c.args.end 3 layouts c.args.at i (rw c.in-ThreeIntegers.is at p))
 
 pub returns-in-FourIntegers-clause-numbers : goal.returns-in-FourIntegers-clause-numbers
 returns-in-FourIntegers-clause-numbers c = λ layouts p s. all_integers layouts (rw c.in-FourIntegers.is at p).1
 
 pub returns-in-FourIntegers-clause-exact : goal.returns-in-FourIntegers-clause-exact
 returns-in-FourIntegers-clause-exact c = λ k levels layouts i p.
-    found_end _ _ _ c.ok-in-FourIntegers.ensures.value (c.integers_end-in-FourIntegers.ensures.exact ∙ integers_seen k levels c.args.bytes.now c.args.end 4 layouts c.args.at i (rw c.in-FourIntegers.is at p))
+    found_end _ _ _ c.ok-in-FourIntegers.ensures.value
+    (c.integers_end-in-FourIntegers.ensures.exact ∙ integers_seen k levels c.args.bytes.now c.args.end 4 layouts c.args.at i (rw c.in-FourIntegers.is at p))
 
 pub returns-in-Raw-clause-numbers : goal.returns-in-Raw-clause-numbers
 returns-in-Raw-clause-numbers c = λ layouts p s. all_raw layouts c.in-Raw.count (rw c.in-Raw.is at p)

@@ -16,7 +16,8 @@ loop-preserved c =
     record {
       upto = omega (arith, more.ensures.range, c.loop.invariant.upto);
       same = λ inside within.
-          let to = last_there x at end c.last_groups-lasts.result passed more.result c.last_groups-lasts.ensures (record { range = more.ensures.range; more = more.ensures.more; last = more.ensures.last })
+          let to = last_there x at end c.last_groups-lasts.result passed more.result c.last_groups-lasts.ensures
+          (record { range = more.ensures.range; more = more.ensures.more; last = more.ensures.last })
           (omega arith) (omega arith) c.requires.within in
           after_ok _ _ _ _ _ (items_step c.args.count c.loop.counter integer x end (at + passed) c.loop-test.true) (sym to ∙ ap (λ n. Ok n) next) (c.loop.invariant.same (omega arith) (omega arith));
     }

@@ -8,4 +8,5 @@ returns-in-Some-clause-exact g c = sym (ap end_or_flaw (key_is c.args.walk.bytes
 
 pub returns-in-Some-clause-visited : goal.returns-in-Some-clause-visited
 returns-in-Some-clause-visited g c =
-    subst (λ r. IfOk r (λ key. g.V.Visit.takes c.args.walk.with.now (c.args.class, key.value) c.args.visitor.now c.visit.new.self)) (sym (key_is c.args.walk.bytes.now c.args.at c.args.walk.end c.in-Some.key c.in-Some.ensures.exact)) c.visit.ensures.takes
+    subst (λ r. IfOk r (λ key. g.V.Visit.takes c.args.walk.with.now (c.args.class, key.value) c.args.visitor.now c.visit.new.self))
+    (sym (key_is c.args.walk.bytes.now c.args.at c.args.walk.end c.in-Some.key c.in-Some.ensures.exact)) c.visit.ensures.takes

@@ -38,7 +38,8 @@ invariant-visit_fields-loop-fused g l = record {
   ready : g.V.VisitLeaf.ready l.visitor l.walk.with.now l.to;
   counted : l.number + length (left_by l.class_layout.layouts.items l.class_layout.fused_fields.items l.fused-index) ≡ length l.class_layout.layouts.items;
   visited : Visits (g.V.VisitLeaf.takes l.walk.with.now) l.walk.classes.now l.walk.bytes.now l.walk.end (fields_from l.class.id 0 (field_shapes l.walk.classes.now l.class.index)) (field_shapes l.walk.classes.now l.class.index) l.start.at l.fn.visitor l.fn.steps
-      (fields_from l.class.id l.number (shapes_of_layouts (left_by l.class_layout.layouts.items l.class_layout.fused_fields.items l.fused-index))) (shapes_of_layouts (left_by l.class_layout.layouts.items l.class_layout.fused_fields.items l.fused-index)) l.to l.visitor l.steps;
+      (fields_from l.class.id l.number (shapes_of_layouts (left_by l.class_layout.layouts.items l.class_layout.fused_fields.items l.fused-index)))
+      (shapes_of_layouts (left_by l.class_layout.layouts.items l.class_layout.fused_fields.items l.fused-index)) l.to l.visitor l.steps;
 }
 
 -- The fields from this one on are left.

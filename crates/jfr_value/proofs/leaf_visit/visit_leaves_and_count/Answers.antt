@@ -18,14 +18,16 @@ visit_value-end-requires-clause-values g c =
     let v = c.requires.value in
     let admits = g.V.VisitLeaf.admits c.args.with.now in
     subst (λ s. AreToVisit admits c.args.classes.now c.args.node.bytes.now c.args.node.end (None ∷ []) (s ∷ []) c.args.node.at) (sym c.layout_of-layout.ensures.shape)
-    (to_visit_node admits c.args.classes.now c.args.node.bytes.now n v.0 v.1 (subst (AllByRecursion admits) (leaves_are c.args.classes.now c.layout_of-layout.ensures.sound c.args.node.bytes.now n v.0 v.1) c.requires.admits))
+    (to_visit_node admits c.args.classes.now c.args.node.bytes.now n v.0 v.1
+    (subst (AllByRecursion admits) (leaves_are c.args.classes.now c.layout_of-layout.ensures.sound c.args.node.bytes.now n v.0 v.1) c.requires.admits))
 
 pub returns-clause-exact : goal.returns-clause-exact
 returns-clause-exact g c =
     let n = node_of c.args.node in
     let v = c.requires.value in
     let takes = g.V.VisitLeaf.takes c.args.with.now in
-    let w = subst (λ s. Visits takes c.args.classes.now c.args.node.bytes.now c.args.node.end (None ∷ []) (s ∷ []) c.args.node.at c.args.visitor.now c.args.steps.now [] [] c.visit_value-end.result c.visit_value-end.new.visitor c.visit_value-end.new.steps) c.layout_of-layout.ensures.shape c.visit_value-end.ensures.visited in
+    let w = subst (λ s. Visits takes c.args.classes.now c.args.node.bytes.now c.args.node.end (None ∷ []) (s ∷ []) c.args.node.at c.args.visitor.now c.args.steps.now []
+    [] c.visit_value-end.result c.visit_value-end.new.visitor c.visit_value-end.new.steps) c.layout_of-layout.ensures.shape c.visit_value-end.ensures.visited in
     subst (λ z. TakesAll takes z c.args.visitor.now c.visit_value-end.new.visitor) (sym (leaves_are c.args.classes.now c.layout_of-layout.ensures.sound c.args.node.bytes.now n v.0 v.1))
     (visits_node takes c.args.classes.now c.args.node.bytes.now n v.0 c.visit_value-end.result c.args.steps.now c.visit_value-end.new.steps c.args.visitor.now c.visit_value-end.new.visitor v.1 w).0
 
@@ -34,8 +36,10 @@ returns-clause-cost g c =
     let n = node_of c.args.node in
     let v = c.requires.value in
     let takes = g.V.VisitLeaf.takes c.args.with.now in
-    let w = subst (λ s. Visits takes c.args.classes.now c.args.node.bytes.now c.args.node.end (None ∷ []) (s ∷ []) c.args.node.at c.args.visitor.now c.args.steps.now [] [] c.visit_value-end.result c.visit_value-end.new.visitor c.visit_value-end.new.steps) c.layout_of-layout.ensures.shape c.visit_value-end.ensures.visited in
-    let s = (visits_node takes c.args.classes.now c.args.node.bytes.now n v.0 c.visit_value-end.result c.args.steps.now c.visit_value-end.new.steps c.args.visitor.now c.visit_value-end.new.visitor v.1 w).1 in
+    let w = subst (λ s. Visits takes c.args.classes.now c.args.node.bytes.now c.args.node.end (None ∷ []) (s ∷ []) c.args.node.at c.args.visitor.now c.args.steps.now []
+    [] c.visit_value-end.result c.visit_value-end.new.visitor c.visit_value-end.new.steps) c.layout_of-layout.ensures.shape c.visit_value-end.ensures.visited in
+    let s = (visits_node takes c.args.classes.now c.args.node.bytes.now n v.0 c.visit_value-end.result c.args.steps.now c.visit_value-end.new.steps c.args.visitor.now c.visit_value-end.new.visitor v.1
+    w).1 in
     let l = ap length (leaves_are c.args.classes.now c.layout_of-layout.ensures.sound c.args.node.bytes.now n v.0 v.1) in
     omega arith
 
@@ -44,6 +48,8 @@ returns-clause-ready g c =
     let n = node_of c.args.node in
     let v = c.requires.value in
     let takes = g.V.VisitLeaf.takes c.args.with.now in
-    let w = subst (λ s. Visits takes c.args.classes.now c.args.node.bytes.now c.args.node.end (None ∷ []) (s ∷ []) c.args.node.at c.args.visitor.now c.args.steps.now [] [] c.visit_value-end.result c.visit_value-end.new.visitor c.visit_value-end.new.steps) c.layout_of-layout.ensures.shape c.visit_value-end.ensures.visited in
-    let e = (visits_node takes c.args.classes.now c.args.node.bytes.now n v.0 c.visit_value-end.result c.args.steps.now c.visit_value-end.new.steps c.args.visitor.now c.visit_value-end.new.visitor v.1 w).2 in
+    let w = subst (λ s. Visits takes c.args.classes.now c.args.node.bytes.now c.args.node.end (None ∷ []) (s ∷ []) c.args.node.at c.args.visitor.now c.args.steps.now []
+    [] c.visit_value-end.result c.visit_value-end.new.visitor c.visit_value-end.new.steps) c.layout_of-layout.ensures.shape c.visit_value-end.ensures.visited in
+    let e = (visits_node takes c.args.classes.now c.args.node.bytes.now n v.0 c.visit_value-end.result c.args.steps.now c.visit_value-end.new.steps c.args.visitor.now c.visit_value-end.new.visitor v.1
+    w).2 in
     subst (g.V.VisitLeaf.ready c.visit_value-end.new.visitor c.args.with.now) e c.visit_value-end.ensures.ready

@@ -18,7 +18,8 @@ known_integer-count-requires-clause-known c =
 
 pub returns-then-number-count-clause-exact : goal.returns-then-number-count-clause-exact
 returns-then-number-count-clause-exact c =
-    sym (no_item_past c.args.classes.now c.args.node.now.bytes.now (node_of c.args.node.now) c.requires.0 c.layout_of-layout.ensures.sound c.requires.1 c.args.number c.known_integer-count.result c.if-not-node.false c.known_integer-count.ensures.exact
+    sym (no_item_past c.args.classes.now c.args.node.now.bytes.now (node_of c.args.node.now) c.requires.0 c.layout_of-layout.ensures.sound c.requires.1 c.args.number c.known_integer-count.result
+    c.if-not-node.false c.known_integer-count.ensures.exact
     (let l : length (replicate c.known_integer-count.result.value (item_of c.args.node.now.shape)) ≡ c.known_integer-count.result.value = simp length-replicate in omega arith))
 
 pub nth_item-requires-clause-item : goal.nth_item-requires-clause-item
@@ -29,19 +30,28 @@ nth_item-requires-clause-placed c = record {
   form = c.layout_of-layout.ensures.form;
   of_class = λ o. c.layout_of-layout.ensures.known
       (subst (λ (z : Shape). IsSome (find_class c.args.classes.now z.class)) (sym c.item_of.ensures)
-      (items_known c.args.classes.now c.args.node.now.bytes.now (node_of c.args.node.now) c.requires.0 c.layout_of-layout.ensures.sound c.requires.1 c.args.number c.known_integer-count.result c.if-not-node.false c.known_integer-count.ensures.exact c.if-number-count.false
+      (items_known c.args.classes.now c.args.node.now.bytes.now (node_of c.args.node.now) c.requires.0 c.layout_of-layout.ensures.sound c.requires.1 c.args.number c.known_integer-count.result
+      c.if-not-node.false c.known_integer-count.ensures.exact c.if-number-count.false
       (sym (ap (λ (z : Shape). z.constant) (c.layout_of-layout.ensures.shape ∙ c.item_of.ensures)) ∙ o)));
 }
 
 pub nth_item-requires-clause-row : goal.nth_item-requires-clause-row
 nth_item-requires-clause-row c =
-    let f = (item_is c.args.classes.now c.args.node.now.bytes.now (node_of c.args.node.now) c.requires.0 c.layout_of-layout.ensures.sound c.requires.1 c.args.number c.known_integer-count.result c.if-not-node.false c.known_integer-count.ensures.exact).1 in
-    (f.0, subst (λ (z : Shape). AreValues c.args.classes.now c.args.node.now.bytes.now c.known_integer-count.result.end c.args.node.now.end (replicate c.known_integer-count.result.value z) f.0) (sym (c.layout_of-layout.ensures.shape ∙ c.item_of.ensures)) f.1)
+    let f = (item_is c.args.classes.now c.args.node.now.bytes.now (node_of c.args.node.now) c.requires.0 c.layout_of-layout.ensures.sound c.requires.1 c.args.number c.known_integer-count.result
+    c.if-not-node.false c.known_integer-count.ensures.exact).1 in (
+      f.0,
+      subst (λ (z : Shape). AreValues c.args.classes.now c.args.node.now.bytes.now c.known_integer-count.result.end c.args.node.now.end (replicate c.known_integer-count.result.value z) f.0)
+          (sym (c.layout_of-layout.ensures.shape ∙ c.item_of.ensures)) f.1,
+    )
 
 pub returns-clause-exact : goal.returns-clause-exact
 returns-clause-exact c =
-    let f = (item_is c.args.classes.now c.args.node.now.bytes.now (node_of c.args.node.now) c.requires.0 c.layout_of-layout.ensures.sound c.requires.1 c.args.number c.known_integer-count.result c.if-not-node.false c.known_integer-count.ensures.exact).1 in
-    sym (f.2 ∙ c.nth_item.ensures.exact f.0 (subst (λ (z : Shape). AreValues c.args.classes.now c.args.node.now.bytes.now c.known_integer-count.result.end c.args.node.now.end (replicate c.known_integer-count.result.value z) f.0) (sym (c.layout_of-layout.ensures.shape ∙ c.item_of.ensures)) f.1))
+    let f = (item_is c.args.classes.now c.args.node.now.bytes.now (node_of c.args.node.now) c.requires.0 c.layout_of-layout.ensures.sound c.requires.1 c.args.number c.known_integer-count.result
+    c.if-not-node.false c.known_integer-count.ensures.exact).1 in
+    sym (f.2 ∙ c.nth_item.ensures.exact f.0 (subst
+    (λ (z : Shape). AreValues c.args.classes.now c.args.node.now.bytes.now c.known_integer-count.result.end c.args.node.now.end (replicate c.known_integer-count.result.value z) f.0)
+    (sym (c.layout_of-layout.ensures.shape ∙ c.item_of.ensures)) f.1))
 
 pub returns-clause-value : goal.returns-clause-value
-returns-clause-value c = child_value c.args.classes.now c.args.node.now c.nth_item.result (steps.Item c.args.number) c.layout_of-layout.ensures.sound c.requires c.nth_item.ensures.bytes (sym (returns-clause-exact c))
+returns-clause-value c = child_value c.args.classes.now c.args.node.now c.nth_item.result (steps.Item c.args.number) c.layout_of-layout.ensures.sound c.requires c.nth_item.ensures.bytes
+    (sym (returns-clause-exact c))

@@ -21,8 +21,10 @@ visit_leaf-requires-clause-admits g c =
     let values = c.requires.values in
     let key = c.known_integer-key.result in
     subst (g.V.VisitLeaf.admits walk.with.now) (sym c.leaf_to-leaf.ensures)
-    (leaf_admitted (g.V.VisitLeaf.admits walk.with.now) walk.classes.now walk.bytes.now walk.end c.args.start.holder shape c.args.start.at key.end shape.class (leaf_kinds.Key key.value) values.other_holders values.other_shapes values
-    (key_taken walk.classes.now walk.bytes.now c.args.start.at walk.end shape values.other_shapes c.args.start.holder values.other_holders values.values key values.row c.requires.array c.requires.constant c.known_integer-key.ensures.exact))
+    (leaf_admitted (g.V.VisitLeaf.admits walk.with.now) walk.classes.now walk.bytes.now walk.end c.args.start.holder shape c.args.start.at key.end shape.class
+    (leaf_kinds.Key key.value) values.other_holders values.other_shapes values
+    (key_taken walk.classes.now walk.bytes.now c.args.start.at walk.end shape values.other_shapes c.args.start.holder values.other_holders values.values key values.row c.requires.array
+    c.requires.constant c.known_integer-key.ensures.exact))
 
 pub returns-clause-visited : goal.returns-clause-visited
 returns-clause-visited g c =
@@ -30,6 +32,7 @@ returns-clause-visited g c =
     let shape = c.args.layout.now.shape in
     let key = c.known_integer-key.result in
     let takes = g.V.VisitLeaf.takes walk.with.now in
-    visits_leaf takes walk.classes.now walk.bytes.now walk.end c.args.start.holder [] shape [] c.args.start.at key.end c.args.steps.now c.tick.new.self shape.class (leaf_kinds.Key key.value) c.args.visitor.now c.visit_leaf.new.self
+    visits_leaf takes walk.classes.now walk.bytes.now walk.end c.args.start.holder [] shape [] c.args.start.at key.end c.args.steps.now c.tick.new.self shape.class
+    (leaf_kinds.Key key.value) c.args.visitor.now c.visit_leaf.new.self
     (λ is us vs r. key_taken walk.classes.now walk.bytes.now c.args.start.at walk.end shape us c.args.start.holder is vs key r c.requires.array c.requires.constant c.known_integer-key.ensures.exact)
     (subst (λ l. takes l c.args.visitor.now c.visit_leaf.new.self) c.leaf_to-leaf.ensures c.visit_leaf.ensures.takes) c.tick.ensures

@@ -14,8 +14,10 @@ unreachable-requires g c =
     let layout = c.args.layout.now in
     let values = c.requires.values in
     let f = first_node (g.V.VisitLeaf.admits walk.with.now) walk.classes.now walk.bytes.now walk.end c.args.start.holder layout.shape c.args.start.at values in
-    let d = inline_node walk.classes.now walk.bytes.now c.args.start.at f.to walk.end layout.shape f.within walk.within f.value layout.class_index layout.kind layout.form f.node c.requires.array c.requires.constant c.requires.layout in
-    let t = base_found walk.classes.now walk.bytes.now c.args.start.at walk.end layout.shape values.other_shapes c.args.start.holder values.other_holders values.values d.class layout.kind values.row c.requires.array c.requires.constant d.found d.kind_is c.requires.base in
+    let d = inline_node walk.classes.now walk.bytes.now c.args.start.at f.to walk.end layout.shape f.within walk.within f.value layout.class_index layout.kind layout.form f.node c.requires.array
+    c.requires.constant c.requires.layout in
+    let t = base_found walk.classes.now walk.bytes.now c.args.start.at walk.end layout.shape values.other_shapes c.args.start.holder values.other_holders values.values d.class layout.kind values.row
+    c.requires.array c.requires.constant d.found d.kind_is c.requires.base in
     cc (sym c.in_default.is ∙ (c.base_end.ensures.exact ∙ t.1))
 
 pub returns : goal.returns
@@ -25,18 +27,31 @@ returns g c = record {
       let layout = c.args.layout.now in
       let takes = g.V.VisitLeaf.takes walk.with.now in
       let f = first_node (g.V.VisitLeaf.admits walk.with.now) walk.classes.now walk.bytes.now walk.end c.args.start.holder layout.shape c.args.start.at c.requires.values in
-      let d = inline_node walk.classes.now walk.bytes.now c.args.start.at f.to walk.end layout.shape f.within walk.within f.value layout.class_index layout.kind layout.form f.node c.requires.array c.requires.constant c.requires.layout in
-      let leaf : LeafAt = record { kind = leaf_kinds.Base layout.kind; class = layout.shape.class; holder = c.args.start.holder; at = c.args.start.at; spelled = slice_range walk.bytes.now c.args.start.at c.in-Ok.to } in
-      visits_leaf takes walk.classes.now walk.bytes.now walk.end c.args.start.holder [] layout.shape [] c.args.start.at c.in-Ok.to c.args.steps.now c.tick.new.self layout.shape.class (leaf_kinds.Base layout.kind) c.args.visitor.now c.args.visitor.now
-      (λ is us vs r. (let t = base_found walk.classes.now walk.bytes.now c.args.start.at walk.end layout.shape us c.args.start.holder is vs d.class layout.kind r c.requires.array c.requires.constant d.found d.kind_is c.requires.base in
+      let d = inline_node walk.classes.now walk.bytes.now c.args.start.at f.to walk.end layout.shape f.within walk.within f.value layout.class_index layout.kind layout.form f.node c.requires.array
+      c.requires.constant c.requires.layout in
+      let leaf : LeafAt = record {
+        kind = leaf_kinds.Base layout.kind;
+        class = layout.shape.class;
+        holder = c.args.start.holder;
+        at = c.args.start.at;
+        spelled = slice_range walk.bytes.now
+            c.args.start.at c.in-Ok.to;
+      } in
+      visits_leaf takes walk.classes.now walk.bytes.now walk.end c.args.start.holder [] layout.shape [] c.args.start.at c.in-Ok.to c.args.steps.now c.tick.new.self layout.shape.class
+      (leaf_kinds.Base layout.kind) c.args.visitor.now c.args.visitor.now
+      (λ is us vs r. (let t = base_found walk.classes.now walk.bytes.now c.args.start.at walk.end layout.shape us c.args.start.holder is vs d.class layout.kind r c.requires.array c.requires.constant
+      d.found d.kind_is c.requires.base in
       let e : t.0 ≡ c.in-Ok.to = cc (sym c.in-Ok.is ∙ (c.base_end.ensures.exact ∙ t.1)) in
       subst (λ z. Taken walk.classes.now walk.bytes.now c.args.start.at walk.end z (leaf_kinds.Base layout.kind) layout.shape.class us vs c.args.start.holder is is) e t.2))
       (c.passes_numbers.ensures.same walk.with.now leaf c.args.visitor.now (layout.kind, refl, c.requires.number)
-      (leaf_admitted (g.V.VisitLeaf.admits walk.with.now) walk.classes.now walk.bytes.now walk.end c.args.start.holder layout.shape c.args.start.at c.in-Ok.to layout.shape.class (leaf_kinds.Base layout.kind) c.requires.values.other_holders c.requires.values.other_shapes c.requires.values
+      (leaf_admitted (g.V.VisitLeaf.admits walk.with.now) walk.classes.now walk.bytes.now walk.end c.args.start.holder layout.shape c.args.start.at c.in-Ok.to layout.shape.class
+      (leaf_kinds.Base layout.kind) c.requires.values.other_holders c.requires.values.other_shapes c.requires.values
       (let values = c.requires.values in
-      let t = base_found walk.classes.now walk.bytes.now c.args.start.at walk.end layout.shape values.other_shapes c.args.start.holder values.other_holders values.values d.class layout.kind values.row c.requires.array c.requires.constant d.found d.kind_is c.requires.base in
+      let t = base_found walk.classes.now walk.bytes.now c.args.start.at walk.end layout.shape values.other_shapes c.args.start.holder values.other_holders values.values d.class layout.kind values.row
+      c.requires.array c.requires.constant d.found d.kind_is c.requires.base in
       let e : t.0 ≡ c.in-Ok.to = cc (sym c.in-Ok.is ∙ (c.base_end.ensures.exact ∙ t.1)) in
-      subst (λ z. Taken walk.classes.now walk.bytes.now c.args.start.at walk.end z (leaf_kinds.Base layout.kind) layout.shape.class values.other_shapes values.values c.args.start.holder values.other_holders values.other_holders) e t.2))
+      subst (λ z. Taken walk.classes.now walk.bytes.now c.args.start.at walk.end z (leaf_kinds.Base layout.kind) layout.shape.class values.other_shapes values.values c.args.start.holder
+      values.other_holders values.other_holders) e t.2))
       c.requires.ready) c.tick.ensures;
   ready = c.passes_numbers.ensures.ready c.args.walk.now.with.now c.args.visitor.now c.args.start.at c.in-Ok.to c.requires.ready c.in-Ok.ensures.range.0;
 }

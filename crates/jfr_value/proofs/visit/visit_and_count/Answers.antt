@@ -15,5 +15,6 @@ pub returns-clause-exact : goal.returns-clause-exact
 returns-clause-exact g c =
     let n = node_of c.args.node in
     let takes = g.V.Visit.takes c.args.with.now in
-    subst (λ z. TakesAll takes z c.args.visitor.now c.visit_leaves_and_count.new.visitor) (refers_parts c.args.classes.now c.are_sound.ensures c.args.node.bytes.now n c.requires.value.0 c.requires.value.1).leaves_too
+    subst (λ z. TakesAll takes z c.args.visitor.now c.visit_leaves_and_count.new.visitor)
+    (refers_parts c.args.classes.now c.are_sound.ensures c.args.node.bytes.now n c.requires.value.0 c.requires.value.1).leaves_too
     (takes_filtered takes leaf_target (leaves c.args.classes.now c.args.node.bytes.now n) c.args.visitor.now c.visit_leaves_and_count.new.visitor c.visit_leaves_and_count.ensures.exact)

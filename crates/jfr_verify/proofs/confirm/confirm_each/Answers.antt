@@ -13,7 +13,9 @@ pub loop-number-preserved : goal.loop-number-preserved
 loop-number-preserved c = record {
   holds = confirms_more c.args.entries.now c.loop-number.number-index c.args.claims.now c.loop-number.claims c.put.new.self c.loop-number-test.true c.loop-number.invariant.holds
       (record { confirmed = c.put.ensures.confirmed; parents = c.put.ensures.parents; parent = c.put.ensures.parent });
-  size = ap length c.put.ensures.confirmed ∙ (all_size c.loop-number.claims.confirmed.items (children c.loop-number.claims.parents.items c.loop-number.claims.parent (slice_index_or c.args.entries.now c.loop-number.number-index 0 ∷ [])) ∙ c.loop-number.invariant.size);
+  size = ap length c.put.ensures.confirmed
+      ∙ (all_size c.loop-number.claims.confirmed.items (children c.loop-number.claims.parents.items c.loop-number.claims.parent (slice_index_or c.args.entries.now c.loop-number.number-index 0 ∷ []))
+      ∙ c.loop-number.invariant.size);
 }
 
 pub returns : goal.returns

@@ -9,10 +9,15 @@ loop-number-init c =
     copies_start c.args.a.now c.args.b.now c.resize.new.self.items (e ∙ ap (λ z. replicate z false) n)
 
 pub returns-in_default : goal.returns-in_default
-returns-in_default c = none_copied c.args.a.now c.args.b.now c.loop-number.number c.loop-number.from c.loop-number.marks.items (omega (arith, c.len-number-end.ensures, ap length c.pools-2.ensures)) c.loop-number.invariant (sym c.in_default.ensures)
+returns-in_default c = none_copied c.args.a.now c.args.b.now c.loop-number.number c.loop-number.from c.loop-number.marks.items
+    (omega (arith, c.len-number-end.ensures, ap length c.pools-2.ensures)) c.loop-number.invariant (sym c.in_default.ensures)
 
 pub index_mut-requires : goal.index_mut-requires
-index_mut-requires c = omega (arith, found_within c.args.a.now c.args.b.now c.loop-number.number c.loop-number.from c.in-Some.original c.loop-number.marks.items c.loop-number.invariant (sym c.in-Some.ensures))
+index_mut-requires c = omega (
+  arith,
+  found_within c.args.a.now c.args.b.now c.loop-number.number c.loop-number.from c.in-Some.original c.loop-number.marks.items c.loop-number.invariant
+      (sym c.in-Some.ensures),
+)
 
 pub overflow_add-from : goal.overflow_add-from
 overflow_add-from c =

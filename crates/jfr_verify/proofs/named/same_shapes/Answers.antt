@@ -14,7 +14,8 @@ returns-then-not-same_shape c =
     let i = c.loop-number.number in
     let field = c.field-item.result in
     let at = listed_at c.as_slice-field-items.ensures i field (omega arith) c.field-item.is in
-    differ_at (map (λ f. f.shape) one) (map (λ f. f.shape) other) i field.shape c.at.result.now.shape (get_map (λ f. f.shape) one i field at) (get_map (λ f. f.shape) other i c.at.result.now c.at.ensures) c.if-not-same_shape.ensures
+    differ_at (map (λ f. f.shape) one) (map (λ f. f.shape) other) i field.shape c.at.result.now.shape (get_map (λ f. f.shape) one i field at)
+    (get_map (λ f. f.shape) other i c.at.result.now c.at.ensures) c.if-not-same_shape.ensures
 
 pub loop-number-preserved : goal.loop-number-preserved
 loop-number-preserved c =
@@ -23,7 +24,8 @@ loop-number-preserved c =
     let i = c.loop-number.number in
     let field = c.field-item.result in
     let at = listed_at c.as_slice-field-items.ensures i field (omega arith) c.field-item.is in
-    same_next (map (λ f. f.shape) one) (map (λ f. f.shape) other) i field.shape c.at.result.now.shape (get_map (λ f. f.shape) one i field at) (get_map (λ f. f.shape) other i c.at.result.now c.at.ensures) c.if-not-same_shape.ensures c.loop-number.invariant
+    same_next (map (λ f. f.shape) one) (map (λ f. f.shape) other) i field.shape c.at.result.now.shape (get_map (λ f. f.shape) one i field at)
+    (get_map (λ f. f.shape) other i c.at.result.now c.at.ensures) c.if-not-same_shape.ensures c.loop-number.invariant
 
 pub returns : goal.returns
 returns c =
@@ -31,4 +33,5 @@ returns c =
     let other = c.args.other.now in
     let a : length (map (λ f. f.shape) one) ≡ length one = length-map one (λ f. f.shape) in
     let b : length (map (λ f. f.shape) other) ≡ length other = length-map other (λ f. f.shape) in
-    up_to_end (map (λ f. f.shape) one) (map (λ f. f.shape) other) c.loop-number.number (omega (arith, c.len.ensures, c.len-2.ensures, c.if-len.false)) (omega (arith, ap length c.as_slice-field-items.ensures)) c.loop-number.invariant
+    up_to_end (map (λ f. f.shape) one) (map (λ f. f.shape) other) c.loop-number.number (omega (arith, c.len.ensures, c.len-2.ensures, c.if-len.false))
+    (omega (arith, ap length c.as_slice-field-items.ensures)) c.loop-number.invariant

@@ -9,14 +9,16 @@ returns-then-not-same_text c =
     let f = text_at c.args.numbers.now.one.now in
     let g = text_at c.args.numbers.now.other.now in
     let i = c.loop-at.at in
-    differ_at (map f c.args.ones.now) (map g c.args.others.now) i (f (slice_index_or c.args.ones.now i 0)) (g (slice_index_or c.args.others.now i 0)) (map_at f c.args.ones.now i 0 (omega arith)) (map_at g c.args.others.now i 0 (omega arith)) c.if-not-same_text.ensures
+    differ_at (map f c.args.ones.now) (map g c.args.others.now) i (f (slice_index_or c.args.ones.now i 0)) (g (slice_index_or c.args.others.now i 0)) (map_at f c.args.ones.now i 0 (omega arith))
+    (map_at g c.args.others.now i 0 (omega arith)) c.if-not-same_text.ensures
 
 pub loop-at-preserved : goal.loop-at-preserved
 loop-at-preserved c =
     let f = text_at c.args.numbers.now.one.now in
     let g = text_at c.args.numbers.now.other.now in
     let i = c.loop-at.at in
-    same_next (map f c.args.ones.now) (map g c.args.others.now) i (f (slice_index_or c.args.ones.now i 0)) (g (slice_index_or c.args.others.now i 0)) (map_at f c.args.ones.now i 0 (omega arith)) (map_at g c.args.others.now i 0 (omega arith)) c.if-not-same_text.ensures c.loop-at.invariant
+    same_next (map f c.args.ones.now) (map g c.args.others.now) i (f (slice_index_or c.args.ones.now i 0)) (g (slice_index_or c.args.others.now i 0)) (map_at f c.args.ones.now i 0 (omega arith))
+    (map_at g c.args.others.now i 0 (omega arith)) c.if-not-same_text.ensures c.loop-at.invariant
 
 pub returns : goal.returns
 returns c =

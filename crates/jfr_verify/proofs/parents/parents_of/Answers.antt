@@ -13,20 +13,23 @@ returns-then-not-can_follow c =
     let l : Line = slice_index_or c.args.lines.now c.loop-line.line-index none in
     let h : c.loop-line.line-index < length c.args.lines.now = omega arith in
     let e : is_next c.loop-line.seen.items l ≡ false = ap (λ z. is_next z l) (sym c.deref.ensures.value) ∙ (sym c.can_follow.ensures ∙ c.if-not-can_follow.true) in
-    owners_stop c.args.count c.args.lines.now c.loop-line.line-index l c.loop-line.seen.items c.loop-line.parents.items (get_here c.args.lines.now c.loop-line.line-index l none h refl) c.loop-line.invariant e
+    owners_stop c.args.count c.args.lines.now c.loop-line.line-index l c.loop-line.seen.items c.loop-line.parents.items
+    (get_here c.args.lines.now c.loop-line.line-index l none h refl) c.loop-line.invariant e
 
 pub index_mut-requires : goal.index_mut-requires
 index_mut-requires c =
     let l : Line = slice_index_or c.args.lines.now c.loop-line.line-index none in
     let e : is_next c.loop-line.seen.items l ≡ true = ap (λ z. is_next z l) (sym c.deref.ensures.value) ∙ (sym c.can_follow.ensures ∙ c.if-not-can_follow.false) in
-    let i : IsOrdered c.args.count (after _ (take c.loop-line.line-index c.args.lines.now)) l = next_ordered c.args.count (take c.loop-line.line-index c.args.lines.now) c.loop-line.seen.items c.loop-line.parents.items c.loop-line.invariant l e in
+    let i : IsOrdered c.args.count (after _ (take c.loop-line.line-index c.args.lines.now)) l =
+    next_ordered c.args.count (take c.loop-line.line-index c.args.lines.now) c.loop-line.seen.items c.loop-line.parents.items c.loop-line.invariant l e in
     omega (arith, i.below, c.loop-line.invariant.size)
 
 pub index_mut-requires-in-loop-line : goal.index_mut-requires-in-loop-line
 index_mut-requires-in-loop-line c =
     let l : Line = slice_index_or c.args.lines.now c.loop-line.line-index none in
     let e : is_next c.loop-line.seen.items l ≡ true = ap (λ z. is_next z l) (sym c.deref.ensures.value) ∙ (sym c.can_follow.ensures ∙ c.if-not-can_follow.false) in
-    let i : IsOrdered c.args.count (after _ (take c.loop-line.line-index c.args.lines.now)) l = next_ordered c.args.count (take c.loop-line.line-index c.args.lines.now) c.loop-line.seen.items c.loop-line.parents.items c.loop-line.invariant l e in
+    let i : IsOrdered c.args.count (after _ (take c.loop-line.line-index c.args.lines.now)) l =
+    next_ordered c.args.count (take c.loop-line.line-index c.args.lines.now) c.loop-line.seen.items c.loop-line.parents.items c.loop-line.invariant l e in
     omega (arith, i.below, c.loop-line.invariant.parents_size)
 
 pub loop-line-preserved : goal.loop-line-preserved
@@ -34,7 +37,8 @@ loop-line-preserved c =
     let l : Line = slice_index_or c.args.lines.now c.loop-line.line-index none in
     let h : c.loop-line.line-index < length c.args.lines.now = omega arith in
     let e : is_next c.loop-line.seen.items l ≡ true = ap (λ z. is_next z l) (sym c.deref.ensures.value) ∙ (sym c.can_follow.ensures ∙ c.if-not-can_follow.false) in
-    owners_next c.args.count c.args.lines.now c.loop-line.line-index l c.loop-line.seen.items (slice_set c.loop-line.seen.items l.entry true) c.loop-line.parents.items (slice_set c.loop-line.parents.items l.entry l.parent)
+    owners_next c.args.count c.args.lines.now c.loop-line.line-index l c.loop-line.seen.items (slice_set c.loop-line.seen.items l.entry true) c.loop-line.parents.items
+    (slice_set c.loop-line.parents.items l.entry l.parent)
     (get_here c.args.lines.now c.loop-line.line-index l none h refl) c.loop-line.invariant e refl refl
 
 pub returns : goal.returns

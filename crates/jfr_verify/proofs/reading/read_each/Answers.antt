@@ -14,7 +14,8 @@ returns-in-None c = sym (each_stops c.args.receipt.now c.args.at c.args.count c.
 pub loop-preserved : goal.loop-preserved
 loop-preserved c =
     subst (InEach c.args.receipt.now c.args.at c.args.count (c.loop.counter + 1) c.in-Some.next.end) (sym c.in_ok-push-in-Some.ensures.items)
-    (each_next c.args.receipt.now c.args.at c.args.count c.loop.counter c.loop.end c.in-Some.next.end c.loop.lines.items c.in-Some.next.line (omega arith) c.loop.invariant c.in-Some.ensures.exact c.in-Some.ensures.within)
+    (each_next c.args.receipt.now c.args.at c.args.count c.loop.counter c.loop.end c.in-Some.next.end c.loop.lines.items c.in-Some.next.line
+    (omega arith) c.loop.invariant c.in-Some.ensures.exact c.in-Some.ensures.within)
 
 pub returns : goal.returns
 returns c = sym (each_ends c.args.receipt.now c.args.at c.args.count c.loop.counter c.loop.end c.loop.lines.items (omega arith) c.loop.invariant)

@@ -10,4 +10,7 @@ returns c =
     let n : List ℕ = spell (length c.in_ok-lines.lines.items.items) in
     let m : c.len.result ≡ length c.in_ok-lines.lines.items.items = omega (arith, c.len.ensures) in
     let h : c.push_var.new.out.items ≡ n = c.in_ok-push_var.ensures.ok ∙ (ap (λ z. z ++ spell c.len.result) c.new-bytes.ensures.items ∙ ap spell m) in
-    record { ok = receipt_is c.args.chunk.now c.in_ok-lines.lines.items.items c.push_var.new.out.items c.push_lines.new.out.items c.in_ok-lines.ensures h (c.in_ok-push_lines.ensures.ok ∙ ap (λ z. c.push_var.new.out.items ++ flat_map line_bytes z) c.deref.ensures.value) }
+    record {
+      ok = receipt_is c.args.chunk.now c.in_ok-lines.lines.items.items c.push_var.new.out.items c.push_lines.new.out.items c.in_ok-lines.ensures h
+          (c.in_ok-push_lines.ensures.ok ∙ ap (λ z. c.push_var.new.out.items ++ flat_map line_bytes z) c.deref.ensures.value);
+    }

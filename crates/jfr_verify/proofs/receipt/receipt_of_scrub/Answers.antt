@@ -15,8 +15,10 @@ returns c =
     let m : c.len.result ≡ length lines = omega (arith, c.len.ensures) in
     let h : head ≡ spell (length lines) = c.in_ok-push_var.ensures.ok ∙ (ap (λ z. z ++ spell c.len.result) c.new-bytes.ensures.items ∙ ap spell m) in
     let b : c.push_ranked.new.out.items ≡ head ++ flat_map (ranked_bytes ranks) lines =
-    c.in_ok-push_ranked.ensures.ok ∙ (ap (λ z. head ++ flat_map (ranked_bytes c.deref-3.result.now) z) c.deref-2.ensures.value ∙ ap (λ z. head ++ flat_map (ranked_bytes z) lines) c.deref-3.ensures.value) in
+    c.in_ok-push_ranked.ensures.ok ∙ (ap (λ z. head ++ flat_map (ranked_bytes c.deref-3.result.now) z) c.deref-2.ensures.value
+    ∙ ap (λ z. head ++ flat_map (ranked_bytes z) lines) c.deref-3.ensures.value) in
     record {
-      ok = λ names scrub. scrub_receipt_is c.args.chunk.now c.parts_are_valid.ensures.parts c.args.kept.now names scrub marks ranks lines head c.push_ranked.new.out.items c.in_ok-lines.ensures.lines c.in_ok-lines.ensures.size c.in_ok-lines.lines.listed
+      ok = λ names scrub. scrub_receipt_is c.args.chunk.now c.parts_are_valid.ensures.parts c.args.kept.now names scrub marks ranks lines head c.push_ranked.new.out.items c.in_ok-lines.ensures.lines
+          c.in_ok-lines.ensures.size c.in_ok-lines.lines.listed
           (subst (λ z. AreRanks z ranks) c.deref.ensures.value c.in_ok-ranks.ensures) h b;
     }

@@ -11,7 +11,8 @@ use Rattle.jfr_verify.proofs.stream.compare_input.Given as goal
 
 abbrev pub invariant-chunks : goal.invariant-chunks
 invariant-chunks g l = record {
-  going : (qs : List Parts) → HasOutputs l.fn.comparer qs → IfKnown (g.P.Place.state l.fn.place).contents (g.P.Place.state l.place).contents (Going l.name l.fn.comparer.filter.now qs l.fn.comparer.receipts.now l.comparer l.cutter);
+  going : (qs : List Parts) → HasOutputs l.fn.comparer qs
+      → IfKnown (g.P.Place.state l.fn.place).contents (g.P.Place.state l.place).contents (Going l.name l.fn.comparer.filter.now qs l.fn.comparer.receipts.now l.comparer l.cutter);
   left : IfKnown (g.P.Place.state l.fn.place).contents (g.P.Place.state l.place).contents (HasUnread l.cutter (λ k. Unit {0}));
   whole : AllWhole (iter_rest l.comparer.outputs);
   filter : l.comparer.filter.now ≡ l.fn.comparer.filter.now;

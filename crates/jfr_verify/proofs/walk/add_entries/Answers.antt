@@ -20,7 +20,8 @@ loop-next-preserved c =
     let h : c.loop-next.next < length c.args.chunk.now.entries = omega arith in
     let e : slice_get c.loop-next.lines.items.items c.loop-next.next ≡ Some c.line-line.result =
     get_here c.loop-next.lines.items.items c.loop-next.next c.index.result.now c.index.result.now (omega arith) c.index.ensures ∙ ap (λ z. Some z) (sym c.line-line.ensures.exact) in
-    in_lines_next c.args.chunk.now c.args.lines.now.flags.items c.loop-next.lines.flags.items c.add_entry.new.lines.flags.items c.args.lines.now.items.items c.loop-next.lines.items.items c.add_entry.new.lines.items.items
+    in_lines_next c.args.chunk.now c.args.lines.now.flags.items c.loop-next.lines.flags.items c.add_entry.new.lines.flags.items c.args.lines.now.items.items c.loop-next.lines.items.items
+    c.add_entry.new.lines.items.items
     c.loop-next.next c.line-line.result e h c.loop-next.invariant c.add_entry.ensures.marks c.add_entry.ensures.lines
 
 pub returns-clause-lines : goal.returns-clause-lines

@@ -7,4 +7,5 @@ pub add_entries-requires : goal.add_entries-requires
 add_entries-requires c = record { size = no_marks_size c.args.chunk.now c.add_events.new.lines.flags.items (roots c.args.chunk.now (events_of c.args.chunk.now)) c.add_events.ensures.marks }
 
 pub returns : goal.returns
-returns c = lines_end c.args.chunk.now c.add_events.new.lines.flags.items c.add_events.new.lines.items.items c.add_entries.new.lines.items.items c.add_events.ensures.marks c.add_events.ensures.lines c.add_entries.ensures.lines
+returns c = lines_end c.args.chunk.now c.add_events.new.lines.flags.items c.add_events.new.lines.items.items c.add_entries.new.lines.items.items c.add_events.ensures.marks c.add_events.ensures.lines
+    c.add_entries.ensures.lines

@@ -5,5 +5,6 @@ use Rattle.jfr_words.proofs.scrub.read_scrub.Goals as goal
 
 pub options-preserved : goal.options-preserved
 options-preserved c =
-    option_taken scrub_from scrub_option_of scrub_with scrub_named (record { on = λ g word next rest. refl }) c.options.given c.give.new.self c.in-Some.option _ c.options.unread c.take_option.new.self _ c.in-Some.ensures.option c.in-Some.ensures.taken c.in_ok-value.ensures c.in_ok-give.ensures
+    option_taken scrub_from scrub_option_of scrub_with scrub_named (record { on = λ g word next rest. refl }) c.options.given c.give.new.self c.in-Some.option _ c.options.unread c.take_option.new.self
+    _ c.in-Some.ensures.option c.in-Some.ensures.taken c.in_ok-value.ensures c.in_ok-give.ensures
     ∙ c.options.invariant

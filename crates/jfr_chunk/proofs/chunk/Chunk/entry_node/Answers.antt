@@ -8,7 +8,8 @@ use Rattle.jfr_chunk.proofs.chunk.Chunk.entry_node.Goals as goal
 
 pub returns-clause-value : goal.returns-clause-value
 returns-clause-value c =
-    let e : slice_get c.args.self.now.entries c.args.number ≡ Some c.in_ok-entry.entry.now = ap (λ (p : Parts). slice_get p.entries c.args.number) (sym c.self.view_is) ∙ (sym c.get.ensures ∙ ap option_copied c.in_ok-entry.was) in
+    let e : slice_get c.args.self.now.entries c.args.number ≡ Some c.in_ok-entry.entry.now =
+    ap (λ (p : Parts). slice_get p.entries c.args.number) (sym c.self.view_is) ∙ (sym c.get.ensures ∙ ap option_copied c.in_ok-entry.was) in
     entry_value c.args.self.now (subst AreParts c.self.view_is c.self.invariant.parts) c.args.number c.in_ok-entry.entry.now
     (record { shape = c.inline.result; bytes = c.self.inside.bytes; at = c.in_ok-entry.entry.now.value_at; end = c.in_ok-entry.entry.now.end })
     e (ap (λ s. node_at s c.in_ok-entry.entry.now.value_at c.in_ok-entry.entry.now.end) c.inline.ensures) (ap (λ (p : Parts). p.bytes) c.self.view_is)

@@ -27,10 +27,12 @@ returns-clause-exact c =
     let e : map (indexed_event c.args.self.now.records c.self.inside.events.early) c.self.inside.events.fields.items ≡ map Some (events_of c.args.self.now) = search rules in
     let g : slice_get c.self.inside.events.fields.items c.args.number ≡ Some c.in_ok-fields.fields = search rules in
     let h : slice_get c.args.self.now.records c.in_ok-fields.fields.record ≡ Some c.in_ok-frame.frame = search rules in
-    rw c.inline.ensures (ap (λ end. Some (event_with end c.in_ok-frame.frame)) c.end_of_fields.ensures ∙ event_found c.args.self.now c.self.inside.events.early c.self.inside.events.fields.items c.args.number c.in_ok-fields.fields c.in_ok-frame.frame e g h)
+    rw c.inline.ensures (ap (λ end. Some (event_with end c.in_ok-frame.frame)) c.end_of_fields.ensures
+    ∙ event_found c.args.self.now c.self.inside.events.early c.self.inside.events.fields.items c.args.number c.in_ok-fields.fields c.in_ok-frame.frame e g h)
 
 pub returns-clause-value : goal.returns-clause-value
 returns-clause-value c =
-    event_value c.args.self.now (subst AreParts c.self.view_is c.self.invariant.parts) c.args.number (record { record_of = c.in_ok-frame.frame; node = node_at c.inline.result c.in_ok-frame.frame.body c.end_of_fields.result })
+    event_value c.args.self.now (subst AreParts c.self.view_is c.self.invariant.parts) c.args.number
+    (record { record_of = c.in_ok-frame.frame; node = node_at c.inline.result c.in_ok-frame.frame.body c.end_of_fields.result })
     (record { shape = c.inline.result; bytes = c.self.inside.bytes; at = c.in_ok-frame.frame.body; end = c.end_of_fields.result })
     (sym (returns-clause-exact c)) refl (ap (λ (p : Parts). p.bytes) c.self.view_is)

@@ -16,8 +16,10 @@ pub returns : goal.returns
 returns c =
     let e : map (indexed_event c.args.self.now.records c.self.inside.events.early) c.self.inside.events.fields.items ≡ map Some (events_of c.args.self.now) = search rules in
     let g : slice_get c.self.inside.events.fields.items c.args.number ≡ Some c.in_ok-fields.fields = search rules in
-    let a = subst (λ (p : Parts). AreRefs (indexed_refs p.entries p.classes p.bytes p.records c.self.inside.events.early) 0 c.self.inside.events.fields.items c.self.inside.events.numbers.items) c.self.view_is c.self.invariant.refs_end in
-    let r = refs_range (indexed_refs c.args.self.now.entries c.args.self.now.classes c.args.self.now.bytes c.args.self.now.records c.self.inside.events.early) c.self.inside.events.fields.items c.self.inside.events.numbers.items c.args.number c.in_ok-fields.fields c.refs_before-start.result a g
+    let a = subst (λ (p : Parts). AreRefs (indexed_refs p.entries p.classes p.bytes p.records c.self.inside.events.early) 0 c.self.inside.events.fields.items c.self.inside.events.numbers.items)
+    c.self.view_is c.self.invariant.refs_end in
+    let r = refs_range (indexed_refs c.args.self.now.entries c.args.self.now.classes c.args.self.now.bytes c.args.self.now.records c.self.inside.events.early) c.self.inside.events.fields.items
+    c.self.inside.events.numbers.items c.args.number c.in_ok-fields.fields c.refs_before-start.result a g
     c.refs_before-start.ensures.first c.refs_before-start.ensures.later in
     let d = event_due c.args.self.now c.self.inside.events.early c.self.inside.events.fields.items c.args.number c.in_ok-fields.fields e g in
     let n = c.deref.ensures.value in

@@ -10,5 +10,7 @@ pub returns : goal.returns
 returns c =
     let e : map (indexed_event c.args.self.now.records c.self.inside.events.early) c.self.inside.events.fields.items ≡ map Some (events_of c.args.self.now) = search rules in
     let g : slice_get c.self.inside.events.fields.items c.args.number ≡ Some c.in_ok-fields.fields = search rules in
-    let h : option_map (λ (r : Framed). r.at) (slice_get c.args.self.now.records c.in_ok-fields.fields.record) ≡ option_map (λ (e : EventAt). e.record_of.at) (slice_get (events_of c.args.self.now) c.args.number) = event_framed (λ (r : Framed). r.at) c.args.self.now c.self.inside.events.early c.self.inside.events.fields.items c.args.number c.in_ok-fields.fields e g in
+    let h : option_map (λ (r : Framed). r.at) (slice_get c.args.self.now.records c.in_ok-fields.fields.record) ≡ option_map (λ (e : EventAt). e.record_of.at)
+    (slice_get (events_of c.args.self.now) c.args.number) =
+    event_framed (λ (r : Framed). r.at) c.args.self.now c.self.inside.events.early c.self.inside.events.fields.items c.args.number c.in_ok-fields.fields e g in
     c.place.ensures ∙ (ap (λ rs. option_map (λ (r : Framed). r.at) (slice_get rs c.in_ok-fields.fields.record)) (ap (λ (z : Parts). z.records) c.self.view_is) ∙ h)

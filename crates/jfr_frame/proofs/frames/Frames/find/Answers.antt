@@ -8,12 +8,15 @@ returns-in_err-number c =
 
 pub returns-in_err-record : goal.returns-in_err-record
 returns-in_err-record c =
-    c.from_residual-in_err-record.ensures ∙ sym (there_found _ _ _ _ _ c.number_at.result c.number_at.ensures.order c.number_at.ensures.position (sym c.ok.ensures.value ∙ c.in_ok-number.was) (sym c.in_err-record.was ∙ c.get.ensures))
+    c.from_residual-in_err-record.ensures ∙ sym
+    (there_found _ _ _ _ _ c.number_at.result c.number_at.ensures.order c.number_at.ensures.position (sym c.ok.ensures.value ∙ c.in_ok-number.was) (sym c.in_err-record.was ∙ c.get.ensures))
 
 pub returns-then-record-type_id : goal.returns-then-record-type_id
 returns-then-record-type_id c =
-    sym (there_found _ _ _ _ _ c.number_at.result c.number_at.ensures.order c.number_at.ensures.position (sym c.ok.ensures.value ∙ c.in_ok-number.was) (sym c.in_ok-record.was ∙ c.get.ensures) ∙ is_type _ _ c.if-record-type_id.true)
+    sym (there_found _ _ _ _ _ c.number_at.result c.number_at.ensures.order c.number_at.ensures.position (sym c.ok.ensures.value ∙ c.in_ok-number.was) (sym c.in_ok-record.was ∙ c.get.ensures)
+    ∙ is_type _ _ c.if-record-type_id.true)
 
 pub returns-else-record-type_id : goal.returns-else-record-type_id
 returns-else-record-type_id c =
-    sym (there_found _ _ _ _ _ c.number_at.result c.number_at.ensures.order c.number_at.ensures.position (sym c.ok.ensures.value ∙ c.in_ok-number.was) (sym c.in_ok-record.was ∙ c.get.ensures) ∙ is_no_type _ _ c.if-record-type_id.false)
+    sym (there_found _ _ _ _ _ c.number_at.result c.number_at.ensures.order c.number_at.ensures.position (sym c.ok.ensures.value ∙ c.in_ok-number.was) (sym c.in_ok-record.was ∙ c.get.ensures)
+    ∙ is_no_type _ _ c.if-record-type_id.false)

@@ -13,4 +13,5 @@ returns-clause-moved g c =
     let whole : length (put_mid c.self.inside.count (c.min-most.result - c.self.inside.count) c.deref_mut.result.now c.read.new.into) ≡ vec_len c.make_space.new.memory = search rules in
     subst (λ (l : List ℕ). IfKnown (g.P.Place.state c.args.place.now).contents (g.P.Place.state c.read.new.self).contents (Moved c.args.self.now (take (c.self.inside.count + c.in_ok-count.count) l)))
     (sym (with_items_is c.make_space.new.memory (put_mid c.self.inside.count (c.min-most.result - c.self.inside.count) c.deref_mut.result.now c.read.new.into) whole))
-    (moved_read (g.P.Place.state c.args.place.now).contents (g.P.Place.state c.read.new.self).contents c.args.self.now c.deref_mut.result.now c.read.new.into c.self.inside.count c.in_ok-count.count (c.min-most.result - c.self.inside.count) mine within c.in_ok-count.ensures.bound c.in_ok-count.ensures.contents c.in_ok-count.ensures.bytes)
+    (moved_read (g.P.Place.state c.args.place.now).contents (g.P.Place.state c.read.new.self).contents c.args.self.now c.deref_mut.result.now c.read.new.into c.self.inside.count c.in_ok-count.count
+    (c.min-most.result - c.self.inside.count) mine within c.in_ok-count.ensures.bound c.in_ok-count.ensures.contents c.in_ok-count.ensures.bytes)

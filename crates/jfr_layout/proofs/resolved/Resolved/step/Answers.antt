@@ -17,4 +17,5 @@ returns-in-Composite c =
     record { exact = e.0; within = e.1 }
 
 pub returns-in_default-clause-exact : goal.returns-in_default-clause-exact
-returns-in_default-clause-exact c = step_nowhere _ _ _ _ (has_layout c.args.self.now c.args.index c.args.number c.layouts.result.now _ c.requires c.layouts.ensures) c.if-layout.false c.in_default.not-Composite
+returns-in_default-clause-exact c = step_nowhere _ _ _ _ (has_layout c.args.self.now c.args.index c.args.number c.layouts.result.now _ c.requires c.layouts.ensures) c.if-layout.false
+    c.in_default.not-Composite

@@ -25,4 +25,5 @@ invariant_of-self-in-Err c =
     let old = c.self.inside in
     let new = c.put_number.new in
     let popped : c.pop.new.self.items ≡ old.texts.items = grind (arith, common_steps) in
-    subst (λ z. AreNumbersOf z new.firsts new.others) (sym (ap texts_in popped)) (numbers_same (texts_in old.texts.items) old.firsts new.firsts old.others new.others c.in-Err.ensures.unchanged c.self.invariant)
+    subst (λ z. AreNumbersOf z new.firsts new.others) (sym (ap texts_in popped))
+    (numbers_same (texts_in old.texts.items) old.firsts new.firsts old.others new.others c.in-Err.ensures.unchanged c.self.invariant)

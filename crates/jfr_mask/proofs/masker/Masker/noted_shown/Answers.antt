@@ -17,7 +17,8 @@ returns c =
     let known = has_text m.known.now in
     let d = m.dictionary.now in
     let index = c.in_ok-index.index in
-    let r = noted_leads p known d m.noted.now.numbers.items (leaf_of c.args.leaf.now) c.in_ok-entry.entry index (sym c.entry_of.ensures ∙ c.in_ok-entry.was) (c.index.ensures.noted index c.in_ok-index.was) c.requires.noted in
+    let r = noted_leads p known d m.noted.now.numbers.items (leaf_of c.args.leaf.now) c.in_ok-entry.entry index (sym c.entry_of.ensures ∙ c.in_ok-entry.was)
+    (c.index.ensures.noted index c.in_ok-index.was) c.requires.noted in
     let text = chars c.in_ok-text.text.now in
     let same : text ≡ r.0 = same_text text r.0 (c.in_ok-text.ensures.text ∙ r.2.there) in (
       text,

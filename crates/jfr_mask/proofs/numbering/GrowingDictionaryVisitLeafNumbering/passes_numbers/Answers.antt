@@ -9,4 +9,5 @@ use Rattle.jfr_mask.proofs.numbering.GrowingDictionaryVisitLeafNumbering.passes_
 
 pub returns-clause-same : goal.returns-clause-same
 returns-clause-same c = λ numbering leaf growing n lies noted.
-    subst (λ b. AddsTexts (if b then numbered_text (has_text numbering.known.now) (leaf_text numbering.strings.chunk.now leaf) else []) growing growing) (sym (number_not_masked (held_by numbering.strings) leaf n)) (λ f. (f, refl))
+    subst (λ b. AddsTexts (if b then numbered_text (has_text numbering.known.now) (leaf_text numbering.strings.chunk.now leaf) else []) growing growing)
+    (sym (number_not_masked (held_by numbering.strings) leaf n)) (λ f. (f, refl))

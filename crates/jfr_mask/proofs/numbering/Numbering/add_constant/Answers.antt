@@ -7,7 +7,8 @@ use Rattle.jfr_mask.proofs.numbering.Numbering.add_constant.Goals as goal
 
 pub returns-then-is_some-clause-ok : goal.returns-then-is_some-clause-ok
 returns-then-is_some-clause-ok c =
-    noted_ok c.args.self.now.strings.chunk.now (has_text c.args.self.now.known.now) c.args.growing.now.dictionary c.args.growing.now.noted.numbers.items (leaf_of c.args.leaf.now) c.args.entry c.index.result
+    noted_ok c.args.self.now.strings.chunk.now (has_text c.args.self.now.known.now) c.args.growing.now.dictionary c.args.growing.now.noted.numbers.items
+    (leaf_of c.args.leaf.now) c.args.entry c.index.result
     (sym c.is_some.ensures ∙ c.if-is_some.true) c.index.ensures.noted c.requires.entry c.requires.noted
 
 pub note-requires : goal.note-requires

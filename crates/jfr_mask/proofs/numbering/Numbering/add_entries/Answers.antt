@@ -35,4 +35,8 @@ loop-entry-preserved c =
 pub returns : goal.returns
 returns c =
     let texts : EntryAt → List (List ℕ) = λ e. node_texts_by c.args.self.now (entry_node e) in
-    record { ok = ap (λ z. with_texts c.loop-entry.growing.dictionary (flat_map texts z)) (sym (drop_all c.loop-entry.entry-index c.args.entries.now c.loop-entry-test.false)) ∙ c.loop-entry.invariant.texts; noted = c.loop-entry.invariant.noted }
+    record {
+      ok = ap (λ z. with_texts c.loop-entry.growing.dictionary (flat_map texts z)) (sym (drop_all c.loop-entry.entry-index c.args.entries.now c.loop-entry-test.false))
+          ∙ c.loop-entry.invariant.texts;
+      noted = c.loop-entry.invariant.noted;
+    }

@@ -26,7 +26,8 @@ returns c =
     record {
       ok =
           added.1
-          ∙ (ap (λ z. with_texts c.args.growing.now.dictionary (flat_map (leaf_texts_by c.args.self.now) z)) (leaves_here p c.classes.result.now c.args.node.bytes.now n c.classes.ensures c.requires.of_chunk)
+          ∙ (ap (λ z. with_texts c.args.growing.now.dictionary (flat_map (leaf_texts_by c.args.self.now) z))
+          (leaves_here p c.classes.result.now c.args.node.bytes.now n c.classes.ensures c.requires.of_chunk)
           ∙ ap (λ z. with_texts c.args.growing.now.dictionary z) (sym (node_texts_are masked p known c.parts_are_valid.ensures.sound n c.requires.value.0 node)));
       noted = c.visit_leaves.ensures.ready;
     }

@@ -13,4 +13,8 @@ returns-then-are_none_in c =
     let n = node_of c.args.node in
     let v = c.requires.value.0 in
     let node = subst (λ z. IsNode p.classes z n v) c.requires.of_chunk c.requires.value.1 in
-    record { ok = ap (λ z. with_texts c.args.growing.now.dictionary z) (sym (node_no_texts p masked known n v c.parts_are_valid.ensures.sound node (c.are_none_in.ensures c.if-are_none_in.true v node))); noted = c.requires.noted }
+    record {
+      ok = ap (λ z. with_texts c.args.growing.now.dictionary z)
+          (sym (node_no_texts p masked known n v c.parts_are_valid.ensures.sound node (c.are_none_in.ensures c.if-are_none_in.true v node)));
+      noted = c.requires.noted;
+    }

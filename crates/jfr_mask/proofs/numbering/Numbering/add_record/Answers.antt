@@ -24,7 +24,8 @@ returns-in-Metadata c =
       ok = λ m flags slim is event metadata.
           ap (λ z. with_texts c.args.growing.now.dictionary z)
           (sym (ap (λ o. origin_texts m p (origin_of p (kept_by p flags) c.args.entries.now (output_record_for slim o))) c.in-Metadata.is
-          ∙ metadata_texts c.args.self.now m is flags c.args.entries.now c.parts_are_valid.ensures.parts slim c.in-Metadata.field-0 (subst (ShowsMetadata (metadata_at p.bytes)) c.in-Metadata.is metadata)));
+          ∙ metadata_texts c.args.self.now m is flags c.args.entries.now c.parts_are_valid.ensures.parts slim c.in-Metadata.field-0
+          (subst (ShowsMetadata (metadata_at p.bytes)) c.in-Metadata.is metadata)));
       noted = c.requires.noted;
     }
 

@@ -14,8 +14,10 @@ abbrev pub invariant-output_records : goal.invariant-output_records
 invariant-output_records l = record {
   noted : NotesTexts l.self l.growing;
   cursor : IsCursor l.self.strings.chunk.now l.kept l.cursor;
-  texts : (m : Masking) → IsMaskingBy l.self m → with_texts l.growing.dictionary (flat_map (λ o. origin_texts m l.self.strings.chunk.now (origin_of l.self.strings.chunk.now (kept_by l.self.strings.chunk.now l.kept) l.entries o)) (output_records_from (new_metadata m.described l.self.strings.chunk.now (kept_by l.self.strings.chunk.now l.kept)) l.self.strings.chunk.now l.kept l.cursor))
-      ≡ with_texts l.fn.growing.dictionary (flat_map (λ o. origin_texts m l.self.strings.chunk.now (origin_of l.self.strings.chunk.now (kept_by l.self.strings.chunk.now l.kept) l.entries o)) (records_out m l.self.strings.chunk.now (kept_by l.self.strings.chunk.now l.kept)));
+  texts : (m : Masking) → IsMaskingBy l.self m
+      → with_texts l.growing.dictionary (flat_map (λ o. origin_texts m l.self.strings.chunk.now (origin_of l.self.strings.chunk.now (kept_by l.self.strings.chunk.now l.kept) l.entries o)) (output_records_from (new_metadata m.described l.self.strings.chunk.now (kept_by l.self.strings.chunk.now l.kept)) l.self.strings.chunk.now l.kept l.cursor))
+      ≡ with_texts l.fn.growing.dictionary (flat_map (λ o. origin_texts m l.self.strings.chunk.now (origin_of l.self.strings.chunk.now (kept_by l.self.strings.chunk.now l.kept) l.entries o))
+      (records_out m l.self.strings.chunk.now (kept_by l.self.strings.chunk.now l.kept)));
 }
 
 abbrev pub decreases-output_records : goal.decreases-output_records

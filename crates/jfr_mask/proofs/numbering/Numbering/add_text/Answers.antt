@@ -20,7 +20,8 @@ returns-in-Some-clause-number c =
     (λ number h index q. (text, c.in-Some.ensures p, h index q)) c.add_unless_shown.ensures.number
 
 pub returns-in-Some-clause-noted : goal.returns-in-Some-clause-noted
-returns-in-Some-clause-noted c = noted_grow c.args.self.now.strings.chunk.now (has_text c.args.self.now.known.now) c.args.growing.now.dictionary c.add_unless_shown.new.dictionary c.args.growing.now.noted.numbers.items c.add_unless_shown.ensures.grown c.requires.noted
+returns-in-Some-clause-noted c = noted_grow c.args.self.now.strings.chunk.now (has_text c.args.self.now.known.now) c.args.growing.now.dictionary c.add_unless_shown.new.dictionary
+    c.args.growing.now.noted.numbers.items c.add_unless_shown.ensures.grown c.requires.noted
 
 pub returns-in-Some-2-clause-number : goal.returns-in-Some-2-clause-number
 returns-in-Some-2-clause-number c =
@@ -32,4 +33,5 @@ returns-in-Some-2-clause-number c =
     (λ number h index q. (chars c.as_str.result.now, sym c.in_ok-text.ensures.ok ∙ (c.in-Some-2.is ∙ ap Some (sym c.as_str.ensures)), h index q)) c.add_unless_shown-in-Some-2.ensures.number
 
 pub returns-in-Some-2-clause-noted : goal.returns-in-Some-2-clause-noted
-returns-in-Some-2-clause-noted c = noted_grow c.args.self.now.strings.chunk.now (has_text c.args.self.now.known.now) c.args.growing.now.dictionary c.add_unless_shown-in-Some-2.new.dictionary c.args.growing.now.noted.numbers.items c.add_unless_shown-in-Some-2.ensures.grown c.requires.noted
+returns-in-Some-2-clause-noted c = noted_grow c.args.self.now.strings.chunk.now (has_text c.args.self.now.known.now) c.args.growing.now.dictionary c.add_unless_shown-in-Some-2.new.dictionary
+    c.args.growing.now.noted.numbers.items c.add_unless_shown-in-Some-2.ensures.grown c.requires.noted

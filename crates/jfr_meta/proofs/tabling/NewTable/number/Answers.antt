@@ -16,4 +16,5 @@ returns-in-Some-Some-clause-tabled c =
     (index_numbered c.args.strings.now c.args.self.now c.args.index c.in-Some-Some.number c.requires kept).1
 
 pub returns-in-Some-clause-tabled : goal.returns-in-Some-clause-tabled
-returns-in-Some-clause-tabled c = index_noted c.args.strings.now c.args.self.now c.number_by_text.new.self _ c.args.index c.in_ok-number.number c.in_ok-number.ensures.tabled c.in_ok-number.ensures.number refl
+returns-in-Some-clause-tabled c = index_noted c.args.strings.now c.args.self.now c.number_by_text.new.self _ c.args.index c.in_ok-number.number c.in_ok-number.ensures.tabled
+    c.in_ok-number.ensures.number refl

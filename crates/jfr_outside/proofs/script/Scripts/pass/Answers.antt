@@ -12,4 +12,5 @@ loop-script-preserved c =
     let script : Script = get_or c.loop-script.script-items c.loop-script.script-index none in
     let here : c.loop-script.script-index < length c.loop-script.script-items = subst (λ n. c.loop-script.script-index < n) (sym c.loop-script.auto.script-items) c.loop-script-test.true in
     ap (set c.loop-script.script-items c.loop-script.script-index) c.pass.ensures
-    ∙ map_over_more (passed c.args.call) c.deref_mut-script-items.result.now c.loop-script.script-items c.loop-script.script-index script c.loop-script-test.true c.loop-script.invariant (get_or_default c.loop-script.script-items c.loop-script.script-index none script here)
+    ∙ map_over_more (passed c.args.call) c.deref_mut-script-items.result.now c.loop-script.script-items c.loop-script.script-index script c.loop-script-test.true c.loop-script.invariant
+    (get_or_default c.loop-script.script-items c.loop-script.script-index none script here)

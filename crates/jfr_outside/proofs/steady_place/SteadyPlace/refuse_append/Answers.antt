@@ -9,4 +9,5 @@ returns-in-Some-clause-contents c =
     let P : List ℕ → Type 0 = λ name. IsHeld (files_of c.args.self.now.files) name in
     let few : c.min.result ≤ c.args.keep = omega (arith, c.min.ensures) in
     let held : P c.as_str.result.now = subst P (sym c.as_str.ensures.value) (c.args.self.now.output_is_there c.in-Some.name c.in-Some.is) in
-    append_kept c.grow_file.result (world_of c.args.self.now) (files_of c.grow_file.new.files) c.as_str.result.now c.args.bytes.now c.min.result c.args.keep (ap (option_map string_bytes) c.in-Some.is ∙ ap Some (sym c.as_str.ensures.value)) few held c.grow_file.ensures.ok c.grow_file.ensures.unchanged
+    append_kept c.grow_file.result (world_of c.args.self.now) (files_of c.grow_file.new.files) c.as_str.result.now c.args.bytes.now c.min.result c.args.keep
+    (ap (option_map string_bytes) c.in-Some.is ∙ ap Some (sym c.as_str.ensures.value)) few held c.grow_file.ensures.ok c.grow_file.ensures.unchanged

@@ -28,4 +28,5 @@ returns-clause-ok c =
     let o : Options = record { filter = self.filter.now; include = self.include; exclude = self.exclude; strings = self.strings.now } in
     let text : chars c.unwrap_or-text.result.now ≡ text_at self.strings.now c.args.index =
     ap (λ z. chars z.now) c.unwrap_or-text.ensures ∙ text_of_index self.strings.now c.args.index c.get-2.result _ c.get-2.ensures chars-nil in
-    of_both o c.args.index (chars c.unwrap_or-text.result.now) c.matches.result c.matches-2.result text c.matches.ensures c.matches-2.ensures ∙ ap (λ (o : Options). matches_of o c.args.index) c.self.view_is
+    of_both o c.args.index (chars c.unwrap_or-text.result.now) c.matches.result c.matches-2.result text c.matches.ensures c.matches-2.ensures
+    ∙ ap (λ (o : Options). matches_of o c.args.index) c.self.view_is

@@ -24,7 +24,8 @@ returns-in-Some-get-clause-ok c =
 pub invariant_of-self-2 : goal.invariant_of-self-2
 invariant_of-self-2 c =
     let self = c.self.inside in
-    texts_next self.filter.now self.chunk.now self.verdicts c.insert.new.self (node_of c.follow_keys-last.result) (content_of c.in-Some.span) c.in_ok-said.said c.self.invariant (sym c.in-Some.ensures) c.in_ok-said.ensures c.in_ok-insert.ensures.updates
+    texts_next self.filter.now self.chunk.now self.verdicts c.insert.new.self (node_of c.follow_keys-last.result) (content_of c.in-Some.span) c.in_ok-said.said c.self.invariant
+    (sym c.in-Some.ensures) c.in_ok-said.ensures c.in_ok-insert.ensures.updates
 
 pub returns-clause-ok : goal.returns-clause-ok
 returns-clause-ok c =

@@ -31,5 +31,7 @@ returns c =
     between c.args.filter.now c.args.chunk.now _ c.billionths_until.result c.billionths_until-2.result
     (positive_by c.args.filter.now c.args.chunk.now c.signed-rate.result fits_rate rate c.if-rate-le0.false)
     (to_z-of_z w64 c.signed.result fits_ticks ∙ ticks)
-    (until_same c.args.chunk.now c.from.result c.args.filter.now.from (to_z w64 (of_z w64 c.signed-nanos.result)) (to_z w64 (of_z w64 c.signed-rate.result)) c.billionths_until.result c.billionths_until.ensures c.from.ensures nanos_read rate_read)
-    (until_same c.args.chunk.now c.to.result c.args.filter.now.to (to_z w64 (of_z w64 c.signed-nanos.result)) (to_z w64 (of_z w64 c.signed-rate.result)) c.billionths_until-2.result c.billionths_until-2.ensures c.to.ensures nanos_read rate_read)
+    (until_same c.args.chunk.now c.from.result c.args.filter.now.from (to_z w64 (of_z w64 c.signed-nanos.result))
+    (to_z w64 (of_z w64 c.signed-rate.result)) c.billionths_until.result c.billionths_until.ensures c.from.ensures nanos_read rate_read)
+    (until_same c.args.chunk.now c.to.result c.args.filter.now.to (to_z w64 (of_z w64 c.signed-nanos.result))
+    (to_z w64 (of_z w64 c.signed-rate.result)) c.billionths_until-2.result c.billionths_until-2.ensures c.to.ensures nanos_read rate_read)

@@ -11,7 +11,8 @@ returns-then-class-ge-CLASSES c =
 pub returns-in-Some : goal.returns-in-Some
 returns-in-Some c =
     let slots = c.args.self.now.slots in
-    let slot : c.index.result.now ≡ slot_at slots.items c.in-Some.place = get_or_read slots.items c.in-Some.place c.index.result.now (omega (arith, slots.ok.0, c.in-Some.ensures.within)) c.index.ensures _ in
+    let slot : c.index.result.now ≡ slot_at slots.items c.in-Some.place =
+    get_or_read slots.items c.in-Some.place c.index.result.now (omega (arith, slots.ok.0, c.in-Some.ensures.within)) c.index.ensures _ in
     let past = seat_past slots.items (c.args.class, c.args.key) c.args.place c.if-class-ge-CLASSES.false c.requires.home (c.requires.closed c.if-class-ge-CLASSES.false) in
     c.number.ensures ∙ ap number_in slot ∙ ap (number_at c.args.self.now (c.args.class, c.args.key)) (c.in-Some.ensures.exact ∙ past)
 

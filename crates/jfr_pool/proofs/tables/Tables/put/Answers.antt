@@ -4,7 +4,8 @@ use Rattle.jfr_pool.proofs.TableLaws.{no_table, passed, placed}
 use Rattle.jfr_pool.proofs.tables.Tables.put.Goals as goal
 
 pub returns-then-class-len : goal.returns-then-class-len
-returns-then-class-len c = λ es h n. passed c.args.self.now c.args.entry.now es (no_table c.args.self.now.by_class.items (c.args.entry.now.class, c.args.entry.now.key) (omega (arith, c.args.self.now.by_class.ok.0, c.len.ensures, c.if-class-len.true))) h
+returns-then-class-len c = λ es h n. passed c.args.self.now c.args.entry.now es
+    (no_table c.args.self.now.by_class.items (c.args.entry.now.class, c.args.entry.now.key) (omega (arith, c.args.self.now.by_class.ok.0, c.len.ensures, c.if-class-len.true))) h
 
 pub returns : goal.returns
 returns c =

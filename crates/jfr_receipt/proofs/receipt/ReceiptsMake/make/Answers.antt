@@ -19,7 +19,8 @@ made c =
     let p = c.in_ok-chunk.chunk in
     let g = c.args.self.now.filter.now in
     let r : List ℕ = c.in_ok-receipt_of_scrub.field-0 in
-    receipt_is g c.args.chunk.now r p c.requires c.in_ok-chunk.ensures.exact (subst (λ flags. (names : Names) (k : IsKept names p (kept_by p flags)) → r ≡ receipt_of k.parts) c.in_ok-kept.ensures.ok c.in_ok-receipt_of_scrub.ensures.ok)
+    receipt_is g c.args.chunk.now r p c.requires c.in_ok-chunk.ensures.exact
+    (subst (λ flags. (names : Names) (k : IsKept names p (kept_by p flags)) → r ≡ receipt_of k.parts) c.in_ok-kept.ensures.ok c.in_ok-receipt_of_scrub.ensures.ok)
 
 pub returns-clause-ok : goal.returns-clause-ok
 returns-clause-ok c = (made c).0

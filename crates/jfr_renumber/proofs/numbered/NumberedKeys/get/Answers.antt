@@ -16,7 +16,8 @@ pub index-requires : goal.index-requires
 index-requires c =
     let t : ℕ × ℕ = (c.args.class, c.args.key) in
     let k : NumberedPairs = record { pairs = c.self.inside.pairs.items; numbers = c.self.inside.numbers.items } in
-    subst (λ n. c.in_ok-at.at < n) (sym c.self.inside.numbers.ok.0) (index_within k c.in_ok-at.at t c.self.invariant.1 (ap (λ z. slice_get z c.in_ok-at.at) (sym c.deref.ensures.value) ∙ c.in_ok-at.ensures.found))
+    subst (λ n. c.in_ok-at.at < n) (sym c.self.inside.numbers.ok.0)
+    (index_within k c.in_ok-at.at t c.self.invariant.1 (ap (λ z. slice_get z c.in_ok-at.at) (sym c.deref.ensures.value) ∙ c.in_ok-at.ensures.found))
 
 pub returns : goal.returns
 returns c =

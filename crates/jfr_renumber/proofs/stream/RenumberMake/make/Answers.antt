@@ -10,4 +10,5 @@ pub returns-clause-ok : goal.returns-clause-ok
 returns-clause-ok c = (made_of c.args.self.now.filter.now c.args.chunk.now c.in_ok-renumberer.renumberer.bytes c.in_ok-chunk.chunk c.in_ok-chunk.ensures.exact c.in_ok-renumberer.ensures.bytes).0
 
 pub returns-clause-made : goal.returns-clause-made
-returns-clause-made c = c.into_bytes.ensures ∙ (made_of c.args.self.now.filter.now c.args.chunk.now c.in_ok-renumberer.renumberer.bytes c.in_ok-chunk.chunk c.in_ok-chunk.ensures.exact c.in_ok-renumberer.ensures.bytes).1
+returns-clause-made c = c.into_bytes.ensures
+    ∙ (made_of c.args.self.now.filter.now c.args.chunk.now c.in_ok-renumberer.renumberer.bytes c.in_ok-chunk.chunk c.in_ok-chunk.ensures.exact c.in_ok-renumberer.ensures.bytes).1

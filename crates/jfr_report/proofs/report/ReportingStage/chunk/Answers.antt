@@ -11,7 +11,8 @@ use Rattle.jfr_report.proofs.report.ReportingStage.chunk.Goals as goal
 pub returns-in-Err-clause-contents : goal.returns-in-Err-clause-contents
 returns-in-Err-clause-contents g c = λ before s number.
     let texts = g.R.Report.texts c.args.self.now.report (length before + 1) in
-    chunk_refused (g.P.Place.state c.args._place.now).steady (asks_texts (length before + 1) texts (read_parts c.args.chunk.now)) (length before + 1) c.args.number c.in-Err.fault c.of_chunk.result (g.O.Sink.state c.args.out.now).written (g.P.Place.state c.args._place.now).contents c.of_chunk.ensures number
+    chunk_refused (g.P.Place.state c.args._place.now).steady (asks_texts (length before + 1) texts (read_parts c.args.chunk.now)) (length before + 1) c.args.number c.in-Err.fault c.of_chunk.result
+    (g.O.Sink.state c.args.out.now).written (g.P.Place.state c.args._place.now).contents c.of_chunk.ensures number
     (λ f e. ap (asks_texts (length before + 1) texts) (rw e at c.in-Err.ensures.exact))
 
 pub returns-in-Err-clause-counts : goal.returns-in-Err-clause-counts
@@ -23,7 +24,8 @@ returns-clause-seen g c = λ before s number.
 
 pub returns-clause-contents : goal.returns-clause-contents
 returns-clause-contents g c = λ before s number.
-    chunk_told (g.P.Place.state c.args._place.now).steady c.args.number (length before + 1) (g.R.Report.texts c.args.self.now.report) c.args.chunk.now c.in-Ok.chunk c.chunk-written.result (g.P.Place.state c.args._place.now).contents (g.O.Sink.state c.args.out.now).written (g.O.Sink.state c.chunk-written.new.out).written
+    chunk_told (g.P.Place.state c.args._place.now).steady c.args.number (length before + 1) (g.R.Report.texts c.args.self.now.report) c.args.chunk.now c.in-Ok.chunk c.chunk-written.result
+    (g.P.Place.state c.args._place.now).contents (g.O.Sink.state c.args.out.now).written (g.O.Sink.state c.chunk-written.new.out).written
     c.in-Ok.ensures.exact number c.chunk-written.ensures.texts
 
 pub returns-clause-rule : goal.returns-clause-rule

@@ -13,9 +13,11 @@ returns-clause-ok c =
 pub returns-clause-keeps : goal.returns-clause-keeps
 returns-clause-keeps c =
     subst (λ (z : PieceList). Keeps z.pieces c.put_header.new.self.pieces) c.self.view_is
-    (keeps_then _ _ _ (keeps_settled c.self.inside.pieces.pieces c.copy.new.self.pieces c.self.inside.from c.self.inside.to c.in_ok-copy.ensures.grows.keeps c.in_ok-copy.ensures.copied) c.in_ok-put_header.ensures.keeps)
+    (keeps_then _ _ _ (keeps_settled c.self.inside.pieces.pieces c.copy.new.self.pieces c.self.inside.from c.self.inside.to c.in_ok-copy.ensures.grows.keeps c.in_ok-copy.ensures.copied)
+    c.in_ok-put_header.ensures.keeps)
 
 pub returns-clause-made : goal.returns-clause-made
 returns-clause-made c =
     c.in_ok-put_header.ensures.made
-    ∙ ap (λ z. ChunkHeader ∷ z) (settled_parts c.self.inside.pieces.pieces c.copy.new.self.pieces c.args.self.pieces c.self.inside.from c.self.inside.to c.in_ok-copy.ensures.grows (ap (λ (z : PieceList). z.pieces) c.self.view_is))
+    ∙ ap (λ z. ChunkHeader ∷ z) (settled_parts c.self.inside.pieces.pieces c.copy.new.self.pieces c.args.self.pieces c.self.inside.from c.self.inside.to c.in_ok-copy.ensures.grows
+    (ap (λ (z : PieceList). z.pieces) c.self.view_is))

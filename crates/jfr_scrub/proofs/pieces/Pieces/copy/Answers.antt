@@ -11,11 +11,14 @@ returns-in_err-push-clause-numbers c = λ a. subst (AllByRecursion (IsMadeBytesI
 
 pub invariant_of-self-2 : goal.invariant_of-self-2
 invariant_of-self-2 c =
-    lies_range _ _ c.self.inside.ranges.items c.push.new.self.items c.args.from c.args.to c.self.invariant c.in_ok-push.ensures.items c.requires.order (subst (λ (z : PieceList). c.args.to ≤ length z.chunk) (sym c.self.view_is) c.requires.within)
+    lies_range _ _ c.self.inside.ranges.items c.push.new.self.items c.args.from c.args.to c.self.invariant c.in_ok-push.ensures.items c.requires.order
+    (subst (λ (z : PieceList). c.args.to ≤ length z.chunk) (sym c.self.view_is) c.requires.within)
 
 pub returns-clause-grows : goal.returns-clause-grows
 returns-clause-grows c =
-    subst (λ (z : PieceList). Grows z.pieces c.push.new.self.items []) c.self.view_is (grows_left c.self.inside.ranges.items (Copied c.args.from c.args.to ∷ []) c.push.new.self.items c.in_ok-push.ensures.items)
+    subst (λ (z : PieceList). Grows z.pieces c.push.new.self.items []) c.self.view_is
+    (grows_left c.self.inside.ranges.items (Copied c.args.from c.args.to ∷ []) c.push.new.self.items c.in_ok-push.ensures.items)
 
 pub returns-clause-numbers : goal.returns-clause-numbers
-returns-clause-numbers c = λ a. numbers_range c.self.inside.made.items c.self.inside.ranges.items c.push.new.self.items c.args.from c.args.to c.in_ok-push.ensures.items (subst AreMadeBytes (sym c.self.view_is) a)
+returns-clause-numbers c = λ a. numbers_range c.self.inside.made.items c.self.inside.ranges.items c.push.new.self.items c.args.from c.args.to c.in_ok-push.ensures.items
+    (subst AreMadeBytes (sym c.self.view_is) a)

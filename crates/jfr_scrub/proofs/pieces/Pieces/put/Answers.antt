@@ -14,12 +14,14 @@ returns-in_err-push-clause-numbers c = λ a.
 
 pub invariant_of-self-2 : goal.invariant_of-self-2
 invariant_of-self-2 c =
-    lies_last (length c.self.inside.chunk.now) c.self.inside.made.items c.args.bytes.now c.extend_from_slice.new.self.items c.self.inside.ranges.items c.push.new.self.items c.args.part c.len-from.result c.len.result c.self.invariant
+    lies_last (length c.self.inside.chunk.now) c.self.inside.made.items c.args.bytes.now c.extend_from_slice.new.self.items c.self.inside.ranges.items c.push.new.self.items c.args.part
+    c.len-from.result c.len.result c.self.invariant
     c.in_ok-extend_from_slice.ensures.items (search rules) (search rules) c.in_ok-push.ensures.items
 
 pub returns-clause-ok : goal.returns-clause-ok
 returns-clause-ok c =
-    put_last c.self.inside.chunk.now c.self.inside.made.items c.args.bytes.now c.extend_from_slice.new.self.items c.self.inside.ranges.items c.push.new.self.items c.args.part c.len-from.result c.len.result c.self.invariant
+    put_last c.self.inside.chunk.now c.self.inside.made.items c.args.bytes.now c.extend_from_slice.new.self.items c.self.inside.ranges.items c.push.new.self.items c.args.part c.len-from.result
+    c.len.result c.self.invariant
     c.in_ok-extend_from_slice.ensures.items (search rules) (search rules) c.in_ok-push.ensures.items
     ∙ ap (λ z. joined z ++ c.args.bytes.now) c.self.view_is
 
@@ -30,5 +32,6 @@ returns-clause-grows c =
 
 pub returns-clause-numbers : goal.returns-clause-numbers
 returns-clause-numbers c = λ a.
-    numbers_last (length c.self.inside.chunk.now) c.self.inside.made.items c.args.bytes.now c.extend_from_slice.new.self.items c.self.inside.ranges.items c.push.new.self.items c.args.part c.len-from.result c.len.result c.self.invariant
+    numbers_last (length c.self.inside.chunk.now) c.self.inside.made.items c.args.bytes.now c.extend_from_slice.new.self.items c.self.inside.ranges.items c.push.new.self.items c.args.part
+    c.len-from.result c.len.result c.self.invariant
     c.in_ok-extend_from_slice.ensures.items (search rules) (search rules) c.in_ok-push.ensures.items c.requires (subst AreMadeBytes (sym c.self.view_is) a)

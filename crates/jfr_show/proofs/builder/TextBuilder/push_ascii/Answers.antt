@@ -4,4 +4,8 @@ use Rattle.jfr_show.proofs.TextLaws.{grown_plain, plain_ascii}
 use Rattle.jfr_show.proofs.builder.TextBuilder.push_ascii.Goals as goal
 
 pub returns : goal.returns
-returns c = record { ok = grown_plain c.args.self.now (string_bytes c.self.inside.text) (string_bytes c.push_str.new.self) c.args.text.now c.self.view_is (IsUtf8-string_bytes c.self.inside.text) (plain_ascii c.args.text.now c.requires.ascii) c.in_ok-push_str.ensures.bytes; unchanged = tt }
+returns c = record {
+  ok = grown_plain c.args.self.now (string_bytes c.self.inside.text) (string_bytes c.push_str.new.self) c.args.text.now c.self.view_is (IsUtf8-string_bytes c.self.inside.text)
+      (plain_ascii c.args.text.now c.requires.ascii) c.in_ok-push_str.ensures.bytes;
+  unchanged = tt;
+}

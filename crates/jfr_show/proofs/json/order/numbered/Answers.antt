@@ -20,7 +20,8 @@ loop-number-preserved c =
     let field = c.field-item.result in
     let at = item_of fs c.as_slice-field-items.result.now n field c.as_slice-field-items.ensures (omega arith) c.field-item.is in
     let key = sym (encodes-chars c.as_str.result.now c.as_str.utf8) ∙ ap encode_utf8_all c.as_str.ensures in
-    sym (one_number (drop n fs) (drop (n + 1) fs) field n c.as_str.result.now (view c.from.result) (members_view c.loop-number.members.entries) (members_view c.put.new.map.entries) (fields_from fs n field at) key c.from.ensures c.in_ok-put.ensures.ok)
+    sym (one_number (drop n fs) (drop (n + 1) fs) field n c.as_str.result.now (view c.from.result) (members_view c.loop-number.members.entries) (members_view c.put.new.map.entries)
+    (fields_from fs n field at) key c.from.ensures c.in_ok-put.ensures.ok)
     ∙ c.loop-number.invariant
 
 pub returns : goal.returns

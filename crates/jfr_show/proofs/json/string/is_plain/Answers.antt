@@ -10,7 +10,8 @@ pub loop-byte-preserved : goal.loop-byte-preserved
 loop-byte-preserved c = λ h.
     (let xs = c.as_bytes-byte-items.result.now in
     let x = get_or xs c.loop-byte.byte-index 0 in
-    c.loop-byte.invariant (subst IsPlain (sym (drop_more xs c.loop-byte.byte-index 0 (omega arith))) (one_plain x (drop (c.loop-byte.byte-index + 1) xs) c.if-byte-lt32.false c.if-byte-eq34.false c.if-byte-eq92.false h)))
+    c.loop-byte.invariant (subst IsPlain (sym (drop_more xs c.loop-byte.byte-index 0 (omega arith)))
+    (one_plain x (drop (c.loop-byte.byte-index + 1) xs) c.if-byte-lt32.false c.if-byte-eq34.false c.if-byte-eq92.false h)))
 
 pub returns : goal.returns
 returns c = λ yes.

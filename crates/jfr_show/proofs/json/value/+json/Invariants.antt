@@ -49,7 +49,8 @@ invariant-push_items-items l = record {
 abbrev pub invariant-push_members-loop-lead : goal.invariant-push_members-loop-lead
 invariant-push_members-loop-lead l = record {
   cached : AreCachedJson l.source.chunk.now l.cache;
-  laid : (at to : ℕ) (vs : Values) → AreValues l.source.chunk.now.classes l.source.chunk.now.bytes at to (field_shapes l.source.chunk.now.classes l.offsets.class_index) vs → AreOffsets l.offsets at to vs
+  laid : (at to : ℕ) (vs : Values) → AreValues l.source.chunk.now.classes l.source.chunk.now.bytes at to (field_shapes l.source.chunk.now.classes l.offsets.class_index) vs
+      → AreOffsets l.offsets at to vs
       → string_bytes l.out ++ laid_out (map lead_of (drop l.lead-index l.lead-items)) (json_of_all l.source.chunk.now.classes (referred_json l.source.chunk.now l.source.reach.references) vs)
       ≡ string_bytes l.initial.out ++ laid_out (map lead_of l.lead-items) (json_of_all l.source.chunk.now.classes (referred_json l.source.chunk.now l.source.reach.references) vs);
 }

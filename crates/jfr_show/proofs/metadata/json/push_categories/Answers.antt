@@ -16,7 +16,12 @@ loop-category-preserved c =
     let spaced = string_bytes c.push_comma.new.out in
     let new = string_bytes c.push_string.new.out in
     let pushed = text_added spaced new c.as_str.result.now category c.as_str.utf8 c.as_str.ensures c.in_ok-push_string.ensures.ok in
-    next_written text_json c.args.categories.now i category c.loop-category.later (string_bytes c.push_str.new.self) (string_bytes c.loop-category.out) spaced new at c.loop-category.invariant c.in_ok-push_comma.ensures.ok pushed
+    next_written text_json c.args.categories.now i category c.loop-category.later (string_bytes c.push_str.new.self)
+    (string_bytes c.loop-category.out) spaced new at c.loop-category.invariant c.in_ok-push_comma.ensures.ok pushed
 
 pub returns : goal.returns
-returns c = record { ok = whole_written text_json c.args.categories.now c.loop-category.category-index c.loop-category.later (string_bytes c.args.out.now) (string_bytes c.push_str.new.self) (string_bytes c.loop-category.out) (string_bytes c.push_str-2.new.self) (omega (arith, ap length c.as_slice-category-items.ensures)) c.in_ok-push_str.ensures.bytes c.loop-category.invariant c.in_ok-push_str-2.ensures.bytes }
+returns c = record {
+  ok = whole_written text_json c.args.categories.now c.loop-category.category-index c.loop-category.later (string_bytes c.args.out.now) (string_bytes c.push_str.new.self)
+      (string_bytes c.loop-category.out) (string_bytes c.push_str-2.new.self) (omega (arith, ap length c.as_slice-category-items.ensures)) c.in_ok-push_str.ensures.bytes c.loop-category.invariant
+      c.in_ok-push_str-2.ensures.bytes;
+}

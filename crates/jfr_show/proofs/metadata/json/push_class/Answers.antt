@@ -41,7 +41,33 @@ returns c =
           ∷ (codes ",\"fields\":", t10)
           ∷ (compact_text (array_of (field_json k) d.fields), t11)
           ∷ (codes "}", t12)
-          ∷ []) t12
-          (c.in_ok-push_str.ensures.bytes, (c.in_ok-push_number.ensures.ok, (c.in_ok-push_str-2.ensures.bytes, (e3, (c.in_ok-push_str-3.ensures.bytes, (c.in_ok-push_number-2.ensures.ok, (c.in_ok-push_str-4.ensures.bytes, (c.in_ok-push_super.ensures.ok, (c.in_ok-push_str-5.ensures.bytes, (c.in_ok-push_categories.ensures.ok, (c.in_ok-push_str-6.ensures.bytes, (c.in_ok-push_fields.ensures.ok, (c.in_ok-push_str-7.ensures.bytes, refl)))))))))))))
+          ∷ []) t12 (
+            c.in_ok-push_str.ensures.bytes,
+            (
+              c.in_ok-push_number.ensures.ok,
+              (
+                c.in_ok-push_str-2.ensures.bytes,
+                (
+                  e3,
+                  (
+                    c.in_ok-push_str-3.ensures.bytes,
+                    (
+                      c.in_ok-push_number-2.ensures.ok,
+                      (
+                        c.in_ok-push_str-4.ensures.bytes,
+                        (
+                          c.in_ok-push_super.ensures.ok,
+                          (
+                            c.in_ok-push_str-5.ensures.bytes,
+                            (c.in_ok-push_categories.ensures.ok, (c.in_ok-push_str-6.ensures.bytes, (c.in_ok-push_fields.ensures.ok, (c.in_ok-push_str-7.ensures.bytes, refl)))),
+                          ),
+                        ),
+                      ),
+                    ),
+                  ),
+                ),
+              ),
+            ),
+          )
           ∙ ap (λ z. was ++ z) (class_text c.args.number k d);
     }

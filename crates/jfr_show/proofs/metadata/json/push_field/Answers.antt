@@ -38,7 +38,30 @@ returns c =
           ∷ (codes ",\"array\":", t8)
           ∷ (compact_text (boolean f.shape.array), t9)
           ∷ (codes "}", t10)
-          ∷ []) t10
-          (c.in_ok-push_str.ensures.bytes, (e1, (c.in_ok-push_str-2.ensures.bytes, (e3, (c.in_ok-push_str-3.ensures.bytes, (c.in_ok-push_number.ensures.ok, (c.in_ok-push_str-4.ensures.bytes, (c.in_ok-push_flag.ensures.ok, (c.in_ok-push_str-5.ensures.bytes, (c.in_ok-push_flag-2.ensures.ok, (c.in_ok-push_str-6.ensures.bytes, refl)))))))))))
+          ∷ []) t10 (
+            c.in_ok-push_str.ensures.bytes,
+            (
+              e1,
+              (
+                c.in_ok-push_str-2.ensures.bytes,
+                (
+                  e3,
+                  (
+                    c.in_ok-push_str-3.ensures.bytes,
+                    (
+                      c.in_ok-push_number.ensures.ok,
+                      (
+                        c.in_ok-push_str-4.ensures.bytes,
+                        (
+                          c.in_ok-push_flag.ensures.ok,
+                          (c.in_ok-push_str-5.ensures.bytes, (c.in_ok-push_flag-2.ensures.ok, (c.in_ok-push_str-6.ensures.bytes, refl))),
+                        ),
+                      ),
+                    ),
+                  ),
+                ),
+              ),
+            ),
+          )
           ∙ ap (λ z. was ++ z) (field_text k f);
     }

@@ -12,7 +12,12 @@ loop-field-preserved c =
     let i = c.loop-field.field-index in
     let field = c.field-item.result in
     let at = item_of c.args.fields.now c.as_slice-field-items.result.now i field c.as_slice-field-items.ensures (omega arith) c.field-item.is in
-    next_written (field_json c.args.chunk.now.classes) c.args.fields.now i field c.loop-field.later (string_bytes c.push_str.new.self) (string_bytes c.loop-field.out) (string_bytes c.push_comma.new.out) (string_bytes c.push_field.new.out) at c.loop-field.invariant c.in_ok-push_comma.ensures.ok c.in_ok-push_field.ensures.ok
+    next_written (field_json c.args.chunk.now.classes) c.args.fields.now i field c.loop-field.later (string_bytes c.push_str.new.self) (string_bytes c.loop-field.out)
+    (string_bytes c.push_comma.new.out) (string_bytes c.push_field.new.out) at c.loop-field.invariant c.in_ok-push_comma.ensures.ok c.in_ok-push_field.ensures.ok
 
 pub returns : goal.returns
-returns c = record { ok = whole_written (field_json c.args.chunk.now.classes) c.args.fields.now c.loop-field.field-index c.loop-field.later (string_bytes c.args.out.now) (string_bytes c.push_str.new.self) (string_bytes c.loop-field.out) (string_bytes c.push_str-2.new.self) (omega (arith, ap length c.as_slice-field-items.ensures)) c.in_ok-push_str.ensures.bytes c.loop-field.invariant c.in_ok-push_str-2.ensures.bytes }
+returns c = record {
+  ok = whole_written (field_json c.args.chunk.now.classes) c.args.fields.now c.loop-field.field-index c.loop-field.later (string_bytes c.args.out.now)
+      (string_bytes c.push_str.new.self) (string_bytes c.loop-field.out) (string_bytes c.push_str-2.new.self)
+      (omega (arith, ap length c.as_slice-field-items.ensures)) c.in_ok-push_str.ensures.bytes c.loop-field.invariant c.in_ok-push_str-2.ensures.bytes;
+}

@@ -14,4 +14,7 @@ loop-class-preserved c =
     pieces_more (λ d. json_line (class_json c.args.number classes d)) classes i class c.args.out.now c.loop-class.out c.show_class.new.out at c.loop-class.invariant c.in_ok-show_class.ensures.ok
 
 pub returns : goal.returns
-returns c = record { ok = lines_are c.args.chunk.now c.args.number c.loop-class.class-index c.args.out.now c.loop-class.out (omega (arith, ap length c.as_slice-class-items.ensures, ap length c.classes-classes.ensures)) c.loop-class.invariant }
+returns c = record {
+  ok = lines_are c.args.chunk.now c.args.number c.loop-class.class-index c.args.out.now c.loop-class.out
+      (omega (arith, ap length c.as_slice-class-items.ensures, ap length c.classes-classes.ensures)) c.loop-class.invariant;
+}

@@ -40,7 +40,11 @@ overflow_add-self-6 c =
     let m : c.count_in_force.result ≤ length c.pools.result.now = c.count_in_force.ensures.most in
     let n : length c.pools.result.now ≡ length p.entries = ap length c.pools.ensures in
     let o : length p.entries ≤ length p.bytes = (chunk_short p c.bytes.ensures.parts).entries in
-    omega (arith, sum_fits c.self.inside.constants c.count_in_force.result c.self.inside.bytes c.self.inside.chunks (length p.bytes) i.chunks i.bytes i.constants (omega arith) (whole_small p.bytes c.bytes.ensures.whole))
+    omega (
+      arith,
+      sum_fits c.self.inside.constants c.count_in_force.result c.self.inside.bytes c.self.inside.chunks (length p.bytes) i.chunks i.bytes i.constants (omega arith)
+          (whole_small p.bytes c.bytes.ensures.whole),
+    )
 
 pub overflow_add-self-7 : goal.overflow_add-self-7
 overflow_add-self-7 c =
@@ -78,14 +82,17 @@ invariant_of-self c =
     let n : length c.pools.result.now ≡ length p.entries = ap length c.pools.ensures in
     let o = short.entries in
     let z : c.inert_count.result ≤ length p.bytes = subst (λ n. n ≤ length p.bytes) (sym c.inert_count.ensures) short.inert in
-    let below : AreBelow (c.self.inside.bytes + length c.bytes.result.now) (tallies_in c.add_events.new.tallies) = subst (λ n. AreBelow (c.self.inside.bytes + n) (tallies_in c.add_events.new.tallies)) (sym size) (c.add_events.ensures.below c.self.inside.bytes i.tallies) in
-    bounded_next (totals_in c.self.inside) c.or-self-inside.result (length c.bytes.result.now) c.from.result c.event_count.result c.len.result c.count_in_force.result c.inert_count.result (tallies_in c.add_events.new.tallies)
+    let below : AreBelow (c.self.inside.bytes + length c.bytes.result.now) (tallies_in c.add_events.new.tallies) =
+    subst (λ n. AreBelow (c.self.inside.bytes + n) (tallies_in c.add_events.new.tallies)) (sym size) (c.add_events.ensures.below c.self.inside.bytes i.tallies) in
+    bounded_next (totals_in c.self.inside) c.or-self-inside.result (length c.bytes.result.now) c.from.result c.event_count.result c.len.result c.count_in_force.result c.inert_count.result
+    (tallies_in c.add_events.new.tallies)
     i few (omega arith) long (omega arith) (omega arith) (omega arith) (omega arith) below
 
 pub returns : goal.returns
 returns c = record {
   ok = on_ok_weaker c.add_events.result (λ adds ps is.
-      totals_added (totals_in c.self.inside) ps c.args.chunk.now c.or-self-inside.result (length c.bytes.result.now) c.from.result c.event_count.result c.len.result c.count_in_force.result c.inert_count.result (tallies_in c.add_events.new.tallies)
+      totals_added (totals_in c.self.inside) ps c.args.chunk.now c.or-self-inside.result (length c.bytes.result.now) c.from.result c.event_count.result c.len.result c.count_in_force.result
+      c.inert_count.result (tallies_in c.add_events.new.tallies)
       (c.self.view_is ∙ is)
       (c.or-self-inside.ensures ∙ ap (λ b. option_or c.self.inside.first (Some b)) (c.of.ensures ∙ ap beginning_of c.header-header.ensures))
       (record {
@@ -104,4 +111,8 @@ overflow_add-self-2 c =
     let p = c.args.chunk.now in
     let i = c.self.invariant in
     let size : length c.bytes.result.now ≡ length p.bytes = ap length c.bytes.ensures.exact in
-    omega (arith, sum_fits c.self.inside.bytes (length c.bytes.result.now) c.self.inside.bytes c.self.inside.chunks (length p.bytes) i.chunks i.bytes (omega arith) (omega arith) (whole_small p.bytes c.bytes.ensures.whole))
+    omega (
+      arith,
+      sum_fits c.self.inside.bytes (length c.bytes.result.now) c.self.inside.bytes c.self.inside.chunks (length p.bytes) i.chunks i.bytes (omega arith) (omega arith)
+          (whole_small p.bytes c.bytes.ensures.whole),
+    )

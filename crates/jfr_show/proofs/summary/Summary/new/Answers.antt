@@ -20,4 +20,5 @@ invariant_of-result c = record {
 
 pub returns : goal.returns
 unfolding totals_of
-returns c = ap (λ es. record { first = None; chunks = 0; bytes = 0; duration = 0; events = 0; checkpoints = 0; constants = 0; inert = 0; tallies = fin.from_entries (map entry_of es) }) c.new.ensures.empty
+returns c = ap (λ es. record { first = None; chunks = 0; bytes = 0; duration = 0; events = 0; checkpoints = 0; constants = 0; inert = 0; tallies = fin.from_entries (map entry_of es) })
+    c.new.ensures.empty

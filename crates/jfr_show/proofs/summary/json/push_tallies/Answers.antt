@@ -19,7 +19,8 @@ pub loop-name-preserved : goal.loop-name-preserved
 loop-name-preserved c =
     let spaced = string_bytes c.push_comma.new.out in
     let pushed = c.in_ok-push_tally.ensures.ok ∙ ap (λ name. spaced ++ compact_text (tally_json (name, c.in-Some.tally.now))) c.as_str.ensures.value in
-    one_written (λ e. tally_json (entry_of (deref_pair e))) c.loop-name.yielded (c.in-Some.name, c.in-Some.tally) c.loop-name.later (string_bytes c.push_str.new.self) (string_bytes c.loop-name.out) spaced (string_bytes c.push_tally.new.out) c.loop-name.invariant c.in_ok-push_comma.ensures.ok pushed
+    one_written (λ e. tally_json (entry_of (deref_pair e))) c.loop-name.yielded (c.in-Some.name, c.in-Some.tally) c.loop-name.later (string_bytes c.push_str.new.self)
+    (string_bytes c.loop-name.out) spaced (string_bytes c.push_tally.new.out) c.loop-name.invariant c.in_ok-push_comma.ensures.ok pushed
 
 pub returns : goal.returns
 returns c =
@@ -31,6 +32,7 @@ returns c =
     let objects : map (λ e. tally_json (entry_of (deref_pair e))) yielded ≡ map tally_json (fin.entries (tallies_in m)) =
     sym (map-map tally_json (λ e. entry_of (deref_pair e)) yielded) ∙ ap (map tally_json) (sym (map-map entry_of deref_pair yielded) ∙ named) in
     record {
-      ok = all_written (λ e. tally_json (entry_of (deref_pair e))) yielded c.loop-name.later was (string_bytes c.push_str.new.self) (string_bytes c.loop-name.out) (string_bytes c.push_str-2.new.self) c.in_ok-push_str.ensures.bytes c.loop-name.invariant c.in_ok-push_str-2.ensures.bytes
+      ok = all_written (λ e. tally_json (entry_of (deref_pair e))) yielded c.loop-name.later was (string_bytes c.push_str.new.self) (string_bytes c.loop-name.out)
+          (string_bytes c.push_str-2.new.self) c.in_ok-push_str.ensures.bytes c.loop-name.invariant c.in_ok-push_str-2.ensures.bytes
           ∙ ap (λ ds. was ++ compact_text (array (items_of ds))) objects;
     }

@@ -19,6 +19,7 @@ returns c =
     let e2 = number_added t1 t2 (codes ",\"events\":") c.from.result c.args.tally.events c.from.ensures c.in_ok-push_total.ensures.ok in
     let e3 = number_added t2 t3 (codes ",\"bytes\":") c.from-2.result c.args.tally.bytes c.from-2.ensures c.in_ok-push_total-2.ensures.ok in
     record {
-      ok = all_added was ((codes "{\"name\":", t0) ∷ (p1, t1) ∷ (p2, t2) ∷ (p3, t3) ∷ (codes "}", t4) ∷ []) t4 (c.in_ok-push_str.ensures.bytes, (c.in_ok-push_string.ensures.ok, (e2, (e3, (c.in_ok-push_str-2.ensures.bytes, refl)))))
+      ok = all_added was ((codes "{\"name\":", t0) ∷ (p1, t1) ∷ (p2, t2) ∷ (p3, t3) ∷ (codes "}", t4) ∷ []) t4
+          (c.in_ok-push_str.ensures.bytes, (c.in_ok-push_string.ensures.ok, (e2, (e3, (c.in_ok-push_str-2.ensures.bytes, refl)))))
           ∙ ap (λ z. was ++ z) (tally_text c.args.name.now c.args.tally);
     }

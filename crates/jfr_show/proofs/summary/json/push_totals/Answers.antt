@@ -48,7 +48,12 @@ returns c =
           ∷ (codes ",\"types\":", t10)
           ∷ (compact_text (tallies_json t.tallies), t11)
           ∷ (codes "}", t12)
-          ∷ []) t12
-          (c.in_ok-push_str.ensures.bytes, (c.in_ok-push_version.ensures.ok, (e2, (e3, (e4, (e5, (e6, (e7, (e8, (e9, (c.in_ok-push_str-2.ensures.bytes, (e11, (c.in_ok-push_str-3.ensures.bytes, refl)))))))))))))
+          ∷ []) t12 (
+            c.in_ok-push_str.ensures.bytes,
+            (
+              c.in_ok-push_version.ensures.ok,
+              (e2, (e3, (e4, (e5, (e6, (e7, (e8, (e9, (c.in_ok-push_str-2.ensures.bytes, (e11, (c.in_ok-push_str-3.ensures.bytes, refl))))))))))),
+            ),
+          )
           ∙ ap (λ z. was ++ z) (totals_text t c.args.first);
     }

@@ -10,4 +10,8 @@ returns-in_ok-push_totals-in-Some c =
     let t = c.args.summary.now in
     let first = ap (λ (z : Totals). z.first) (sym c.summary.view_is) ∙ c.in-Some.is in
     let written = c.as_str.ensures.value ∙ (c.in_ok-push_totals-in-Some.ensures.ok ∙ ap (λ z. z ++ compact_text (totals_json t c.in-Some.first)) c.new-line.ensures.bytes) in
-    record { ok = on_ok_weaker c.push_line.result (λ h. line_added c.args.out.now c.push_line.new.self c.as_str.result.now (totals_json t c.in-Some.first) written h ∙ ap (λ z. c.args.out.now ++ z) (totals_line t c.in-Some.first first)) c.push_line.ensures.ok }
+    record {
+      ok = on_ok_weaker c.push_line.result
+          (λ h. line_added c.args.out.now c.push_line.new.self c.as_str.result.now (totals_json t c.in-Some.first) written h ∙ ap (λ z. c.args.out.now ++ z) (totals_line t c.in-Some.first first))
+          c.push_line.ensures.ok;
+    }

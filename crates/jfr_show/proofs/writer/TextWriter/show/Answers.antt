@@ -17,5 +17,6 @@ returns-clause-ok c =
     c.in_ok-show_node.ensures.ok
     ∙ (ap (λ (z : Depth). c.args.out.now ++ node_shown p (referred p z.reach.references) z.level (node_of c.fields_of-node.result)) c.of_event.ensures
     ∙ ap (λ z. c.args.out.now ++ node_shown p (referred p c.args.depth) 0 z) c.fields_of-node.ensures.exact) in
-    let whole = ap (λ z. z ++ newline) shown ∙ (append_assoc c.args.out.now value newline ∙ ap (λ z. c.args.out.now ++ z) (sym (event_is p c.args.depth n) ∙ ap (λ (q : Parts). event_shown q c.args.depth n) c.self.view_is)) in
+    let whole = ap (λ z. z ++ newline) shown
+    ∙ (append_assoc c.args.out.now value newline ∙ ap (λ z. c.args.out.now ++ z) (sym (event_is p c.args.depth n) ∙ ap (λ (q : Parts). event_shown q c.args.depth n) c.self.view_is)) in
     subst (λ z. OnOk c.push_ascii.result (c.push_ascii.new.self ≡ z)) whole c.push_ascii.ensures.ok

@@ -14,7 +14,8 @@ returns-in_err-write_chunk-clause-contents g c = λ before seen number.
     let rule = c.args.self.now.split.rule.now in
     let x = c.args.chunk.now in
     let sink = g.O.Sink.state c.args._out.now in
-    rw (e.1, e.2) (subst (λ (p : Part). IsAfterPart (asks_part rule (part_name (folder_of rule) c.args.self.now.split.file.now) (begins rule p x) p x) (Err c.in_err-write_chunk.field-0.0) (outside (g.P.Place.state c.args.place.now) sink) (outside (g.P.Place.state c.write_chunk.new.place) sink)) (sym seen) (c.in_err-write_chunk.ensures.contents sink))
+    rw (e.1, e.2) (subst (λ (p : Part). IsAfterPart (asks_part rule (part_name (folder_of rule) c.args.self.now.split.file.now) (begins rule p x) p x) (Err c.in_err-write_chunk.field-0.0)
+    (outside (g.P.Place.state c.args.place.now) sink) (outside (g.P.Place.state c.write_chunk.new.place) sink)) (sym seen) (c.in_err-write_chunk.ensures.contents sink))
 
 pub returns-clause-seen : goal.returns-clause-seen
 returns-clause-seen g c = λ before seen number.
@@ -26,7 +27,8 @@ returns-clause-contents g c = λ before seen number.
     let rule = c.args.self.now.split.rule.now in
     let x = c.args.chunk.now in
     let sink = g.O.Sink.state c.args._out.now in
-    subst (λ (p : Part). IsAfterPart (asks_part rule (part_name (folder_of rule) c.args.self.now.split.file.now) (begins rule p x) p x) (Ok (tt {0})) (outside (g.P.Place.state c.args.place.now) sink) (outside (g.P.Place.state c.write_chunk.new.place) sink)) (sym seen) (c.in_ok-write_chunk.ensures.contents sink)
+    subst (λ (p : Part). IsAfterPart (asks_part rule (part_name (folder_of rule) c.args.self.now.split.file.now) (begins rule p x) p x) (Ok (tt {0})) (outside (g.P.Place.state c.args.place.now) sink)
+    (outside (g.P.Place.state c.write_chunk.new.place) sink)) (sym seen) (c.in_ok-write_chunk.ensures.contents sink)
 
 pub returns-clause-counts : goal.returns-clause-counts
 returns-clause-counts g c = c.in_ok-write_chunk.ensures.counts (g.O.Sink.state c.args._out.now)

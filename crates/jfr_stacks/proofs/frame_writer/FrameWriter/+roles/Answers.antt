@@ -36,17 +36,20 @@ push_method-returns-in_ok-push_str-in-None-clause-ok t c =
 pub push_class-returns-in-Some-clause-ok : goal.push_class-returns-in-Some-clause-ok
 push_class-returns-in-Some-clause-ok t c =
     let found =
-    name_found c.args.chunk.now (node_of c.args.method.now) (node_of c.in-Some.class) (codes "type") (codes "name" ∷ codes "string" ∷ []) (c.in-Some.ensures.exact (codes "type") c.requires.ready.fields.class) in
+    name_found c.args.chunk.now (node_of c.args.method.now) (node_of c.in-Some.class) (codes "type") (codes "name" ∷ codes "string" ∷ [])
+    (c.in-Some.ensures.exact (codes "type") c.requires.ready.fields.class) in
     on_ok_weaker c.push_as.result (λ w. w ∙ ap (λ z. string_bytes c.args.out.now ++ z) (sym found)) c.push_as.ensures.ok
 
 pub push_class-returns-in-None-clause-ok : goal.push_class-returns-in-None-clause-ok
 push_class-returns-in-None-clause-ok t c =
-    let missing = name_missing c.args.chunk.now (node_of c.args.method.now) (codes "type") (codes "name" ∷ codes "string" ∷ []) (c.in-None.ensures.exact (codes "type") c.requires.ready.fields.class) in
+    let missing = name_missing c.args.chunk.now (node_of c.args.method.now) (codes "type") (codes "name" ∷ codes "string" ∷ [])
+    (c.in-None.ensures.exact (codes "type") c.requires.ready.fields.class) in
     on_ok_weaker c.push_missing.result (λ w. w ∙ ap (λ z. string_bytes c.args.out.now ++ z) (sym missing)) c.push_missing.ensures.ok
 
 pub push_name-returns-in-Some-clause-ok : goal.push_name-returns-in-Some-clause-ok
 push_name-returns-in-Some-clause-ok t c =
-    let found = name_found c.args.chunk.now (node_of c.args.named.now) (node_of c.in-Some.name) (codes "name") (codes "string" ∷ []) (c.in-Some.ensures.exact (codes "name") c.requires.ready.fields.name) in
+    let found = name_found c.args.chunk.now (node_of c.args.named.now) (node_of c.in-Some.name) (codes "name") (codes "string" ∷ [])
+    (c.in-Some.ensures.exact (codes "name") c.requires.ready.fields.name) in
     on_ok_weaker c.push_as.result (λ w. w ∙ ap (λ z. string_bytes c.args.out.now ++ z) (sym found)) c.push_as.ensures.ok
 
 pub push_name-returns-in-None-clause-ok : goal.push_name-returns-in-None-clause-ok

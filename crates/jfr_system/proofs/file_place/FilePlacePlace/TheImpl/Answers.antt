@@ -6,7 +6,18 @@ pub open_input-tells : goal.open_input-tells
 open_input-tells g c = record { contents = untold_leaves c.result _ _; there = nothing_on_ok c.result; reads = c.ensures.reads; writes = c.ensures.writes; same = refl; steady = λ _ _. tt }
 
 pub read-tells : goal.read-tells
-read-tells g c = record { bound = c.ensures.bound; contents = untold_leaves c.result _ _; bytes = nothing_if_ok c.result; end = nothing_if_ok c.result; «open» = nothing_on_ok c.result; reads = c.ensures.reads; writes = c.ensures.writes; same = refl; steady = λ _ _. tt }
+read-tells g c = record {
+  bound = c.ensures.bound;
+  contents = untold_leaves c.result _ _;
+  bytes = nothing_if_ok c.result;
+  end = nothing_if_ok c.result;
+  «open» = nothing_on_ok c.result;
+  reads =
+      c.ensures.reads;
+  writes = c.ensures.writes;
+  same = refl;
+  steady = λ _ _. tt;
+}
 
 pub create_output-tells : goal.create_output-tells
 create_output-tells g c = record { contents = untold_leaves c.result _ _; was_new = nothing_on_ok c.result; reads = c.ensures.reads; writes = c.ensures.writes; same = refl; steady = λ _ _. tt }

@@ -7,7 +7,8 @@ use Rattle.jfr_value.proofs.NextLeaf.{goes_on, nearer_end}
 use Rattle.jfr_value.proofs.leaves.LeavesIterator.next.Goals as goal
 
 step : (c : goal.After-next_in) → IsWalk c.self.inside.walk.classes.now c.self.inside.walk.bytes.now c.self.inside.walk.end c.next_in.new.cursor
-    × YieldsFirstBy leaf_of (λ l. l) (remaining_leaves c.self.inside.walk.classes.now c.self.inside.walk.bytes.now c.self.inside.walk.end c.self.inside.cursor) c.next_in.result (remaining_leaves c.self.inside.walk.classes.now c.self.inside.walk.bytes.now c.self.inside.walk.end c.next_in.new.cursor)
+    × YieldsFirstBy leaf_of (λ l. l) (remaining_leaves c.self.inside.walk.classes.now c.self.inside.walk.bytes.now c.self.inside.walk.end c.self.inside.cursor) c.next_in.result
+    (remaining_leaves c.self.inside.walk.classes.now c.self.inside.walk.bytes.now c.self.inside.walk.end c.next_in.new.cursor)
 step c =
     goes_on c.self.inside.walk.classes.now c.self.inside.walk.bytes.now c.self.inside.walk.end c.self.inside.cursor c.next_in.new.cursor c.self.invariant c.next_in.ensures.frames c.next_in.result
     (c.next_in.ensures.remaining (remaining_values c.self.inside.walk.classes.now c.self.inside.walk.bytes.now c.self.inside.walk.end c.self.inside.cursor) c.self.invariant.remaining)

@@ -11,7 +11,8 @@ returns-in-Ok-checked-clause-steps c = λ n qs at h.
     let t = take_one c.in-Some.output.now bs (iter_rest s.outputs) qs c.in-Some.ensures.steps h in (
       t.later,
       t.outputs,
-      λ k y d. pair_passes s.filter.now c.args.input.now c.in-Ok.output c.in-Some.output.now bs qs s.receipts.now n c.in-Ok-checked.len c.deref.result.now c.deref.ensures.value t c.in-Ok.ensures.exact c.in-Ok-checked.ensures.exact k y
+      λ k y d. pair_passes s.filter.now c.args.input.now c.in-Ok.output c.in-Some.output.now bs qs s.receipts.now n c.in-Ok-checked.len c.deref.result.now c.deref.ensures.value t c.in-Ok.ensures.exact
+          c.in-Ok-checked.ensures.exact k y
           (subst (λ z. ComparedWith s.filter.now k t.later z (n + 1) y) c.split_at.ensures.back d),
     )
 
@@ -20,4 +21,5 @@ returns-in-Err-checked-clause-steps c = λ n qs at h.
     let s = c.args.self.now in
     let bs = iter_rest c.next.new.self in
     let t = take_one c.in-Some.output.now bs (iter_rest s.outputs) qs c.in-Some.ensures.steps h in
-    rw c.of_check.ensures (pair_fails s.filter.now c.args.input.now c.in-Ok.output c.in-Some.output.now bs qs s.receipts.now n c.args.number c.in-Err-checked.fault c.deref.result.now at c.deref.ensures.value t c.in-Ok.ensures.exact c.in-Err-checked.ensures.exact)
+    rw c.of_check.ensures (pair_fails s.filter.now c.args.input.now c.in-Ok.output c.in-Some.output.now bs qs s.receipts.now n c.args.number c.in-Err-checked.fault c.deref.result.now at
+    c.deref.ensures.value t c.in-Ok.ensures.exact c.in-Err-checked.ensures.exact)

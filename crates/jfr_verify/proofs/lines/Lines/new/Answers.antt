@@ -13,4 +13,11 @@ invariant_of-result c =
     let k : vec_capacity c.in_ok-items.items ≡ c.args.count = c.in_ok-items.ensures.exact in
     let n : vec_len c.in_ok-items.items ≡ 0 = c.in_ok-items.ensures.len in
     let m : marked_count c.resize.new.self.items ≡ 0 = ap marked_count e ∙ count_none c.args.count in
-    record { room = omega arith; each = omega arith; listed = listed_none c.resize.new.self.items c.in_ok-items.items.items c.args.count e l c.in_ok-items.ensures.items; few = omega (arith, c.requires); low = omega arith }
+    record {
+      room = omega arith;
+      each = omega arith;
+      listed = listed_none c.resize.new.self.items c.in_ok-items.items.items c.args.count e l c.in_ok-items.ensures.items;
+      few = omega
+          (arith, c.requires);
+      low = omega arith;
+    }

@@ -10,7 +10,8 @@ use Rattle.jfr_verify.proofs.lines.Lines.put.Goals as goal
 
 pub push_within-requires : goal.push_within-requires
 push_within-requires c =
-    let u : is_marked c.args.self.now.flags.items c.args.number ≡ false = ap (slice_index_or c.args.self.now.flags.items c.args.number) (sym c.if-not-index.true) ∙ (sym c.index.ensures ∙ c.if-not-index.true) in
+    let u : is_marked c.args.self.now.flags.items c.args.number ≡ false =
+    ap (slice_index_or c.args.self.now.flags.items c.args.number) (sym c.if-not-index.true) ∙ (sym c.index.ensures ∙ c.if-not-index.true) in
     let l : length (slice_set c.args.self.now.flags.items c.args.number true) ≡ length c.args.self.now.flags.items = length-set c.args.self.now.flags.items c.args.number true in
     let k = count_le (slice_set c.args.self.now.flags.items c.args.number true) in
     let s = count_set c.args.self.now.flags.items c.args.number c.requires u in
@@ -20,7 +21,8 @@ push_within-requires c =
 
 pub invariant_of-self : goal.invariant_of-self
 invariant_of-self c =
-    let u : is_marked c.args.self.now.flags.items c.args.number ≡ false = ap (slice_index_or c.args.self.now.flags.items c.args.number) (sym c.if-not-index.true) ∙ (sym c.index.ensures ∙ c.if-not-index.true) in
+    let u : is_marked c.args.self.now.flags.items c.args.number ≡ false =
+    ap (slice_index_or c.args.self.now.flags.items c.args.number) (sym c.if-not-index.true) ∙ (sym c.index.ensures ∙ c.if-not-index.true) in
     let l : length (slice_set c.args.self.now.flags.items c.args.number true) ≡ length c.args.self.now.flags.items = length-set c.args.self.now.flags.items c.args.number true in
     let s = count_set c.args.self.now.flags.items c.args.number c.requires u in
     let a : vec_len c.args.self.now.items ≡ marked_count c.args.self.now.flags.items = c.args.self.now.each in
@@ -30,7 +32,8 @@ invariant_of-self c =
     record {
       room = omega arith;
       each = omega arith;
-      listed = listed_more c.args.self.now.flags.items c.args.self.now.items.items c.push_within.new.list.items c.args.number c.of.result c.args.self.now.listed c.push_within.ensures.items (ap (λ (l : Line). l.entry) c.of.ensures);
+      listed = listed_more c.args.self.now.flags.items c.args.self.now.items.items c.push_within.new.list.items c.args.number c.of.result c.args.self.now.listed c.push_within.ensures.items
+          (ap (λ (l : Line). l.entry) c.of.ensures);
       few = omega arith;
       low = c.args.self.now.low;
     }

@@ -13,9 +13,11 @@ returns-in-text c = sym (ap scrub_option_of (chars_of _ (codes "--renumber") ref
 pub returns-in-Some : goal.returns-in-Some
 returns-in-Some c =
     ap (option_map (λ option. Filter option)) c.in-Some.ensures
-    ∙ sym (ap (λ b. if b then Some Renumber else option_map (λ option. Filter option) (filter_option_of (chars c.args.word.now))) (is_other _ (codes "--renumber") c.utf8.word refl c.in_default.not-text))
+    ∙ sym (ap (λ b. if b then Some Renumber else option_map (λ option. Filter option) (filter_option_of (chars c.args.word.now)))
+    (is_other _ (codes "--renumber") c.utf8.word refl c.in_default.not-text))
 
 pub returns-in-None : goal.returns-in-None
 returns-in-None c =
     ap (option_map (λ option. Filter option)) c.in-None.ensures
-    ∙ sym (ap (λ b. if b then Some Renumber else option_map (λ option. Filter option) (filter_option_of (chars c.args.word.now))) (is_other _ (codes "--renumber") c.utf8.word refl c.in_default.not-text))
+    ∙ sym (ap (λ b. if b then Some Renumber else option_map (λ option. Filter option) (filter_option_of (chars c.args.word.now)))
+    (is_other _ (codes "--renumber") c.utf8.word refl c.in_default.not-text))

@@ -8,7 +8,8 @@ use Rattle.jfr_worklist.proofs.worklist.Worklist.put.Goals as goal
 
 pub push_within-requires : goal.push_within-requires
 push_within-requires c =
-    let u : is_marked c.args.self.now.flags.items c.args.number ≡ false = ap (slice_index_or c.args.self.now.flags.items c.args.number) (sym c.if-not-index.true) ∙ (sym c.index.ensures ∙ c.if-not-index.true) in
+    let u : is_marked c.args.self.now.flags.items c.args.number ≡ false =
+    ap (slice_index_or c.args.self.now.flags.items c.args.number) (sym c.if-not-index.true) ∙ (sym c.index.ensures ∙ c.if-not-index.true) in
     let l : length (slice_set c.args.self.now.flags.items c.args.number true) ≡ length c.args.self.now.flags.items = length-set c.args.self.now.flags.items c.args.number true in
     let k = count_le (slice_set c.args.self.now.flags.items c.args.number true) in
     let s = count_set c.args.self.now.flags.items c.args.number c.requires u in
@@ -18,7 +19,8 @@ push_within-requires c =
 
 pub invariant_of-self : goal.invariant_of-self
 invariant_of-self c =
-    let u : is_marked c.args.self.now.flags.items c.args.number ≡ false = ap (slice_index_or c.args.self.now.flags.items c.args.number) (sym c.if-not-index.true) ∙ (sym c.index.ensures ∙ c.if-not-index.true) in
+    let u : is_marked c.args.self.now.flags.items c.args.number ≡ false =
+    ap (slice_index_or c.args.self.now.flags.items c.args.number) (sym c.if-not-index.true) ∙ (sym c.index.ensures ∙ c.if-not-index.true) in
     let l : length (slice_set c.args.self.now.flags.items c.args.number true) ≡ length c.args.self.now.flags.items = length-set c.args.self.now.flags.items c.args.number true in
     let s = count_set c.args.self.now.flags.items c.args.number c.requires u in
     let a : vec_len c.args.self.now.order ≡ marked_count c.args.self.now.flags.items = c.args.self.now.each in
