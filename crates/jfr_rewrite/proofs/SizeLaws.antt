@@ -1,9 +1,9 @@
 -- The size of a record that is put in its place.
-use Rattle.std.specs.Prelude.{◌≡◌, ℕ, ◌+◌, ◌*◌, ◌-◌, ◌<◌, ◌≤◌, ◌^◌, ◌/◌, ◌↔◌, List, [], ◌∷◌, ◌++◌, drop, length, set, take, nat_eq, IsTrue, Result, Ok, Err}
+use Rattle.std.specs.Prelude.{◌≡◌, ℕ, ◌+◌, ◌*◌, ◌-◌, ◌<◌, ◌≤◌, ◌^◌, ◌/◌, ◌%◌, ◌↔◌, List, [], ◌∷◌, ◌++◌, drop, length, set, take, nat_eq, IsTrue, Result, Ok, Err}
 use Rattle.std.proofs.Common.{ap, arith, refl, sym, ◌∙◌, subst, inl, inr, append_assoc, length-append}
 use Rattle.std.proofs.Math.Nat.{div-lt_iff_lt-mul, div-eq_of_lt}
 use Rattle.std.proofs.lemmas.Bool.Decides.{nat_tests}
-use Rattle.std.proofs.lemmas.List.{drop-set, length-drop, length-take-le, take-append-drop, take-set}
+use Rattle.std.proofs.lemmas.List.{drop-drop, drop-set, length-drop, length-take-le, set-append_right, take-append-drop, take-set}
 use Rattle.std.proofs.lemmas.Nat.{pow_pos}
 use Rattle.jfr_base.specs.Integer.{FitsIn, spell_in}
 use Rattle.jfr_frame.specs.declared.framed.Framed.{Framed}
@@ -23,6 +23,21 @@ set_parts xs i y h = sym (take-append-drop i (set xs i y)) ∙ (ap (λ z. z ++ d
 pub size_put : (xs : List ℕ) (i size : ℕ) → i < length xs → set xs i size ≡ take i xs ++ (spell_in 1 size ++ drop (i + 1) xs)
 unfolding spell_in
 size_put xs i size h = set_parts xs i size h
+
+-- A size of two bytes, put there.
+pub size_put_two : (xs : List ℕ) (i size : ℕ) → i + 2 ≤ length xs → set (set xs i (size % 128 + 128)) (i + 1) (size / 128) ≡ take i xs ++ (spell_in 2 size ++ drop (i + 2) xs)
+unfolding spell_in
+size_put_two xs i size h =
+    let low = size % 128 + 128 in
+    let high = size / 128 in
+    let rest : List ℕ = drop (i + 1) xs in
+    let next : i + 1 - i ≡ 1 = omega arith in
+    let after : i + 1 + 1 ≡ i + 2 = omega arith in
+    ap (λ z. set z (i + 1) high) (set_parts xs i low (omega (arith, h)))
+    ∙ (set-append_right (take i xs) (low ∷ rest) i (i + 1) high (length-take-le i xs (omega (arith, h))) (omega arith)
+    ∙ (ap (λ n. take i xs ++ set (low ∷ rest) n high) next
+    ∙ ap (λ z. take i xs ++ (low ∷ z)) (set_parts rest 0 high (omega (arith, h, length-drop (i + 1) xs))
+    ∙ ap (λ z. high ∷ z) (drop-drop 1 (i + 1) xs ∙ ap (λ n. drop n xs) after))))
 
 -- An integer below a power of two is shifted to 0.
 pub fits_is_shifted : (v n : ℕ) → (n ≡ 9 → ⊥) → IsTrue (nat_eq (v / 2 ^ (7 * n)) 0) ↔ FitsIn v n

@@ -60,9 +60,25 @@ fn put_in_place(out: &mut Vec<u8>, from: usize, count: usize)
         out[from] = (out.len() - from) as u8;
         return;
     }
+    if count == 2 {
+        put_two_bytes(out, from);
+        return;
+    }
     let mut spelled = [0; 9];
     write_in((out.len() - from) as u64, count, &mut spelled);
     out[from..from + count].copy_from_slice(&spelled[..count]);
+}
+
+/// As `put_in_place`, for two bytes, which most sizes have that need more than one.
+#[inline]
+fn put_two_bytes(out: &mut Vec<u8>, from: usize)
+    requires within { from + 2 ≤ length out.old.items }
+    requires fits { length out.old.items - from < 16384 }
+    ensures { out.new.items ≡ take from out.old.items ++ (spell_in 2 (length out.old.items - from) ++ drop (from + 2) out.old.items) }
+{
+    let size = out.len() - from;
+    out[from] = (size % 128 + 128) as u8;
+    out[from + 1] = (size / 128) as u8;
 }
 
 /// Writes the number of bytes of the record from offset `from` on in `width` bytes in the place of the first `room`.
