@@ -1,14 +1,14 @@
 //! Leaves with new keys.
-ghost use Rattle.std.specs.Prelude.{◌≡◌, ℕ, ◌++◌, None, IfSome, OnOk};
-ghost use Rattle.jfr_base.specs.Integer.{Spells};
+ghost use Rattle.std.specs.Prelude.{◌≡◌, ℕ, ◌<◌, ◌++◌, ◌∷◌, List, length, slice_index, None, Some, option_map, IfSome, OnOk};
+ghost use Rattle.jfr_base.specs.Integer.{IsSpellingWithin, Spells};
 ghost use Rattle.jfr_layout.specs.declared.kind.Kind.TheVariants as kinds;
 ghost use Rattle.jfr_value.specs.declared.leaf.LeafKind.TheVariants as leaf_kinds;
-ghost use Rattle.jfr_value.specs.Leaves.{KeyIsSpelled, leaf_of};
+ghost use Rattle.jfr_value.specs.Leaves.{KeyIsSpelled, leaf_of, spelled_key};
 ghost use Rattle.jfr_renumber.specs.Rewriting.{leaf_with, spelled_anew};
 
-use jfr_base::{NoMemory, push_var};
+use jfr_base::{NoMemory, known_integer, push_var};
 use jfr_layout::Kind;
-use jfr_text::KEY_BYTE;
+use jfr_text::{KEY_BYTE, is_key};
 use jfr_value::{Leaf, LeafKind};
 
 /// The new key of each class and key.
@@ -81,16 +81,27 @@ fn new_reference<N: NewKeys>(leaf: &Leaf<'_>, key: u64, new: &N) -> Option<NewKe
     Some(NewKey::Reference(new.new_key(leaf.class, key)))
 }
 
-/// As `new_leaf`, for a string.
-#[inline(never)]
+/// As `new_leaf`, for a string. Most strings aren't keys, and for these nothing is called.
+#[inline(always)]
 fn new_string<N: NewKeys>(leaf: &Leaf<'_>, new: &N) -> Option<NewKey>
     requires kind { leaf.now.kind ≡ leaf_kinds.Base kinds.Text }
     requires key { KeyIsSpelled (leaf_of leaf.now) }
     ensures same { result ≡ None → leaf_with (N.keys new.now) (leaf_of leaf.now) ≡ leaf.now.spelled.now }
     ensures becomes { IfSome result (λ made. spelled_anew made ≡ leaf_with (N.keys new.now) (leaf_of leaf.now)) }
 {
-    match leaf.key() {
-        Some(key) => Some(NewKey::StringKey(new.new_key(leaf.class, key))),
-        None => None,
+    if !is_key(leaf.spelled, 0, leaf.spelled.len()) {
+        return None;
     }
+    Some(NewKey::StringKey(new_string_key(leaf.class, leaf.spelled, new)))
+}
+
+/// The new key of a string of this class that is a key. It isn't inlined, so that the visit of values stays small.
+#[inline(never)]
+fn new_string_key<N: NewKeys>(class: u64, spelled: &[u8], new: &N) -> u64
+    requires key { (0 < length spelled.now) × (slice_index spelled.now 0 ≡ 2) }
+    requires spelled { (rest : List ℕ) → spelled.now ≡ 2 ∷ rest → IsSpellingWithin 8 rest }
+    ensures { option_map (λ key. N.keys new.now (class, key)) (spelled_key spelled.now) ≡ Some result }
+{
+    let key = known_integer(spelled, 1, spelled.len()).value;
+    new.new_key(class, key)
 }
