@@ -64,34 +64,39 @@ node_becomes ch k sound c n v i =
 
 -- The copy of leaves that lie one after another.
 pub copies_all : (ch : Change) (p : Parts) (at end : ℕ) (ls : List LeafAt) (old new : ValueCopy) → AreLaid p.classes p.bytes at end ls → TakesAll (CopiesLeaf ch p) ls old new → new.failed ≡ false
-    → (old.failed ≡ false) × (new.out.items ++ slice_range p.bytes new.copied end ≡ (old.out.items ++ slice_range p.bytes old.copied at) ++ flat_map (leaf_becomes ch) ls)
+    → (old.failed ≡ false) × (new.out.now.items ++ slice_range p.bytes new.copied end ≡ (old.out.now.items ++ slice_range p.bytes old.copied at) ++ flat_map (leaf_becomes ch) ls)
 copies_all ch p at end [] old new h e f = (
   ap (λ (z : ValueCopy). z.failed) e ∙ f,
-  ap (λ (z : ValueCopy). z.out.items ++ slice_range p.bytes z.copied end) (sym e)
-      ∙ (ap (λ z. old.out.items ++ slice_range p.bytes old.copied z) (sym h) ∙ sym (append-nil (old.out.items ++ slice_range p.bytes old.copied at))),
+  ap (λ (z : ValueCopy). z.out.now.items ++ slice_range p.bytes z.copied end) (sym e)
+      ∙ (ap (λ z. old.out.now.items ++ slice_range p.bytes old.copied z) (sym h) ∙ sym (append-nil (old.out.now.items ++ slice_range p.bytes old.copied at))),
 )
 copies_all ch p at end (l ∷ ls) old new h t f =
     let rest = flat_map (leaf_becomes ch) ls in
     let r = copies_all ch p (at + length l.spelled) end ls t.0 new h.3 t.2 f in
-    let q = t.1 r.0 in (
+    let q = t.1.1 r.0 in (
       q.0,
       r.1
-          ∙ (ap (λ z. (t.0.out.items ++ slice_range p.bytes t.0.copied (z + length l.spelled)) ++ rest) (sym h.0)
+          ∙ (ap (λ z. (t.0.out.now.items ++ slice_range p.bytes t.0.copied (z + length l.spelled)) ++ rest) (sym h.0)
           ∙ (ap (λ z. z ++ rest) q.1
-          ∙ (append_assoc (old.out.items ++ slice_range p.bytes old.copied l.at) (leaf_becomes ch l) rest
-          ∙ ap (λ z. (old.out.items ++ slice_range p.bytes old.copied z) ++ (leaf_becomes ch l ++ rest)) h.0))),
+          ∙ (append_assoc (old.out.now.items ++ slice_range p.bytes old.copied l.at) (leaf_becomes ch l) rest
+          ∙ ap (λ z. (old.out.now.items ++ slice_range p.bytes old.copied z) ++ (leaf_becomes ch l ++ rest)) h.0))),
     )
 
+-- The vector stays the same one.
+pub same_vector : (ch : Change) (p : Parts) (ls : List LeafAt) (old new : ValueCopy) → TakesAll (CopiesLeaf ch p) ls old new → new.out.ghost_name ≡ old.out.ghost_name
+same_vector ch p [] old new e = ap (λ (z : ValueCopy). z.out.ghost_name) (sym e)
+same_vector ch p (l ∷ ls) old new t = same_vector ch p ls t.0 new t.2 ∙ t.1.0
+
 -- A value that is copied, with the bytes around it.
-pub copied_within : (ch : Change) (p : Parts) (n : NodeAt) (v : Value) (from to copied : ℕ) (before after out : List ℕ) → Sound p.classes → IsNode p.classes p.bytes n v → copied ≤ n.end → n.end ≤ to
-    → after ++ slice_range p.bytes copied n.end ≡ (before ++ slice_range p.bytes from n.at) ++ flat_map (leaf_becomes ch) (leaves p.classes p.bytes n)
+pub copied_within : (ch : Change) (p : Parts) (n : NodeAt) (from to copied : ℕ) (before after out : List ℕ) → copied ≤ n.end → n.end ≤ to
+    → after ++ slice_range p.bytes copied n.end ≡ (before ++ slice_range p.bytes from n.at) ++ changed_bytes ch p.classes p.bytes n
     → out ≡ after ++ slice_range p.bytes copied to → out ≡ before ++ changed_within ch p n from to
-copied_within ch p n v from to copied before after out sound i o l e f =
+copied_within ch p n from to copied before after out o l e f =
     let changes = changed_bytes ch p.classes p.bytes n in
     f
     ∙ (ap (λ z. after ++ z) (range_split p.bytes copied n.end to o l)
     ∙ (sym (append_assoc after (slice_range p.bytes copied n.end) (slice_range p.bytes n.end to))
-    ∙ (ap (λ z. z ++ slice_range p.bytes n.end to) (e ∙ ap (λ z. (before ++ slice_range p.bytes from n.at) ++ z) (sym (node_becomes ch p.classes sound p.bytes n v i)))
+    ∙ (ap (λ z. z ++ slice_range p.bytes n.end to) e
     ∙ (append_assoc (before ++ slice_range p.bytes from n.at) changes (slice_range p.bytes n.end to)
     ∙ append_assoc before (slice_range p.bytes from n.at) (changes ++ slice_range p.bytes n.end to)))))
 

@@ -32,8 +32,8 @@ pub record LiesIn (p : Parts) (l : LeafAt) : Type 0 where
 -- If nothing failed, what is written, with the bytes that wait up to a leaf's end, has grown by what the leaf becomes,
 -- given where the leaf starts and ends.
 abbrev pub Copies : List ℕ → ℕ → ℕ → List ℕ → ValueCopy → ValueCopy → Type 0
-Copies bytes at end becomes old new = new.failed ≡ false → (old.failed ≡ false) × (new.out.items ++ slice_range bytes new.copied end ≡ (old.out.items ++ slice_range bytes old.copied at) ++ becomes)
+Copies bytes at end becomes old new = new.failed ≡ false → (old.failed ≡ false) × (new.out.now.items ++ slice_range bytes new.copied end ≡ (old.out.now.items ++ slice_range bytes old.copied at) ++ becomes)
 
--- A leaf of the chunk that the change changes so.
+-- A leaf of the chunk that the change changes so, in the same vector.
 abbrev pub CopiesLeaf : Change → Parts → LeafAt → ValueCopy → ValueCopy → Type 0
-CopiesLeaf ch p l old new = Copies p.bytes l.at (l.at + length l.spelled) (leaf_becomes ch l) old new
+CopiesLeaf ch p l old new = (new.out.ghost_name ≡ old.out.ghost_name) × Copies p.bytes l.at (l.at + length l.spelled) (leaf_becomes ch l) old new
