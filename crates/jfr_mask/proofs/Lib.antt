@@ -10,6 +10,7 @@ mod LeafMasks
 mod MaskedChunk
 mod KnownLaws
 mod LeafReferences
+mod StringReferences
 mod MapLaws
 mod MarkedRest
 mod MaskLaws

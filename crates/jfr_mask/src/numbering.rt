@@ -11,11 +11,12 @@ ghost use Rattle.jfr_output.specs.RemainingRecords.{ShowsEvent, ShowsMetadata, o
 ghost use Rattle.jfr_output.specs.Remaining.{NotFalling};
 ghost use Rattle.jfr_rewrite.specs.Copying.{LiesIn};
 ghost use Rattle.jfr_mask.specs.Masked.{is_string_leaf, numbered_text};
-ghost use Rattle.jfr_mask.specs.MaskedLeaves.{leaf_text};
-ghost use Rattle.jfr_mask.specs.Maskers.{IsEntryValue, IsMaskingBy, KnowsPlain, entries_by, leaf_texts_by, node_texts_by, string_texts_by};
+ghost use Rattle.jfr_mask.specs.MaskedLeaves.{is_masked_leaf, leaf_text};
+ghost use Rattle.jfr_mask.specs.Maskers.{IsEntryValue, IsMaskingBy, KnowsPlain, entries_by, held_by, leaf_texts_by, node_texts_by, string_texts_by};
 ghost use Rattle.jfr_mask.specs.MaskOf.{Masking, dictionary_after, origin_of, origin_texts};
 ghost use Rattle.jfr_mask.specs.Noted.{AreNoted, IsMaskedAt, NotesTexts, entry_by};
 ghost use Rattle.jfr_mask.specs.Pseudonyms.{Extends, has_text, with_texts};
+ghost use Rattle.jfr_mask.specs.Visitors.{AddsTexts};
 
 use crate::noted::NotedTexts;
 use crate::shown::is_unmasked;
@@ -220,17 +221,32 @@ impl Numbering<'_> {
         Ok(())
     }
 
-    /// Adds the text of a leaf, if it is a masked string with a text.
-    fn add_leaf(&self, growing: &mut GrowingDictionary, leaf: &Leaf<'_>) -> Result<(), NoMemory>
+    /// Adds the text of a masked string, if it has one. If memory runs out, this is noted, and nothing more is added.
+    #[inline(never)]
+    fn take_string(&self, growing: &mut GrowingDictionary, leaf: &Leaf<'_>)
+        requires masked { is_masked_leaf (held_by self.now.strings) (leaf_of leaf.now) ≡ true }
         requires lies { LiesIn self.now.strings.chunk.now (leaf_of leaf.now) }
         requires noted { NotesTexts self.now growing.old }
-        ensures ok { OnOk result (growing.new.dictionary ≡ with_texts growing.old.dictionary (leaf_texts_by self.now (leaf_of leaf.now))) }
+        ensures takes { AddsTexts (leaf_texts_by self.now (leaf_of leaf.now)) growing.old growing.new }
+        ensures noted { NotesTexts self.now growing.new }
+    {
+        if growing.failed {
+            return;
+        }
+        if self.add_string(growing, leaf).is_err() {
+            growing.failed = true;
+        }
+    }
+
+    /// Adds the text of a string, if it has one.
+    fn add_string(&self, growing: &mut GrowingDictionary, leaf: &Leaf<'_>) -> Result<(), NoMemory>
+        requires string { is_string_leaf leaf.now.kind ≡ true }
+        requires lies { LiesIn self.now.strings.chunk.now (leaf_of leaf.now) }
+        requires noted { NotesTexts self.now growing.old }
+        ensures ok { OnOk result (growing.new.dictionary ≡ with_texts growing.old.dictionary (string_texts_by self.now (leaf_of leaf.now))) }
         ensures failed { growing.new.failed ≡ growing.old.failed }
         ensures noted { NotesTexts self.now growing.new }
     {
-        if !self.strings.has(leaf) {
-            return Ok(());
-        }
         match self.strings.entry_of(leaf) {
             Some(entry) => self.add_constant(growing, leaf, entry),
             None => {
@@ -315,12 +331,11 @@ impl VisitLeaf<Numbering<'_>> for GrowingDictionary {
         ensures ready { (numbering : Numbering) (growing : GrowingDictionary) (at to : ℕ) → NotesTexts numbering growing → at ≤ to → NotesTexts numbering growing }
     {}
 
+    /// Most leaves are no masked strings, and then nothing is called.
+    #[inline(always)]
     fn visit_leaf(&mut self, numbering: &Numbering<'_>, leaf: Leaf<'_>) {
-        if self.failed {
-            return;
-        }
-        if numbering.add_leaf(self, &leaf).is_err() {
-            self.failed = true;
+        if numbering.strings.has(&leaf) {
+            numbering.take_string(self, &leaf);
         }
     }
 }

@@ -1,5 +1,6 @@
 //! Marking what values refer to, except for their masked strings.
 ghost use Rattle.std.specs.Prelude.{◌≡◌, ◌<◌, All, length, option_to_list, slice_get};
+ghost use Rattle.std.specs.List.{list_any};
 ghost use Rattle.jfr_layout.specs.Classes.{Sound};
 ghost use Rattle.jfr_value.specs.Nodes.{IsValue, node_of};
 ghost use Rattle.jfr_worklist.specs.Marks.{those};
@@ -10,11 +11,13 @@ ghost use Rattle.jfr_mask.specs.Masked.{is_held_masked, is_masked_string};
 ghost use Rattle.jfr_mask.specs.Plain.{ArePlain};
 ghost use Rattle.jfr_mask.specs.ReachBut.{node_targets_but, roots_but};
 ghost use Rattle.jfr_mask.specs.Maskers.{held_by};
+ghost use Rattle.jfr_mask.specs.Reaching.{is_string_class, is_string_entry};
 
 use crate::MaskedFields;
 use crate::plain::PlainClasses;
 use crate::texts::MaskedStrings;
 use jfr_chunk::Chunk;
+use jfr_layout::{Classes, Kind};
 use jfr_value::{Leaf, Node, Visit, VisitLeaf, visit_leaves, visit_targets};
 use jfr_worklist::Worklist;
 
@@ -45,8 +48,8 @@ pub(crate) fn put_value(
     put_leaves(list, strings, node);
 }
 
-/// As `put_value`, for the fields of the event with this number. If its class is plain, they aren't read again: the
-/// chunk has noted to which entries they refer.
+/// As `put_value`, for the fields of the event with this number. The chunk has noted to which entries they refer. Only if
+/// one of these is a string, and the event's class isn't plain, the fields are read again.
 pub(crate) fn put_event(
     list: &mut Worklist,
     chunk: &Chunk<'_>,
@@ -62,7 +65,10 @@ pub(crate) fn put_event(
     let Some(event) = chunk.event(number) else {
         return;
     };
-    if !plain.has_id(chunk.classes(), event.node.shape.class) {
+    let Some(entries) = chunk.event_entries(number) else {
+        return;
+    };
+    if has_string(chunk, entries) && !plain.has_id(chunk.classes(), event.node.shape.class) {
         let strings = MaskedStrings {
             chunk,
             masked,
@@ -71,8 +77,38 @@ pub(crate) fn put_event(
         put_leaves(list, strings, event.node);
         return;
     }
-    if let Some(entries) = chunk.event_entries(number) {
-        put_each(list, entries);
+    put_each(list, entries);
+}
+
+/// Whether an entry with one of these numbers is a string. To any other, no masked string leads.
+fn has_string(chunk: &Chunk<'_>, numbers: &[u32]) -> bool
+    ensures { result ≡ list_any (is_string_entry chunk.now) numbers.now }
+{
+    numbers
+        .iter()
+        .any(|number| is_string_entry(chunk, *number as usize))
+}
+
+/// Whether there is an entry with this number, and it is a string.
+fn is_string_entry(chunk: &Chunk<'_>, number: usize) -> bool
+    ensures { result ≡ is_string_entry chunk.now number }
+{
+    match chunk.pools().get(number) {
+        Some(entry) => is_string_class(chunk.classes(), entry.class),
+        None => false,
+    }
+}
+
+/// Whether this is the id of the class of strings.
+fn is_string_class(classes: &Classes, id: u64) -> bool
+    ensures { result ≡ is_string_class classes.now id }
+{
+    let Some(index) = classes.index_of(id) else {
+        return false;
+    };
+    match classes.kind_at(index) {
+        Kind::Text => true,
+        _ => false,
     }
 }
 
@@ -121,6 +157,7 @@ impl VisitLeaf<MaskedStrings<'_>> for Worklist {
     {}
 
     /// Marks the entry in force to which a leaf refers, if it does and isn't a masked string.
+    #[inline(always)]
     fn visit_leaf(&mut self, strings: &MaskedStrings<'_>, leaf: Leaf<'_>) {
         if strings.has(&leaf) {
             return;

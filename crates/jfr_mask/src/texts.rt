@@ -51,6 +51,7 @@ impl MaskedStrings<'_> {
     }
 
     /// Whether the leaf is a masked string.
+    #[inline(always)]
     pub(crate) fn has(&self, leaf: &Leaf<'_>) -> bool
         ensures { result ≡ is_masked_leaf (held_by self.now) (leaf_of leaf.now) }
     {
