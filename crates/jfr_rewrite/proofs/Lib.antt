@@ -19,7 +19,7 @@ mod RecordBack
 pub mod Remaining
 pub mod Rewriting
 mod Rows
-pub mod SizeLaws
+mod SizeLaws
 pub mod Sizes
 mod SpelledBack
 mod UsedLaws
