@@ -49,7 +49,7 @@ pub(crate) fn put_value(
 }
 
 /// As `put_value`, for the fields of the event with this number. The chunk has noted to which entries they refer. Only if
-/// one of these is a string, and the event's class isn't plain, the fields are read again.
+/// the event's class isn't plain, and one of these entries is a string, the fields are read again.
 pub(crate) fn put_event(
     list: &mut Worklist,
     chunk: &Chunk<'_>,
@@ -68,7 +68,7 @@ pub(crate) fn put_event(
     let Some(entries) = chunk.event_entries(number) else {
         return;
     };
-    if has_string(chunk, entries) && !plain.has_id(chunk.classes(), event.node.shape.class) {
+    if !plain.has_id(chunk.classes(), event.node.shape.class) && has_string(chunk, entries) {
         let strings = MaskedStrings {
             chunk,
             masked,

@@ -14,7 +14,7 @@ use Rattle.jfr_mask.proofs.PlainLaws.{known_plain}
 use Rattle.jfr_mask.proofs.StringReferences.{node_same}
 use Rattle.jfr_mask.proofs.WalkBut.{event_roots, numbers_below}
 use Rattle.jfr_mask.proofs.references.put_event.Goals as goal
-use Rattle.jfr_mask.proofs.references.put_event.Goals.{else-has_string-via-then-has_string+else-not-has_id, else-has_string-via-else-has_string}
+use Rattle.jfr_mask.proofs.references.put_event.Goals.{else-not-has_id-via-then-not-has_id+else-has_string, else-not-has_id-via-else-not-has_id}
 
 pub put_each-requires : goal.put_each-requires
 put_each-requires c =
@@ -39,12 +39,12 @@ returns c =
     let bytes = c.in-Some.ensures.of_chunk.bytes in
     let to_roots = λ (e : those (number_in_force p.entries) all ≡ those (number_in_force p.entries) (node_targets_but stops p n)).
     subst (λ z. Puts z c.args.list.now c.put_each.new.list) (noted ∙ (e ∙ event_roots stops p (slice_get (events_of p) c.args.number) (event_at event) c.in-Some.ensures.exact)) c.put_each.ensures in
-    elim c.else-has_string.branch [
-      | else-has_string-via-then-has_string+else-not-has_id w ↦
-          (let plain = known_plain p c.args.masked.now c.args.plain.now.flags.items w.classes.result.now event.node.bytes.now n c.requires.sound c.requires.plain w.classes.ensures bytes value
-          (w.has_id.ensures w.if-not-has_id.false) in
-          to_roots (ap (those (number_in_force p.entries)) (sym (ap (λ z. targets p.classes z n) bytes) ∙ (sym (ap (λ z. targets z event.node.bytes.now n) w.classes.ensures) ∙ plain))))
-      | else-has_string-via-else-has_string w ↦
-          (let none : list_any (is_string_entry p) entries ≡ false = sym c.has_string.ensures ∙ w.if-has_string.false in
+    elim c.else-not-has_id.branch [
+      | else-not-has_id-via-then-not-has_id+else-has_string w ↦
+          (let none : list_any (is_string_entry p) entries ≡ false = sym w.has_string.ensures ∙ w.if-has_string.false in
           to_roots (node_same p masked n value.0 c.requires.sound (subst (λ b. IsNode p.classes b n value.0) bytes value.1) (sym (ap (list_any (is_string_entry p)) noted) ∙ none)))
+      | else-not-has_id-via-else-not-has_id w ↦
+          (let plain = known_plain p c.args.masked.now c.args.plain.now.flags.items c.classes.result.now event.node.bytes.now n c.requires.sound c.requires.plain c.classes.ensures bytes value
+          (c.has_id.ensures w.if-not-has_id.false) in
+          to_roots (ap (those (number_in_force p.entries)) (sym (ap (λ z. targets p.classes z n) bytes) ∙ (sym (ap (λ z. targets z event.node.bytes.now n) c.classes.ensures) ∙ plain))))
     ]
