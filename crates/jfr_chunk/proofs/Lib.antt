@@ -10,6 +10,7 @@ mod InertLaws
 mod KeptLaws
 pub mod MeaningLaws
 mod RefLaws
+mod KeyLaws
 mod NotedLaws
 mod PartsLaws
 pub mod PathLaws

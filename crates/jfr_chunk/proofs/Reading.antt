@@ -28,7 +28,7 @@ use Rattle.jfr_chunk.specs.declared.event_index.EventIndex.{EventIndex}
 use Rattle.jfr_chunk.specs.Parts.{Parts, StartsAt, AreParts, events_of, metadata_at, pools_at}
 use Rattle.jfr_chunk.specs.Refusal.{Framing, Chained, Described, Refused, framing, metadata_position, pool_position, chain, metadata, checkpoints, events, found_or, read_parts}
 use Rattle.jfr_meta.specs.Stays.{is_in}
-use Rattle.jfr_chunk.specs.Indexed.{AreRefs, IsIndexed, indexed_missing, indexed_refs, parts_in, used_in}
+use Rattle.jfr_chunk.specs.Indexed.{AreKeysIn, AreRefs, IsIndexed, indexed_missing, indexed_refs, parts_in, used_in}
 use Rattle.jfr_chunk.specs.Missing.{AreNotedIn}
 use Rattle.jfr_chunk.specs.Stages.{AreFields, IsRefusedEvents}
 use Rattle.jfr_worklist.proofs.Members.{contains_in}
@@ -160,16 +160,18 @@ module _ (c : List ℕ) (h : Header) (rs : List Framed) (m : Framed) (n : Named 
           entries_within = entries_few c rs n.records (pools_at c) (reverse ls) links k (described_sound b k d.classes) es there
 
           pub indexed : (index : EventIndex) → Whole c → AreFields c k rs index.fields.items index.early → AreRefs (indexed_refs es k c rs index.early) 0 index.fields.items index.numbers.items
+              → AreKeysIn es k c rs index.early index.fields.items index.keys
               → AreNotedIn (map (indexed_missing es k c rs index.early) index.fields.items) index.missing → ((id : ℕ) → is_in index.used.ids id ≡ used_in rs index.fields.items id)
               → IsIndexed (parts_in c rs ls b k es) h m index
           unfolding events_of
-          indexed index whole f refs_end missing used = record {
+          indexed index whole f refs_end keys missing used = record {
             whole = whole;
             parts = record { records = n.records; chain = links; metadata_record = m; metadata_there = metadata_there; metadata = d; entries = there; events = f.valid };
             header_is = n.header_is;
             metadata_there = metadata_there;
             events = f.listed;
             refs_end = refs_end;
+            keys = keys;
             missing = missing;
             used = used;
           }

@@ -36,7 +36,7 @@ each_get f (x ∷ xs) (y ∷ ys) (suc n) e = each_get f xs ys n (tails (f x) (So
     tails c d cs ds e = cc
 
 -- A member of the one has a value, which is the other's member.
-each_some : {A B : Type 0} (f : A → Option B) (xs : List A) (ys : List B) (n : ℕ) (x : A) → map f xs ≡ map Some ys → slice_get xs n ≡ Some x → (y : B) × (f x ≡ Some y) × (slice_get ys n ≡ Some y)
+pub each_some : {A B : Type 0} (f : A → Option B) (xs : List A) (ys : List B) (n : ℕ) (x : A) → map f xs ≡ map Some ys → slice_get xs n ≡ Some x → (y : B) × (f x ≡ Some y) × (slice_get ys n ≡ Some y)
 each_some f [] ys n x e g = cc
 each_some f (z ∷ xs) [] n x e g = cc
 each_some f (z ∷ xs) (y ∷ ys) zero x e g = (y, (let h : z ≡ x = cc in ap f (sym h) ∙ heads (f z) (Some y) (map f xs) (map Some ys) e), refl)

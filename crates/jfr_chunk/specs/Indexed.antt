@@ -1,6 +1,6 @@
 -- The index that a chunk keeps beside its bytes, and the events that its calls return.
-use Rattle.std.specs.Prelude.{◌≡◌, ℕ, ◌+◌, ◌==◌, Bool, false, List, [], ◌∷◌, ◌++◌, Option, Some, length, map, take, reverse, slice_get, option_map, unwrap_or}
-use Rattle.std.specs.List.{list_any}
+use Rattle.std.specs.Prelude.{◌≡◌, ℕ, ◌+◌, ◌==◌, Bool, false, List, [], ◌∷◌, ◌++◌, Option, None, Some, length, map, take, reverse, slice_get, option_map, unwrap_or}
+use Rattle.std.specs.List.{AllByRecursion, filter_map, list_any}
 use Rattle.std.specs.Option.{option_map_or}
 use Rattle.std.specs.BTreeMap as tree
 use Rattle.std.specs.BTreeMap.{BTreeMap}
@@ -13,6 +13,8 @@ use Rattle.jfr_frame.specs.Records.{record_end}
 use Rattle.jfr_layout.specs.Classes.{Classes}
 use Rattle.jfr_meta.specs.Body.{Body}
 use Rattle.jfr_meta.specs.Stays.{is_in}
+use Rattle.jfr_value.specs.declared.leaf.KeyAt.{KeyAt}
+use Rattle.jfr_value.specs.Leaves.{keys_in}
 use Rattle.jfr_value.specs.Nodes.{node_at, node_of}
 use Rattle.jfr_pool.specs.declared.link.Link.{Link}
 use Rattle.jfr_pool.specs.declared.entry.EntryAt.{EntryAt}
@@ -20,6 +22,9 @@ use Rattle.jfr_pool.specs.Entries.{inline}
 use Rattle.jfr_chunk.specs.declared.event_index.EventIndexEntry.{EventIndexEntry}
 use Rattle.jfr_chunk.specs.declared.event_index.EventIndex.{EventIndex}
 use Rattle.jfr_chunk.specs.declared.event.Event.{Event}
+use Rattle.jfr_chunk.specs.declared.key_places.KeyPlace.{KeyPlace}
+use Rattle.jfr_chunk.specs.declared.key_places.KeyPlaces.{KeyPlaces}
+use Rattle.jfr_chunk.specs.KeyPlaces.{IsShortZero, number_of_key, place_of_key}
 use Rattle.jfr_chunk.specs.Parts.{Parts, EventAt, StartsAt, AreParts, events_of, metadata_at}
 use Rattle.jfr_chunk.specs.Reach.{node_entries}
 use Rattle.jfr_chunk.specs.Missing.{AreNotedIn, node_missing}
@@ -45,18 +50,33 @@ indexed_refs es k c rs early f = option_map_or (λ e. node_entries es k c e.node
 abbrev pub indexed_missing : List EntryAt → Classes → List ℕ → List Framed → BTreeMap ℕ ℕ → EventIndexEntry → List (ℕ × ℕ)
 indexed_missing es k c rs early f = option_map_or (λ e. node_missing es k c e.node) (indexed_event rs early f) []
 
--- The list holds the entry numbers of all events, event after event. Each event's `refs_end` is where its range
--- in the list ends, and the first range starts at `from`.
-abbrev pub AreRefs : (EventIndexEntry → List ℕ) → ℕ → List EventIndexEntry → List ℕ → Type 0
-AreRefs indexed_refs from [] numbers = numbers ≡ []
-AreRefs indexed_refs from (f ∷ fs) numbers = (rest : List ℕ) × (numbers ≡ indexed_refs f ++ rest) × (f.refs_end ≡ from + length (indexed_refs f)) × AreRefs indexed_refs f.refs_end fs rest
+-- The keys in the event of an index entry.
+abbrev pub indexed_keys : Classes → List ℕ → List Framed → BTreeMap ℕ ℕ → EventIndexEntry → List KeyAt
+indexed_keys k c rs early f = option_map_or (λ e. keys_in k c e.node) (indexed_event rs early f) []
+
+-- The places of those with an entry in force.
+abbrev pub indexed_places : List EntryAt → Classes → List ℕ → List Framed → BTreeMap ℕ ℕ → EventIndexEntry → List KeyPlace
+indexed_places es k c rs early f = option_map_or (λ e. filter_map (place_of_key es) (keys_in k c e.node)) (indexed_event rs early f) []
+
+-- The list holds what is listed for all events, such as their entry numbers, event after event. Each event's `refs_end`
+-- is where its range in the list ends, and the first range starts at `from`.
+abbrev pub AreRefs : {X : Type 0} → (EventIndexEntry → List X) → ℕ → List EventIndexEntry → List X → Type 0
+AreRefs listed from [] all = all ≡ []
+AreRefs {X = X} listed from (f ∷ fs) all = (rest : List X) × (all ≡ listed f ++ rest) × (f.refs_end ≡ from + length (listed f)) × AreRefs listed f.refs_end fs rest
+
+-- Unless some are missing, these are the places of the events' keys with an entry in force, and all their other keys are
+-- 0, in one byte each.
+pub record AreKeysIn (es : List EntryAt) (k : Classes) (c : List ℕ) (rs : List Framed) (early : BTreeMap ℕ ℕ) (fields : List EventIndexEntry) (keys : KeyPlaces) : Type 0 where
+  pub places : keys.lacks ≡ false → AreRefs (indexed_places es k c rs early) 0 fields keys.places.items
+  pub others : keys.lacks ≡ false → AllByRecursion (λ f. AllByRecursion (λ key. number_of_key es key ≡ None → IsShortZero key) (indexed_keys k c rs early f)) fields
 
 -- The event of one of these index entries is of the class with this id.
 abbrev pub used_in : List Framed → List EventIndexEntry → ℕ → Bool
 used_in rs fields id = list_any (λ f. option_map_or (λ r. r.type_id == id) (slice_get rs f.record) false) fields
 
 -- The parts are those of a whole chunk, and the header, the metadata record, the events, the entries to
--- which they refer, what they refer to without an entry, and their classes are those of the parts.
+-- which they refer, the places of their keys, what they refer to without an entry, and their classes are those of the
+-- parts.
 pub record IsIndexed (p : Parts) (header : Header) (metadata : Framed) (index : EventIndex) : Type 0 where
   pub whole : Whole p.bytes
   pub parts : AreParts p
@@ -64,6 +84,7 @@ pub record IsIndexed (p : Parts) (header : Header) (metadata : Framed) (index : 
   pub metadata_there : StartsAt p.records (metadata_at p.bytes) 0 metadata
   pub events : map (indexed_event p.records index.early) index.fields.items ≡ map Some (events_of p)
   pub refs_end : AreRefs (indexed_refs p.entries p.classes p.bytes p.records index.early) 0 index.fields.items index.numbers.items
+  pub keys : AreKeysIn p.entries p.classes p.bytes p.records index.early index.fields.items index.keys
   pub missing : AreNotedIn (map (indexed_missing p.entries p.classes p.bytes p.records index.early) index.fields.items) index.missing
   pub used : (id : ℕ) → is_in index.used.ids id ≡ used_in p.records index.fields.items id
 

@@ -10,6 +10,7 @@ pub mod Scrub
 pub mod Meaning
 pub mod Indexed
 pub mod Missing
+pub mod KeyPlaces
 pub mod Refs
 pub mod Used
 pub mod Buffers

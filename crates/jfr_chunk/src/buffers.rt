@@ -20,7 +20,18 @@ impl Buffers {
     {
         Buffers {
             frames: FrameBuffers::new(alloc),
-            events: EventIndex::new(alloc),
+            events: EventIndex::new(alloc, false),
+        }
+    }
+
+    /// As `new`. The chunks that are read with this memory note where the keys of their events are spelled
+    /// (`Chunk::event_keys`).
+    pub fn noting_keys(alloc: Global) -> Buffers
+        ensures { IsEmpty result }
+    {
+        Buffers {
+            frames: FrameBuffers::new(alloc),
+            events: EventIndex::new(alloc, true),
         }
     }
 

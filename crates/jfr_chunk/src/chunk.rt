@@ -18,11 +18,12 @@ ghost use Rattle.jfr_chunk.specs.Reach.{node_entries, roots};
 ghost use Rattle.jfr_chunk.specs.Refusal.{Refused, read_parts};
 ghost use Rattle.jfr_chunk.specs.Buffers.{IsEmpty};
 ghost use Rattle.jfr_chunk.specs.Indexed.{IsOfChunk, event_at};
+ghost use Rattle.jfr_chunk.specs.KeyPlaces.{AreKeyPlaces};
 ghost use Rattle.jfr_chunk.specs.Missing.{AreMissing, missing_by_event};
 
 use crate::event_index::EventIndex;
 use crate::read::{header_in, read_events, record_named};
-use crate::{Buffers, Event, Kept, MissingRef};
+use crate::{Buffers, Event, Kept, KeyPlace, MissingRef};
 use jfr_base::{Flaw, NoMemory, ReadFault, Reason, Words};
 use jfr_frame::{CHECKPOINT_TYPE, Framed, Frames, METADATA_TYPE};
 use jfr_header::Header;
@@ -352,5 +353,17 @@ impl<'a> Chunk<'a> {
         let fields = self.events.fields_at(number)?;
         let start = self.events.refs_before(number);
         self.events.numbers.get(start..fields.refs_end as usize)
+    }
+
+    /// Where the keys with an entry in force are spelled in event `number`, from left to right, if this is noted, and
+    /// if all its other keys are 0 in one byte. A chunk that is read with `Buffers::noting_keys` notes it, unless
+    /// memory runs out, or another key of an event has no entry.
+    pub fn event_keys(&self, number: usize) -> Option<&[KeyPlace]>
+        ensures { IfSome result (λ places. IfSome (slice_get (events_of self.now) number) (λ e. AreKeyPlaces self.now e.node places.now)) }
+    {
+        let fields = self.events.fields_at(number)?;
+        let places = self.events.keys.all()?;
+        let from = self.events.refs_before(number);
+        places.get(from..fields.refs_end as usize)
     }
 }

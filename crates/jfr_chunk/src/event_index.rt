@@ -4,6 +4,7 @@ ghost use Rattle.jfr_frame.specs.Records.{record_end};
 ghost use Rattle.jfr_chunk.specs.Buffers.{HasNoEvents};
 ghost use Rattle.jfr_chunk.specs.Indexed.{end_in};
 
+use crate::key_places::KeyPlaces;
 use crate::missing::MissingRefs;
 use crate::used::UsedClasses;
 use jfr_frame::Framed;
@@ -23,7 +24,7 @@ pub(crate) struct EventIndexEntry {
 }
 
 /// The records of the events, in the order of the file, where their fields end, the numbers of the entries in
-/// force to which they refer, what they refer to without an entry, and their classes.
+/// force to which they refer, where their keys are spelled, what they refer to without an entry, and their classes.
 #[derive(Drop)]
 pub(crate) struct EventIndex {
     /// An entry for each event.
@@ -33,6 +34,8 @@ pub(crate) struct EventIndex {
     pub early: BTreeMap<u32, u32>,
     /// The numbers of the entries in force to which the events refer, one event after another.
     pub numbers: Vec<u32>,
+    /// Where the keys with these entries are spelled, if this is noted.
+    pub keys: KeyPlaces,
     /// The classes and keys to which the events refer and that have no entry in force.
     pub missing: MissingRefs,
     /// The classes of the events.
@@ -40,14 +43,15 @@ pub(crate) struct EventIndex {
 }
 
 impl EventIndex {
-    /// An index without events. It allocates nothing.
-    pub fn new(alloc: Global) -> EventIndex
+    /// An index without events, in which places of keys are noted or not. It allocates nothing.
+    pub fn new(alloc: Global, notes_keys: bool) -> EventIndex
         ensures { HasNoEvents result }
     {
         EventIndex {
             fields: Vec::new(alloc),
             early: BTreeMap::new(alloc),
             numbers: Vec::new(alloc),
+            keys: KeyPlaces::new(alloc, notes_keys),
             missing: MissingRefs::new(alloc),
             used: UsedClasses::new(alloc),
         }
@@ -60,6 +64,7 @@ impl EventIndex {
         self.fields.clear();
         self.early.clear();
         self.numbers.clear();
+        self.keys.clear();
         self.missing.clear();
         self.used.clear();
     }

@@ -13,6 +13,7 @@
 //! | `Chunk::pools`, `Chunk::entry_node` | the entries of all checkpoints, and the node of an entry's value |
 //! | `Kept` | a choice of events |
 //! | `MissingRef` | a reference of an event that has no entry, by `Chunk::missing_refs` |
+//! | `KeyPlace` | where a key of an event is spelled, by `Chunk::event_keys` |
 //! | `UsedClasses` | the classes of some events |
 //!
 //! From an event's node `child` of `jfr_value` leads to fields and items; `target` and `Chunk::pools` lead to
@@ -36,6 +37,7 @@ mod chunk;
 mod event;
 mod event_index;
 mod kept;
+mod key_places;
 mod laws;
 mod missing;
 mod read;
@@ -46,6 +48,7 @@ pub use buffers::Buffers;
 pub use chunk::Chunk;
 pub use event::Event;
 pub use kept::Kept;
+pub use key_places::KeyPlace;
 pub use laws::{computed_answer, marked_by_paths, one_answer, one_parts, same_paths};
 pub use missing::MissingRef;
 pub use used::UsedClasses;

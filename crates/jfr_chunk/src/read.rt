@@ -9,14 +9,16 @@ ghost use Rattle.jfr_frame.specs.Records.{AreRecords, IsRecord, record_end, reco
 ghost use Rattle.jfr_layout.specs.Classes.{IsEventLayout, Sound};
 ghost use Rattle.jfr_meta.specs.Answers.{IfFlawed};
 ghost use Rattle.jfr_meta.specs.Stays.{is_in};
+ghost use Rattle.jfr_value.specs.Leaves.{keys_in};
 ghost use Rattle.jfr_value.specs.Nodes.{node_at};
 ghost use Rattle.jfr_value.specs.Reading.{value_format};
 ghost use Rattle.jfr_pool.specs.Entries.{inline};
 ghost use Rattle.jfr_chunk.specs.Missing.{AreNotedIn, Notes, node_missing};
-ghost use Rattle.jfr_chunk.specs.Refs.{AddsRefs};
+ghost use Rattle.jfr_chunk.specs.KeyPlaces.{NotesKeys};
+ghost use Rattle.jfr_chunk.specs.Refs.{AddsRefs, HasPlaceForEach};
 ghost use Rattle.jfr_chunk.specs.Reach.{node_entries};
 ghost use Rattle.jfr_chunk.specs.Refusal.{found_or};
-ghost use Rattle.jfr_chunk.specs.Indexed.{AreRefs, indexed_missing, indexed_refs, used_in};
+ghost use Rattle.jfr_chunk.specs.Indexed.{AreKeysIn, AreRefs, indexed_missing, indexed_refs, used_in};
 ghost use Rattle.jfr_chunk.specs.Stages.{AreFields, IsRefusedEvents};
 
 use crate::event_index::{EventIndex, EventIndexEntry};
@@ -26,7 +28,7 @@ use jfr_frame::{Framed, Frames};
 use jfr_header::{Header, read_header};
 use jfr_layout::{Classes, FieldLayout};
 use jfr_pool::Pools;
-use jfr_value::{Walk, end_visiting};
+use jfr_value::{Walk, end_visiting_keys};
 use std::collections::BTreeMap;
 
 /// The header of a whole chunk.
@@ -70,6 +72,7 @@ pub(crate) fn read_events(
     requires entries { length pools.now ≤ length chunk.now }
     ensures ok { IfOk result (λ index. AreFields chunk.now classes.now frames.now index.fields.items index.early) }
     ensures refs_end { IfOk result (λ index. AreRefs (indexed_refs pools.now classes.now chunk.now frames.now index.early) 0 index.fields.items index.numbers.items) }
+    ensures keys { IfOk result (λ index. AreKeysIn pools.now classes.now chunk.now frames.now index.early index.fields.items index.keys) }
     ensures missing { IfOk result (λ index. AreNotedIn (map (indexed_missing pools.now classes.now chunk.now frames.now index.early) index.fields.items) index.missing) }
     ensures used { IfOk result (λ index. (id : ℕ) → is_in index.used.ids id ≡ used_in frames.now index.fields.items id) }
     ensures refused { IfErr result (IfFlawed (IsRefusedEvents chunk.now classes.now frames.now)) }
@@ -79,7 +82,7 @@ pub(crate) fn read_events(
     early.clear();
     let mut used = buffers.used;
     used.clear();
-    let mut refs = ConstantRefs::new(buffers.numbers, buffers.missing);
+    let mut refs = ConstantRefs::new(buffers.numbers, buffers.keys, buffers.missing);
     let reader = EventReader {
         chunk,
         classes,
@@ -109,6 +112,7 @@ pub(crate) fn read_events(
         fields,
         early,
         numbers: refs.numbers,
+        keys: refs.keys,
         missing: refs.missing,
         used,
     })
@@ -143,8 +147,8 @@ struct EventReader<'a> {
     pools: &'a Pools,
 }
 
-/// Where the fields of an event end. Adds the numbers of the entries to which they refer, and what they refer to
-/// without an entry.
+/// Where the fields of an event end. Adds the numbers of the entries to which they refer, the places of the keys, and
+/// what they refer to without an entry.
 #[inline]
 fn fields_end(
     reader: EventReader<'_>,
@@ -156,8 +160,11 @@ fn fields_end(
     requires event { IsEventLayout reader.classes.now frame.type_id layout.now }
     requires record { IsRecord reader.chunk.now frame }
     requires entries { length reader.pools.now < 2 ^ 32 }
+    requires even { HasPlaceForEach refs.now }
     ensures exact { result ≡ end_or_flaw (run (value_format reader.entry.classes.now (inline frame.type_id)) reader.entry.chunk.now (record_end frame) frame.body) }
     ensures refs_end { IfOk result (λ end. AddsRefs (node_entries reader.entry.pools.now reader.entry.classes.now reader.entry.chunk.now (node_at (inline frame.type_id) frame.body end)) refs.old refs.new) }
+    ensures keys { IfOk result (λ end. NotesKeys reader.entry.pools.now (keys_in reader.entry.classes.now reader.entry.chunk.now (node_at (inline frame.type_id) frame.body end)) refs.old.keys refs.new.keys) }
+    ensures even { HasPlaceForEach refs.new }
     ensures missing { IfOk result (λ end. Notes (node_missing reader.entry.pools.now reader.entry.classes.now reader.entry.chunk.now (node_at (inline frame.type_id) frame.body end)) refs.old.event refs.old.missing refs.new.missing) }
 {
     let walk = Walk {
@@ -166,5 +173,5 @@ fn fields_end(
         end: frame.end(),
         with: reader.pools,
     };
-    end_visiting(walk, layout, frame.body, refs)
+    end_visiting_keys(walk, layout, frame.body, refs)
 }

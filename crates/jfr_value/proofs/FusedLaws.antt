@@ -1,5 +1,5 @@
 -- Fields that are passed at once end where they do one by one.
-use Rattle.std.specs.Prelude.{◌≡◌, ◌⊎◌, ℕ, zero, suc, ◌+◌, ◌-◌, ◌<◌, ◌≤◌, List, [], ◌∷◌, ◌++◌, take, drop, length, map, slice_get, Option, Some, None, Result, Ok, Err, IfOk, IfSome, nat_le, option_map, option_to_list, true, if◌then◌else◌}
+use Rattle.std.specs.Prelude.{◌≡◌, ◌⊎◌, ℕ, zero, suc, ◌+◌, ◌-◌, ◌<◌, ◌≤◌, List, [], ◌∷◌, ◌++◌, take, drop, length, map, slice_get, Option, Some, None, Result, Ok, Err, IfOk, IfSome, nat_le, slice_range, true, if◌then◌else◌}
 use Rattle.std.specs.List.{AllByRecursion, flat_map}
 use Rattle.std.specs.Option.{option_map_or}
 use Rattle.std.specs.Result.{result_ok}
@@ -9,6 +9,7 @@ use Rattle.jfr_base.specs.declared.flaw.Flaw.{Flaw}
 use Rattle.jfr_base.specs.declared.integer.Var.{Var}
 use Rattle.jfr_base.specs.Formats.{Answer, Format, Done, Int, int_at, after_int, integer, unchecked, refused, run, end_or_flaw, times}
 use Rattle.jfr_base.specs.declared.reason.Reason.TheVariants.{Short}
+use Rattle.jfr_base.proofs.Exact.{int_found}
 use Rattle.jfr_base.proofs.Ranges.{range_length}
 use Rattle.jfr_base.proofs.FormatEnds.{then_at, then_at_ok, end_or_flaw-for_each, end_or_flaw-times}
 use Rattle.jfr_layout.specs.Classes.{AreFieldLayouts, Class, Classes, IsFieldLayout, inline_form, item_of}
@@ -22,8 +23,10 @@ use Rattle.jfr_layout.specs.declared.kind.Kind.TheVariants as kinds
 use Rattle.jfr_layout.specs.declared.shape.Shape.{Shape}
 use Rattle.jfr_layout.specs.declared.field_layout.FieldLayout.{FieldLayout}
 use Rattle.jfr_text.specs.Strings.{string_format}
+use Rattle.jfr_value.specs.declared.leaf.KeyAt.{KeyAt}
 use Rattle.jfr_value.specs.declared.leaf.LeafKind.TheVariants as leaf_kinds
-use Rattle.jfr_value.specs.Values.{IsLayoutOrKey, Value, Single, key_of, targets_of}
+use Rattle.jfr_value.specs.Values.{IsLayoutOrKey, Value, Single, key_of}
+use Rattle.jfr_value.specs.Leaves.{key_between, keys_at}
 use Rattle.jfr_value.specs.Reading.{base_format, class_format, item_format, values_format, shape_format}
 use Rattle.jfr_value.specs.Visits.{AreNumbers, IsNumbers, TakesAll, TakesRead, TakesReadAll, field_shapes, shapes_of_layouts}
 use Rattle.jfr_value.proofs.AppendLaws.{both_seen, both_taken, then_same}
@@ -33,6 +36,7 @@ use Rattle.jfr_value.proofs.PlaceLaws.{get_within}
 use Rattle.jfr_value.proofs.SkipLaws.{base_skipped}
 use Rattle.jfr_value.proofs.LayoutLaws.{by_shapes, of_shapes}
 use Rattle.jfr_value.proofs.LayoutEnds.{base_ends, inline_taken, text_ends, text_taken}
+use Rattle.jfr_value.proofs.PlacedLaws.{ReadsPlaced, placed_within, shape_placed}
 use Rattle.jfr_value.proofs.TakingLaws.{TakesRemaining, cons_taken, item_taken, no_value, plain_taken}
 
 all_take : {X : Type 0} (P : X → Type 0) (n : ℕ) (xs : List X) → AllByRecursion P xs → AllByRecursion P (take n xs)
@@ -176,65 +180,77 @@ module _ (k : Classes) (levels : ℕ) (x : List ℕ) (end : ℕ) where
       let j = subst (AllByRecursion (IsFieldLayout k)) h.1 i in
       text_ends k h.0 levels x end at (placed h.0 j.0) h.2.0 ∙ (sym (alone_seen h.0 at) ∙ ap (λ z. end_or_flaw (row z at)) (sym h.1))
 
+  one_placed : end ≤ length x → (s : FieldLayout) → ReadsPlaced x end (one s)
+  one_placed within s = shape_placed x end within (levels + 1) k s.shape
+
   -- What is taken of them.
-  module _ {A : Type 0} (takes : ℕ × ℕ → A → A → Type 0) where
-    cons_ends : (s : FieldLayout) (ss : List FieldLayout) (at : ℕ) (old now new : A) → TakesRead takes (run (one s) x end at) old now
-        → ((to : ℕ) → Ok to ≡ end_or_flaw (run (one s) x end at) → TakesReadAll takes (row ss to) now new) → TakesReadAll takes (row (s ∷ ss) at) old new
-    cons_ends s ss at old now new h t = by_end (end_or_flaw (run (one s) x end at)) refl
+  module _ {A : Type 0} (takes : KeyAt → A → A → Type 0) (within : end ≤ length x) where
+    cons_ends : (s : FieldLayout) (ss : List FieldLayout) (at : ℕ) (old now new : A) → at ≤ end → TakesRead takes at (run (one s) x end at) old now
+        → ((to : ℕ) → to ≤ end → TakesReadAll takes to (row ss to) now new) → TakesReadAll takes at (row (s ∷ ss) at) old new
+    cons_ends s ss at old now new o h t = by_end (end_or_flaw (run (one s) x end at)) refl
       where
-        by_end : (r : Result ℕ Flaw) → end_or_flaw (run (one s) x end at) ≡ r → TakesReadAll takes (row (s ∷ ss) at) old new
-        by_end (Ok to) e = cons_taken takes x end at (one s) (values_format (levels + 1) k ss) to old now new e h (t to (sym e))
+        by_end : (r : Result ℕ Flaw) → end_or_flaw (run (one s) x end at) ≡ r → TakesReadAll takes at (row (s ∷ ss) at) old new
+        by_end (Ok to) e = cons_taken takes x end at o within (one s) (values_format (levels + 1) k ss) to old now new (one_placed within s) e h
+            (t to (placed_within end at to (run (one s) x end at) e (one_placed within s at o)))
         by_end (Err w) e = no_value (row (s ∷ ss) at) w (λ got. _) (sym (end_or_flaw-for_each s ss one x end at ∙ ap (λ r. then_at r (λ p. end_or_flaw (row ss p))) e))
 
-    alone_taken : (s : FieldLayout) (at : ℕ) (old new : A) → TakesRead takes (run (one s) x end at) old new → TakesReadAll takes (row (s ∷ []) at) old new
+    alone_taken : (s : FieldLayout) (at : ℕ) (old new : A) → at ≤ end → TakesRead takes at (run (one s) x end at) old new → TakesReadAll takes at (row (s ∷ []) at) old new
     unfolding run
-    alone_taken s at old new h = cons_ends s [] at old new new h (λ to e. refl)
+    alone_taken s at old new o h = cons_ends s [] at old new new o h (λ to l. refl)
 
-    plain_one : (s : FieldLayout) (at : ℕ) (a : A) → IsFieldLayout k s → IsNumbers s → TakesRead takes (run (one s) x end at) a a
-    plain_one s at a i e =
+    plain_one : (s : FieldLayout) (at : ℕ) (a : A) → at ≤ end → IsFieldLayout k s → IsNumbers s → TakesRead takes at (run (one s) x end at) a a
+    plain_one s at a o i e =
         let m = plain_there s i.form e in
-        inline_taken k s levels x end at (placed s i) takes a a m.array m.constant (plain_taken takes x end at (levels + 1) k s a (omega arith) i m.not_composite m.not_text)
+        inline_taken k s levels x end at (placed s i) takes a a o within m.array m.constant (plain_taken takes x end at o within (levels + 1) k s a (omega arith) i m.not_composite m.not_text)
 
-    plain_all : (ss : List FieldLayout) (at : ℕ) (a : A) → AllByRecursion (IsFieldLayout k) ss → AreNumbers ss → TakesReadAll takes (row ss at) a a
+    plain_all : (ss : List FieldLayout) (at : ℕ) (a : A) → at ≤ end → AllByRecursion (IsFieldLayout k) ss → AreNumbers ss → TakesReadAll takes at (row ss at) a a
     unfolding run
-    plain_all [] at a i e = refl
-    plain_all (s ∷ ss) at a i e = cons_ends s ss at a a a (plain_one s at a i.0 e.0) (λ to q. plain_all ss to a i.1 e.1)
+    plain_all [] at a o i e = refl
+    plain_all (s ∷ ss) at a o i e = cons_ends s ss at a a a o (plain_one s at a o i.0 e.0) (λ to l. plain_all ss to a l i.1 e.1)
 
-    pub integers_taken : (count : ℕ) (ss : List FieldLayout) (at : ℕ) (a : A) → AllByRecursion (IsFieldLayout k) ss → AreIntegers count ss → TakesReadAll takes (row ss at) a a
-    integers_taken count ss at a i e = plain_all ss at a i (all_integers ss e.1)
+    pub integers_taken : (count : ℕ) (ss : List FieldLayout) (at : ℕ) (a : A) → at ≤ end → AllByRecursion (IsFieldLayout k) ss → AreIntegers count ss → TakesReadAll takes at (row ss at) a a
+    integers_taken count ss at a o i e = plain_all ss at a o i (all_integers ss e.1)
 
-    pub raw_taken : (ss : List FieldLayout) (count at : ℕ) (a : A) → AllByRecursion (IsFieldLayout k) ss → AreRaw count ss → TakesReadAll takes (row ss at) a a
-    raw_taken ss count at a i e = plain_all ss at a i (all_raw ss count e)
+    pub raw_taken : (ss : List FieldLayout) (count at : ℕ) (a : A) → at ≤ end → AllByRecursion (IsFieldLayout k) ss → AreRaw count ss → TakesReadAll takes at (row ss at) a a
+    raw_taken ss count at a o i e = plain_all ss at a o i (all_raw ss count e)
 
-    key_item : (s : Shape) (at : ℕ) (old new : A) → s.constant ≡ true → IfOk (run integer x end at) (λ key. takes (s.class, key.value) old new)
-        → TakesRead takes (run (item_format inline (item_of s)) x end at) old new
+    key_item : (s : Shape) (at : ℕ) (old new : A) → at ≤ end → s.constant ≡ true
+        → IfOk (run integer x end at) (λ key. takes (record { class = s.class; key = key.value; at = at; end = key.place }) old new)
+        → TakesRead takes at (run (item_format inline (item_of s)) x end at) old new
     unfolding run
-    key_item s at old new o h =
-        subst (λ t. TakesRead takes (run (if t then Int unchecked (λ key b. Done (Single (item_of s) (leaf_kinds.Key key) b (Some key))) else inline (item_of s)) x end at) old new) (sym o)
-        (by_int (int_at x at end) h)
+    key_item s at old new order o h =
+        subst (λ t. TakesRead takes at (run (if t then Int unchecked (λ key b. Done (Single (item_of s) (leaf_kinds.Key key) b (Some key))) else inline (item_of s)) x end at) old new) (sym o)
+        (by_int (int_at x at end) refl h)
       where
-        by_int : (o : Option Var) → IfOk (after_int x at unchecked (λ v b p. run (Done v) x end p) o) (λ key. takes (s.class, key.value) old new)
-            → IfOk (after_int x at unchecked (λ v b p. run (Done (Single (item_of s) (leaf_kinds.Key v) b (Some v))) x end p) o) (λ got. TakesAll takes (targets_of got.value) old new)
-        by_int None h = tt
-        by_int (Some v) h = (new, h, refl)
+        by_int : (o : Option Var) → int_at x at end ≡ o
+            → IfOk (after_int x at unchecked (λ v b p. run (Done v) x end p) o) (λ key. takes (record { class = s.class; key = key.value; at = at; end = key.place }) old new)
+            → IfOk (after_int x at unchecked (λ v b p. run (Done (Single (item_of s) (leaf_kinds.Key v) b (Some v))) x end p) o) (λ got. TakesAll takes (keys_at at got.value) old new)
+        by_int None e h = tt
+        by_int (Some v) e h =
+            let found = int_found x at end v order within e in
+            let l : length (slice_range x at v.end) ≡ v.end - at = range_length x at v.end (omega (arith, found.1)) in
+            let a : at ≤ v.end = found.0.order in
+            let to : v.end ≡ at + length (slice_range x at v.end) = omega arith in
+            (new, subst (λ n. takes (record { class = s.class; key = v.value; at = at; end = n }) old new) to h, refl)
 
-    pub key_taken : (class : ℕ) (ss : List FieldLayout) (at : ℕ) (old new : A) → AllByRecursion (IsFieldLayout k) ss → (s : FieldLayout) × (ss ≡ s ∷ []) × IsOf forms.Key class s
-        → IfOk (run integer x end at) (λ key. takes (class, key.value) old new)
-        → TakesReadAll takes (row ss at) old new
-    key_taken class ss at old new i h t =
+    pub key_taken : (class : ℕ) (ss : List FieldLayout) (at : ℕ) (old new : A) → at ≤ end → AllByRecursion (IsFieldLayout k) ss → (s : FieldLayout) × (ss ≡ s ∷ []) × IsOf forms.Key class s
+        → IfOk (run integer x end at) (λ key. takes (record { class = class; key = key.value; at = at; end = key.place }) old new)
+        → TakesReadAll takes at (row ss at) old new
+    key_taken class ss at old new o i h t =
         let s : FieldLayout = h.0 in
         let j = subst (AllByRecursion (IsFieldLayout k)) h.1 i in
         let m = key_there s j.0.form h.2.0 in
-        let u = subst (λ c. IfOk (run integer x end at) (λ key. takes (c, key.value) old new)) (sym h.2.1) t in
-        subst (λ z. TakesReadAll takes (row z at) old new) (sym h.1) (alone_taken s at old new (item_taken takes x end at inline s.shape old new m.0 (key_item s.shape at old new m.1 u)))
+        let u = subst (λ c. IfOk (run integer x end at) (λ key. takes (record { class = c; key = key.value; at = at; end = key.place }) old new)) (sym h.2.1) t in
+        subst (λ z. TakesReadAll takes at (row z at) old new) (sym h.1)
+        (alone_taken s at old new o (item_taken takes x end at o within inline s.shape old new m.0 (key_item s.shape at old new o m.1 u)))
 
-    pub text_taken_all : (class : ℕ) (ss : List FieldLayout) (at : ℕ) (old new : A) → AllByRecursion (IsFieldLayout k) ss → (s : FieldLayout) × (ss ≡ s ∷ []) × IsOf forms.Text class s
-        → IfOk (run (string_format true) x end at) (λ got. TakesAll takes (option_to_list (option_map (λ key. (class, key)) (key_of got.value))) old new) → TakesReadAll takes (row ss at) old new
-    text_taken_all class ss at old new i h t =
+    pub text_taken_all : (class : ℕ) (ss : List FieldLayout) (at : ℕ) (old new : A) → at ≤ end → AllByRecursion (IsFieldLayout k) ss → (s : FieldLayout) × (ss ≡ s ∷ []) × IsOf forms.Text class s
+        → IfOk (run (string_format true) x end at) (λ got. TakesAll takes (key_between class (at + 1) got.place (key_of got.value)) old new) → TakesReadAll takes at (row ss at) old new
+    text_taken_all class ss at old new o i h t =
         let s : FieldLayout = h.0 in
         let j = subst (AllByRecursion (IsFieldLayout k)) h.1 i in
-        let u = subst (λ c. IfOk (run (string_format true) x end at) (λ got. TakesAll takes (option_to_list (option_map (λ key. (c, key)) (key_of got.value))) old new)) (sym h.2.1) t in
-        subst (λ z. TakesReadAll takes (row z at) old new) (sym h.1) (alone_taken s at old new (text_taken k s levels x end at (placed s j.0) takes old new h.2.0 u))
+        let u = subst (λ c. IfOk (run (string_format true) x end at) (λ got. TakesAll takes (key_between c (at + 1) got.place (key_of got.value)) old new)) (sym h.2.1) t in
+        subst (λ z. TakesReadAll takes at (row z at) old new) (sym h.1) (alone_taken s at old new o (text_taken k s levels x end at (placed s j.0) takes old new o within h.2.0 u))
 
   -- The front: two integers, a key, and a key.
   module _ (thread trace : ℕ) (ss : List FieldLayout) (i : AllByRecursion (IsFieldLayout k) ss) (f : IsEventPrelude thread trace ss) where
@@ -284,17 +300,18 @@ module _ (k : Classes) (levels : ℕ) (x : List ℕ) (end : ℕ) where
         → r ≡ end_or_flaw (run integer x end traces) → r ≡ end_or_flaw (row ss at)
     front_ends at threads traces r p q e = e ∙ (ap (λ r. then_at r (λ q. end_or_flaw (run integer x end q))) q ∙ (ap (λ r. then_at r then_keys) p ∙ sym (front_seen at)))
 
-    pub front_taken : {A : Type 0} (takes : ℕ × ℕ → A → A → Type 0) (at threads traces : ℕ) (old now new : A) → Ok threads ≡ end_or_flaw (run (times 2 integer) x end at)
-        → Ok traces ≡ end_or_flaw (run integer x end threads)
-        → IfOk (run integer x end threads) (λ key. takes (thread, key.value) old now) → IfOk (run integer x end traces) (λ key. takes (trace, key.value) now new)
-        → TakesReadAll takes (row ss at) old new
-    front_taken takes at threads traces old now new p q h t =
-        subst (λ z. TakesReadAll takes (row z at) old new) (sym f.all)
-        (both_taken one x end takes begun (f.threads ∷ f.traces ∷ []) at threads old old new (p ∙ begun_seen at)
-        (integers_taken takes 2 begun at old (each.0, (each.1.0, tt)) (refl, (f.start_is, (f.duration_is, tt))))
-        (both_taken one x end takes (f.threads ∷ []) (f.traces ∷ []) threads traces old now new (q ∙ thread_seen threads)
-        (key_taken takes thread (f.threads ∷ []) threads old now (each.1.1.0, tt) (f.threads, refl, f.thread_is) h)
-        (key_taken takes trace (f.traces ∷ []) traces now new (each.1.1.1.0, tt) (f.traces, refl, f.trace_is) t)))
+    pub front_taken : {A : Type 0} (takes : KeyAt → A → A → Type 0) (within : end ≤ length x) (at threads traces : ℕ) (old now new : A) → at ≤ end → threads ≤ end → traces ≤ end
+        → Ok threads ≡ end_or_flaw (run (times 2 integer) x end at) → Ok traces ≡ end_or_flaw (run integer x end threads)
+        → IfOk (run integer x end threads) (λ key. takes (record { class = thread; key = key.value; at = threads; end = key.place }) old now)
+        → IfOk (run integer x end traces) (λ key. takes (record { class = trace; key = key.value; at = traces; end = key.place }) now new)
+        → TakesReadAll takes at (row ss at) old new
+    front_taken takes within at threads traces old now new l m n p q h t =
+        subst (λ z. TakesReadAll takes at (row z at) old new) (sym f.all)
+        (both_taken one x end takes within (one_placed within) begun (f.threads ∷ f.traces ∷ []) at threads old old new l (p ∙ begun_seen at)
+        (integers_taken takes within 2 begun at old l (each.0, (each.1.0, tt)) (refl, (f.start_is, (f.duration_is, tt))))
+        (both_taken one x end takes within (one_placed within) (f.threads ∷ []) (f.traces ∷ []) threads traces old now new m (q ∙ thread_seen threads)
+        (key_taken takes within thread (f.threads ∷ []) threads old now m (each.1.1.0, tt) (f.threads, refl, f.thread_is) h)
+        (key_taken takes within trace (f.traces ∷ []) traces now new n (each.1.1.1.0, tt) (f.traces, refl, f.trace_is) t)))
 
 pub passed_length : (ss : List FieldLayout) (l : FusedFields) → IsFused ss l → length (passed_by ss l) ≡ l.fields
 passed_length ss l i = let x = range_length ss l.first (l.first + l.fields) i.within in omega arith
@@ -343,10 +360,10 @@ module _ (ss : List FieldLayout) (fused_fields : List FusedFields) where
     unfolding run
     fused_end i at h = ap (λ z. end_or_flaw (run (values_format (levels + 1) k z) x end at)) (left_none i h)
 
-    pub fused_taken : {A : Type 0} (takes : ℕ × ℕ → A → A → Type 0) (all : Answer (List Value)) (i at : ℕ) (old now : A) → length fused_fields ≤ i → TakesRemaining takes all (by_fused i at) old now
-        → TakesReadAll takes all old now
+    pub fused_taken : {A : Type 0} (takes : KeyAt → A → A → Type 0) (start : ℕ) (all : Answer (List Value)) (i at : ℕ) (old now : A) → length fused_fields ≤ i
+        → TakesRemaining takes start all at (by_fused i at) old now → TakesReadAll takes start all old now
     unfolding run
-    fused_taken takes all i at old now h l = l.then_all now (subst (λ z. TakesReadAll takes (run (values_format (levels + 1) k z) x end at) now now) (sym (left_none i h)) refl)
+    fused_taken takes start all i at old now h l = l.then_all now (subst (λ z. TakesReadAll takes at (run (values_format (levels + 1) k z) x end at) now now) (sym (left_none i h)) refl)
 
     pub fused_step : (i at : ℕ) (d : FusedFields) → i < length fused_fields
         → end_or_flaw (by_fused i at) ≡ then_at (end_or_flaw (run (values_format (levels + 1) k (passed_by ss (get_or fused_fields i d))) x end at)) (λ p. end_or_flaw (by_fused (i + 1) p))
@@ -354,15 +371,16 @@ module _ (ss : List FieldLayout) (fused_fields : List FusedFields) where
         ap (λ z. end_or_flaw (run (values_format (levels + 1) k z) x end at)) (left_next i d h)
         ∙ both_seen (λ (s : FieldLayout). shape_format (class_format (levels + 1) k) s.shape) x end (passed_by ss (get_or fused_fields i d)) (left_by (i + 1)) at
 
-    pub fused_goes : {A : Type 0} (takes : ℕ × ℕ → A → A → Type 0) (all : Answer (List Value)) (i at to : ℕ) (d : FusedFields) (old now new : A) → i < length fused_fields
-        → TakesRemaining takes all (by_fused i at) old now
+    pub fused_goes : {A : Type 0} (takes : KeyAt → A → A → Type 0) (within : end ≤ length x) (start : ℕ) (all : Answer (List Value)) (i at to : ℕ) (d : FusedFields) (old now new : A)
+        → i < length fused_fields → at ≤ end → TakesRemaining takes start all at (by_fused i at) old now
         → Ok to ≡ end_or_flaw (run (values_format (levels + 1) k (passed_by ss (get_or fused_fields i d))) x end at)
-        → TakesReadAll takes (run (values_format (levels + 1) k (passed_by ss (get_or fused_fields i d))) x end at) now new
-        → TakesRemaining takes all (by_fused (i + 1) to) old new
-    fused_goes takes all i at to d old now new h l e t = record {
+        → TakesReadAll takes at (run (values_format (levels + 1) k (passed_by ss (get_or fused_fields i d))) x end at) now new
+        → TakesRemaining takes start all to (by_fused (i + 1) to) old new
+    fused_goes takes within start all i at to d old now new h o l e t = record {
       then_all = λ last u. l.then_all last
-          (subst (λ z. TakesReadAll takes (run (values_format (levels + 1) k z) x end at) now last) (sym (left_next i d h))
-          (both_taken (λ (s : FieldLayout). shape_format (class_format (levels + 1) k) s.shape) x end takes (passed_by ss (get_or fused_fields i d)) (left_by (i + 1)) at to now new last e t u));
+          (subst (λ z. TakesReadAll takes at (run (values_format (levels + 1) k z) x end at) now last) (sym (left_next i d h))
+          (both_taken (λ (s : FieldLayout). shape_format (class_format (levels + 1) k) s.shape) x end takes within (λ s. shape_placed x end within (levels + 1) k s.shape)
+          (passed_by ss (get_or fused_fields i d)) (left_by (i + 1)) at to now new last o e t u));
     }
 
 -- The next fused fields of a class.

@@ -1,5 +1,5 @@
 -- Where a value of a layout ends, and what is taken of it, by the layout's form.
-use Rattle.std.specs.Prelude.{◌≡◌, ◌≢◌, ℕ, ◌+◌, ◌-◌, ◌≤◌, Bool, true, false, List, [], ◌∷◌, map, slice_get, Some, IfOk, IfSome, option_map, option_to_list, if◌then◌else◌}
+use Rattle.std.specs.Prelude.{◌≡◌, ◌≢◌, ℕ, ◌+◌, ◌-◌, ◌≤◌, Bool, true, false, List, [], ◌∷◌, map, slice_get, Some, length, IfOk, IfSome, if◌then◌else◌}
 use Rattle.std.specs.List.{AllByRecursion}
 use Rattle.std.proofs.Common.{ap, arith, subst, sym, ◌∙◌}
 use Rattle.jfr_base.specs.Formats.{Answer, Format, Done, Int, for_each, run, end_or_flaw, unchecked}
@@ -10,7 +10,9 @@ use Rattle.jfr_layout.specs.declared.kind.Kind.TheVariants as kinds
 use Rattle.jfr_layout.specs.declared.shape.Shape.{Shape}
 use Rattle.jfr_layout.specs.declared.field_layout.FieldLayout.{FieldLayout}
 use Rattle.jfr_text.specs.Strings.{string_format}
+use Rattle.jfr_value.specs.declared.leaf.KeyAt.{KeyAt}
 use Rattle.jfr_value.specs.declared.leaf.LeafKind.TheVariants as leaf_kinds
+use Rattle.jfr_value.specs.Leaves.{key_between}
 use Rattle.jfr_value.specs.Values.{IsLayoutOrKey, Value, Single, key_of}
 use Rattle.jfr_value.specs.Reading.{base_format, class_format, shape_format}
 use Rattle.jfr_value.specs.Visits.{TakesAll, TakesRead, TakesReadAll}
@@ -72,26 +74,26 @@ module _ (k : Classes) (s : FieldLayout) (levels : ℕ) (x : List ℕ) (end at :
       ∙ (sym (layout_fields (levels + 1) k s ss x end at (omega arith) f.of_class f.composite a)
       ∙ inline_ends (class_format (levels + 1) k) s.shape x end at f.array f.constant)
 
-  module _ {A : Type 0} (takes : ℕ × ℕ → A → A → Type 0) (old new : A) where
-    pub inline_taken : s.shape.array ≡ false → s.shape.constant ≡ false → TakesRead takes (run (class_format (levels + 1) k (item_of s.shape)) x end at) old new → TakesRead takes reading old new
+  module _ {A : Type 0} (takes : KeyAt → A → A → Type 0) (old new : A) (order : at ≤ end) (within : end ≤ length x) where
+    pub inline_taken : s.shape.array ≡ false → s.shape.constant ≡ false → TakesRead takes at (run (class_format (levels + 1) k (item_of s.shape)) x end at) old new → TakesRead takes at reading old new
     inline_taken a o h =
-        item_taken takes x end at (class_format (levels + 1) k) s.shape old new a
-        (subst (λ t. TakesRead takes (run (item (class_format (levels + 1) k) s.shape t) x end at) old new) (sym o) h)
+        item_taken takes x end at order within (class_format (levels + 1) k) s.shape old new a
+        (subst (λ t. TakesRead takes at (run (item (class_format (levels + 1) k) s.shape t) x end at) old new) (sym o) h)
 
-    pub text_taken : s.form ≡ forms.Text → IfOk (run (string_format true) x end at) (λ got. TakesAll takes (option_to_list (option_map (λ key. (s.shape.class, key)) (key_of got.value))) old new)
-        → TakesRead takes reading old new
+    pub text_taken : s.form ≡ forms.Text → IfOk (run (string_format true) x end at) (λ got. TakesAll takes (key_between s.shape.class (at + 1) got.place (key_of got.value)) old new)
+        → TakesRead takes at reading old new
     text_taken e h =
         let i = inline_there s p.form forms.Text e tt in
-        inline_taken i.array i.constant (string_taken takes x end at (levels + 1) k s old new (omega arith) (p.of_class i.constant) (text_kind s.kind i.form) h)
+        inline_taken i.array i.constant (string_taken takes x end at order within (levels + 1) k s old new (omega arith) (p.of_class i.constant) (text_kind s.kind i.form) h)
 
     pub fields_go : (ss : List FieldLayout) → s.form ≡ forms.Fields → DepthBound k levels s.shape → IfSome (slice_get k s.class_index) (λ c. AreFieldLayouts k c.fields ss)
-        → TakesReadAll takes (run (for_each ss (λ z. shape_format (class_format (levels - 1 + 1) k) z.shape)) x end at) old new → TakesRead takes reading old new
+        → TakesReadAll takes at (run (for_each ss (λ z. shape_format (class_format (levels - 1 + 1) k) z.shape)) x end at) old new → TakesRead takes at reading old new
     fields_go ss e r a h =
         let f = fields_there e in
         let l : 1 ≤ levels = depth_remains e r in
         let m : levels - 1 + 1 ≡ levels + 1 - 1 = omega arith in
-        inline_taken f.array f.constant (fields_taken takes x end at (levels + 1) k s ss old new (omega arith) f.of_class f.composite a
-        (subst (λ n. TakesReadAll takes (run (for_each ss (λ z. shape_format (class_format n k) z.shape)) x end at) old new) m h))
+        inline_taken f.array f.constant (fields_taken takes x end at order within (levels + 1) k s ss old new (omega arith) f.of_class f.composite a
+        (subst (λ n. TakesReadAll takes at (run (for_each ss (λ z. shape_format (class_format n k) z.shape)) x end at) old new) m h))
 
 -- The room for each field of a layout's class.
 depth_of_each : (k : Classes) (levels : ℕ) (fs : List Field) (ss : List FieldLayout) → map (λ s. s.shape) ss ≡ map (λ f. f.shape) fs → AllByRecursion (λ f. DepthBound k levels f.shape) fs

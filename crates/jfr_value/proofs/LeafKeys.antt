@@ -20,7 +20,7 @@ use Rattle.jfr_value.specs.Nodes.{NodeAt, IsNode}
 use Rattle.jfr_value.specs.Leaves.{KeyIsSpelled, LeafAt, spelled_key, leaves, leaves_at, leaves_from, part_holder}
 use Rattle.jfr_value.proofs.TargetLaws.{leaves_are}
 
-all_append : {X : Type 0} (P : X → Type 0) (xs ys : List X) → AllByRecursion P xs → AllByRecursion P ys → AllByRecursion P (xs ++ ys)
+pub all_append : {X : Type 0} (P : X → Type 0) (xs ys : List X) → AllByRecursion P xs → AllByRecursion P ys → AllByRecursion P (xs ++ ys)
 all_append P [] ys a b = b
 all_append P (x ∷ xs) ys a b = (a.0, all_append P xs ys a.1 b)
 

@@ -49,7 +49,7 @@ base_key kinds.Double b key i = sym i.1
 base_key kinds.Text b key i = string_key b i.0 i.1 ∙ sym i.2
 base_key kinds.Composite b key i = absurd i
 
-single_key : (k : Classes) (s : Shape) (kind : LeafKind) (b : List ℕ) (key : Option ℕ) → IsSingle k s kind b key → leaf_key kind b ≡ key
+pub single_key : (k : Classes) (s : Shape) (kind : LeafKind) (b : List ℕ) (key : Option ℕ) → IsSingle k s kind b key → leaf_key kind b ≡ key
 single_key k s kind b key (inl p) = ap (λ z. leaf_key z b) p.4 ∙ sym p.5
 single_key k s kind b key (inr p) = ap (λ z. leaf_key z b) p.4 ∙ base_key (kind_of p.2.name) b key p.5
 

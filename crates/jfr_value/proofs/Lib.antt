@@ -10,6 +10,8 @@ pub mod FormLaws
 pub mod InsideLaws
 mod AppendLaws
 mod FusedLaws
+mod KeyPlaces
+mod PlacedLaws
 mod LastGroups
 pub mod LeafKeys
 pub mod LeafLaws
@@ -27,7 +29,7 @@ pub mod LayoutLaws
 pub mod StringLaws
 mod TakingLaws
 pub mod TargetLaws
-pub mod TextKeys
+mod TextKeys
 mod TreeLaws
 pub mod VisitLaws
 pub mod WalkLaws

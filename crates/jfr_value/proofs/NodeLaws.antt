@@ -38,10 +38,10 @@ base_free kinds.Composite = tt
 single_free : (kd : Kind) (s : Shape) → PlaceFree (with_bytes [] (base_format kd) (λ key b. Done (Single s (leaf_kinds.Base kd) b key)))
 single_free kd s = with_free [] (base_format kd) (λ key b. Done (Single s (leaf_kinds.Base kd) b key)) (base_free kd) (λ a b. tt)
 
-item_free : (f : Shape → Format Value) → ((s : Shape) → PlaceFree (f s)) → (s : Shape) → PlaceFree (item_format f s)
+pub item_free : (f : Shape → Format Value) → ((s : Shape) → PlaceFree (f s)) → (s : Shape) → PlaceFree (item_format f s)
 item_free f p s = if_free s.constant (Int unchecked (λ key b. Done (Single s (leaf_kinds.Key key) b (Some key)))) (f s) (λ v b. tt) (p s)
 
-shape_free : (f : Shape → Format Value) → ((s : Shape) → PlaceFree (f s)) → (s : Shape) → PlaceFree (shape_format f s)
+pub shape_free : (f : Shape → Format Value) → ((s : Shape) → PlaceFree (f s)) → (s : Shape) → PlaceFree (shape_format f s)
 shape_free f p s =
     if_free s.array (array_format (item_format f (item_of s)) s) (item_format f s)
     (λ n b. bind_free (times n (item_format f (item_of s))) (λ vs. Done (Group s b (values_of vs))) (times_free n (item_format f (item_of s)) (item_free f p (item_of s))) (λ vs. tt)) (item_free f p s)
@@ -58,7 +58,7 @@ kind_free kinds.Float s x p = single_free kinds.Float s
 kind_free kinds.Double s x p = single_free kinds.Double s
 kind_free kinds.Text s x p = single_free kinds.Text s
 
-class_free : (n : ℕ) (k : Classes) (s : Shape) → PlaceFree (class_format n k s)
+pub class_free : (n : ℕ) (k : Classes) (s : Shape) → PlaceFree (class_format n k s)
 unfolding class_format
 class_free zero k s = tt
 class_free (suc n) k s = by_class (find_class k s.class) (class_free n k)

@@ -114,7 +114,7 @@ no_rest b h r e d = e ∙ (ap (λ z. h ++ z) d ∙ append-nil h)
 abbrev pub Each : (f : Shape → Format Value) → Type 0
 Each f = (s : Shape) (b : List ℕ) (v : Value) → Exactly (f s) b v → Whole (shape_format f) s b v
 
-item_whole : (f : Shape → Format Value) → Each f → (s : Shape) (b : List ℕ) (v : Value) → Exactly (item_format f s) b v → Whole (shape_format f) s b v
+pub item_whole : (f : Shape → Format Value) → Each f → (s : Shape) (b : List ℕ) (v : Value) → Exactly (item_format f s) b v → Whole (shape_format f) s b v
 item_whole f m s b v e = by_mark s.constant e
   where
     by_mark : (t : Bool) → Exactly (if t then Int unchecked (λ key b. Done (Single s (leaf_kinds.Key key) b (Some key))) else f s) b v → Whole (shape_format f) s b v

@@ -1,11 +1,13 @@
 -- The leaves of a value: the values of base names, the keys of references and the counts of arrays.
-use Rattle.std.specs.Prelude.{◌≡◌, ℕ, zero, suc, ◌+◌, List, [], ◌∷◌, ◌++◌, length, Option, Some, None, ◌==◌, if◌then◌else◌}
+use Rattle.std.specs.Prelude.{◌≡◌, ℕ, zero, suc, ◌+◌, List, [], ◌∷◌, ◌++◌, length, Option, Some, None, ◌==◌, option_to_list, if◌then◌else◌}
+use Rattle.std.specs.List.{filter_map}
 use Rattle.std.specs.Option.{option_map, option_map_or}
 use Rattle.jfr_base.specs.Integer.{IsSpellingWithin, worth_within}
 use Rattle.jfr_layout.specs.Classes.{Classes}
 use Rattle.jfr_layout.specs.declared.kind.Kind.TheVariants as kinds
 use Rattle.jfr_layout.specs.declared.shape.Shape.{Shape}
 use Rattle.jfr_value.specs.declared.leaf.Holder.{Holder}
+use Rattle.jfr_value.specs.declared.leaf.KeyAt.{KeyAt}
 use Rattle.jfr_value.specs.declared.leaf.Leaf.{Leaf}
 use Rattle.jfr_value.specs.declared.leaf.LeafKind.{LeafKind}
 use Rattle.jfr_value.specs.declared.leaf.LeafKind.TheVariants as leaf_kinds
@@ -64,6 +66,34 @@ leaf_key (leaf_kinds.Base kind) spelled = None
 -- In a string that is a key, one integer follows the kind byte.
 abbrev pub KeyIsSpelled : LeafAt → Type 0
 KeyIsSpelled l = l.kind ≡ leaf_kinds.Base kinds.Text → (rest : List ℕ) → l.spelled ≡ 2 ∷ rest → IsSpellingWithin 8 rest
+
+-- Where the integer of a key starts, in a leaf that starts at the offset: in a string after the kind byte.
+abbrev pub key_start : LeafKind → ℕ → ℕ
+key_start (leaf_kinds.Key key) at = at
+key_start (leaf_kinds.Count n) at = at
+key_start (leaf_kinds.Base kind) at = at + 1
+
+-- The key of a leaf, and where it is spelled.
+abbrev pub key_of_leaf : LeafAt → Option KeyAt
+key_of_leaf l = option_map (λ key. record { class = l.class; key = key; at = key_start l.kind l.at; end = l.at + length l.spelled }) (leaf_key l.kind l.spelled)
+
+-- The keys in a node, from left to right.
+abbrev pub keys_in : Classes → List ℕ → NodeAt → List KeyAt
+keys_in k c n = filter_map key_of_leaf (leaves k c n)
+
+-- The key between two offsets, if there is one.
+abbrev pub key_between : ℕ → ℕ → ℕ → Option ℕ → List KeyAt
+key_between class at end key = option_to_list (option_map (λ key. record { class = class; key = key; at = at; end = end }) key)
+
+-- The keys in a value that starts at an offset, from left to right; and those in values one after another.
+abbrev mutual
+  pub keys_at : ℕ → Value → List KeyAt
+  keys_at at (Single s kind b key) = key_between s.class (key_start kind at) (at + length b) key
+  keys_at at (Group s h vs) = keys_from (at + length h) vs
+
+  pub keys_from : ℕ → Values → List KeyAt
+  keys_from at Nil = []
+  keys_from at (Cons v vs) = keys_at at v ++ keys_from (at + length (bytes_of v)) vs
 
 -- The class and the key to which a leaf refers, if it does.
 abbrev pub leaf_target : LeafAt → Option (ℕ × ℕ)

@@ -10,10 +10,11 @@ use Rattle.jfr_layout.specs.declared.kind.Kind.{Kind}
 use Rattle.jfr_layout.specs.declared.kind.Kind.TheVariants as kinds
 use Rattle.jfr_layout.specs.declared.shape.Shape.{Shape}
 use Rattle.jfr_value.specs.declared.leaf.Holder.{Holder}
+use Rattle.jfr_value.specs.declared.leaf.KeyAt.{KeyAt}
 use Rattle.jfr_value.specs.declared.leaf.LeafKind.TheVariants as leaf_kinds
-use Rattle.jfr_value.specs.Values.{Value, Values, targets_of, targets_of_all, values_of}
+use Rattle.jfr_value.specs.Values.{Value, Values, values_of}
 use Rattle.jfr_value.specs.Nodes.{AreValues}
-use Rattle.jfr_value.specs.Leaves.{LeafAt}
+use Rattle.jfr_value.specs.Leaves.{LeafAt, keys_at, keys_from}
 use Rattle.jfr_value.specs.Walks.{leaves_held}
 
 -- The visitor takes the members of a list one after another, which changes it from old to new.
@@ -21,13 +22,13 @@ abbrev pub TakesAll : {A X : Type 0} → (X → A → A → Type 0) → List X �
 TakesAll takes [] old new = old ≡ new
 TakesAll {A = A} takes (x ∷ xs) old new = (next : A) × takes x old next × TakesAll takes xs next new
 
--- If a value was read, the visitor takes what it refers to.
-abbrev pub TakesRead : {A : Type 0} → (ℕ × ℕ → A → A → Type 0) → Answer Value → A → A → Type 0
-TakesRead takes answer old new = IfOk answer (λ got. TakesAll takes (targets_of got.value) old new)
+-- If a value was read from an offset on, the visitor takes the keys in it.
+abbrev pub TakesRead : {A : Type 0} → (KeyAt → A → A → Type 0) → ℕ → Answer Value → A → A → Type 0
+TakesRead takes at answer old new = IfOk answer (λ got. TakesAll takes (keys_at at got.value) old new)
 
--- If values were read one after another, the visitor takes what they refer to.
-abbrev pub TakesReadAll : {A : Type 0} → (ℕ × ℕ → A → A → Type 0) → Answer (List Value) → A → A → Type 0
-TakesReadAll takes answer old new = IfOk answer (λ got. TakesAll takes (targets_of_all (values_of got.value)) old new)
+-- If values were read one after another from an offset on, the visitor takes the keys in them.
+abbrev pub TakesReadAll : {A : Type 0} → (KeyAt → A → A → Type 0) → ℕ → Answer (List Value) → A → A → Type 0
+TakesReadAll takes at answer old new = IfOk answer (λ got. TakesAll takes (keys_from at (values_of got.value)) old new)
 
 -- A leaf that is a value of a base name, but not a string.
 abbrev pub IsNumber : LeafAt → Type 0

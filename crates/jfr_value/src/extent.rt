@@ -1,6 +1,6 @@
 //! The walk to a value's end, over bytes of which nothing is known: it finds the value's end or a flaw. On the
-//! way it passes the value's references to a visitor. jfr_chunk uses it for each event (`end_visiting`), and
-//! jfr_pool for each constant (`end_by_layout`). Other crates find the ends of fields and items by `end_of`.
+//! way it passes the value's keys to a visitor. jfr_chunk uses it for each event (`end_visiting_keys`), and jfr_pool
+//! for each constant (`end_by_layout`). Other crates find the ends of fields and items by `end_of`.
 ghost use Rattle.std.specs.Prelude.{◌≡◌, ◌⊎◌, ℕ, ◌+◌, ◌≤◌, ◌<◌, length, IfOk, IfErr, Ok, IfSome, IsSome, IsTrue, ◌↔◌, slice_get, true};
 ghost use Rattle.std.specs.List.{AllByRecursion};
 ghost use Rattle.jfr_base.specs.Formats.{run, end_or_flaw};
@@ -8,6 +8,7 @@ ghost use Rattle.jfr_layout.specs.Classes.{IsFieldLayout, Sound, find_class, for
 ghost use Rattle.jfr_layout.specs.Fused.{AreFused};
 ghost use Rattle.jfr_layout.specs.declared.form.Form.TheVariants as forms;
 ghost use Rattle.jfr_layout.specs.declared.kind.Kind.TheVariants as kinds;
+ghost use Rattle.jfr_value.specs.Leaves.{keys_in};
 ghost use Rattle.jfr_value.specs.Nodes.{EndsAt, IsRefused, IsValueReason, node_at, targets};
 ghost use Rattle.jfr_value.specs.Values.{IsHollow, IsHollowArray, IsLayoutOrKey};
 ghost use Rattle.jfr_value.specs.Reading.{base_format, class_format, values_format, shape_format, value_format};
@@ -15,12 +16,12 @@ ghost use Rattle.jfr_value.specs.Visits.{TakesAll, TakesRead, TakesReadAll};
 ghost use Rattle.jfr_value.specs.Walks.{DepthBound};
 ghost use Rattle.jfr_value.specs.declared.walk.TheConstants.{INNER_LEVELS};
 
-use crate::Visit;
 use crate::fused::fused_end;
 use crate::integers::integer_end;
 use crate::keys::{key_end, text_end};
 use crate::part::item_of;
 use crate::walk::{LEVELS, Walk};
+use crate::{Visit, VisitKey};
 use jfr_base::{Flaw, Reason, read_within};
 use jfr_layout::{ClassLayout, Classes, FieldLayout, Form, Kind, Shape};
 use jfr_text::{is_bare, is_key, read_string, short_units_end};
@@ -97,12 +98,34 @@ pub fn end_visiting<C, V: Visit<C>>(
     ensures visited { IfOk result (λ to. TakesAll (V.takes walk.entry.with.now) (targets walk.entry.classes.now walk.entry.bytes.now (node_at layout.now.shape at to)) visitor.old visitor.new) }
     ensures ready { V.ready visitor.new walk.entry.with.now }
 {
+    end_visiting_keys(walk, layout, at, visitor)
+}
+
+/// As `end_visiting`. The visitor is also told where each key is spelled.
+#[inline(always)]
+pub fn end_visiting_keys<C, V: VisitKey<C>>(
+    walk: Walk<'_, '_, C>,
+    layout: &FieldLayout,
+    at: usize,
+    visitor: &mut V,
+) -> Result<usize, Flaw>
+    requires sound { Sound walk.classes.now }
+    requires layout { IsFieldLayout walk.classes.now layout.now }
+    requires order { at ≤ walk.end }
+    requires ready { V.ready visitor.old walk.with.now }
+    ensures ok { IfOk result (λ to. EndsAt walk.entry.classes.now walk.entry.bytes.now layout.now.shape at to × (to ≤ walk.entry.end)) }
+    ensures refused { IfErr result (IsRefused walk.entry.classes.now walk.entry.bytes.now layout.now.shape at walk.entry.end) }
+    ensures exact { result ≡ end_or_flaw (run (value_format walk.entry.classes.now layout.now.shape) walk.entry.bytes.now walk.entry.end at) }
+    ensures reason { IfErr result (λ flaw. IsValueReason flaw.reason) }
+    ensures visited { IfOk result (λ to. TakesAll (V.takes walk.entry.with.now) (keys_in walk.entry.classes.now walk.entry.bytes.now (node_at layout.now.shape at to)) visitor.old visitor.new) }
+    ensures ready { V.ready visitor.new walk.entry.with.now }
+{
     value_end(walk, layout, at, visitor)
 }
 
-/// The body of `end_visiting`. Its clauses are in terms of the format's `run`.
+/// The body of `end_visiting_keys`. Its clauses are in terms of the format's `run`.
 #[inline(always)]
-fn value_end<C, V: Visit<C>>(
+fn value_end<C, V: VisitKey<C>>(
     walk: Walk<'_, '_, C>,
     layout: &FieldLayout,
     at: usize,
@@ -113,7 +136,7 @@ fn value_end<C, V: Visit<C>>(
     requires order { at ≤ walk.end }
     requires ready { V.ready visitor.old walk.with.now }
     ensures exact { result ≡ end_or_flaw (run (value_format walk.entry.classes.now layout.now.shape) walk.entry.bytes.now walk.entry.end at) }
-    ensures visited { TakesRead (V.takes walk.entry.with.now) (run (value_format walk.entry.classes.now layout.now.shape) walk.entry.bytes.now walk.entry.end at) visitor.old visitor.new }
+    ensures visited { TakesRead (V.takes walk.entry.with.now) at (run (value_format walk.entry.classes.now layout.now.shape) walk.entry.bytes.now walk.entry.end at) visitor.old visitor.new }
     ensures ready { V.ready visitor.new walk.entry.with.now }
 {
     match layout.form {
@@ -127,7 +150,7 @@ fn value_end<C, V: Visit<C>>(
 
 /// The offset after a value that isn't the fields of a composite class.
 #[inline]
-fn other_end<C, V: Visit<C>>(
+fn other_end<C, V: VisitKey<C>>(
     walk: Walk<'_, '_, C>,
     layout: &FieldLayout,
     at: usize,
@@ -138,7 +161,7 @@ fn other_end<C, V: Visit<C>>(
     requires order { at ≤ walk.end }
     requires ready { V.ready visitor.old walk.with.now }
     ensures exact { result ≡ end_or_flaw (run (value_format walk.entry.classes.now layout.now.shape) walk.entry.bytes.now walk.entry.end at) }
-    ensures visited { TakesRead (V.takes walk.entry.with.now) (run (value_format walk.entry.classes.now layout.now.shape) walk.entry.bytes.now walk.entry.end at) visitor.old visitor.new }
+    ensures visited { TakesRead (V.takes walk.entry.with.now) at (run (value_format walk.entry.classes.now layout.now.shape) walk.entry.bytes.now walk.entry.end at) visitor.old visitor.new }
     ensures ready { V.ready visitor.new walk.entry.with.now }
 {
     if is_hollow_array(walk.classes, layout) {
@@ -267,7 +290,7 @@ pub(crate) fn base_end(kind: Kind, bytes: &[u8], at: usize, end: usize) -> Resul
 #[cycle(ends)]
 #[tactic(auto, using(jfr_base::proofs::FormatEnds::ends), unfolding(jfr_base::specs::Formats::run, crate::specs::Reading::class_format))]
 #[inline(always)]
-pub(crate) fn layout_end<C, V: Visit<C>>(
+pub(crate) fn layout_end<C, V: VisitKey<C>>(
     walk: &Walk<'_, '_, C>,
     layout: &FieldLayout,
     at: usize,
@@ -280,7 +303,7 @@ pub(crate) fn layout_end<C, V: Visit<C>>(
     requires ready { V.ready visitor.old walk.now.with.now }
     ensures exact { result ≡ end_or_flaw (run (shape_format (class_format (levels + 1) walk.now.classes.now) layout.now.shape) walk.now.bytes.now walk.now.end at) }
     ensures range { IfOk result (λ to. (at ≤ to) × (to ≤ walk.now.end)) }
-    ensures visited { TakesRead (V.takes walk.now.with.now) (run (shape_format (class_format (levels + 1) walk.now.classes.now) layout.now.shape) walk.now.bytes.now walk.now.end at) visitor.old visitor.new }
+    ensures visited { TakesRead (V.takes walk.now.with.now) at (run (shape_format (class_format (levels + 1) walk.now.classes.now) layout.now.shape) walk.now.bytes.now walk.now.end at) visitor.old visitor.new }
     ensures ready { V.ready visitor.new walk.now.with.now }
 {
     match layout.form {
@@ -298,7 +321,7 @@ pub(crate) fn layout_end<C, V: Visit<C>>(
 #[cycle(ends)]
 #[tactic(auto, using(jfr_base::proofs::FormatEnds::ends), unfolding(jfr_base::specs::Formats::run, crate::specs::Reading::class_format))]
 #[inline(always)]
-fn compound_end<C, V: Visit<C>>(
+fn compound_end<C, V: VisitKey<C>>(
     walk: &Walk<'_, '_, C>,
     layout: &FieldLayout,
     at: usize,
@@ -312,7 +335,7 @@ fn compound_end<C, V: Visit<C>>(
     requires ready { V.ready visitor.old walk.now.with.now }
     ensures exact { result ≡ end_or_flaw (run (shape_format (class_format (levels + 1) walk.now.classes.now) layout.now.shape) walk.now.bytes.now walk.now.end at) }
     ensures range { IfOk result (λ to. (at ≤ to) × (to ≤ walk.now.end)) }
-    ensures visited { TakesRead (V.takes walk.now.with.now) (run (shape_format (class_format (levels + 1) walk.now.classes.now) layout.now.shape) walk.now.bytes.now walk.now.end at) visitor.old visitor.new }
+    ensures visited { TakesRead (V.takes walk.now.with.now) at (run (shape_format (class_format (levels + 1) walk.now.classes.now) layout.now.shape) walk.now.bytes.now walk.now.end at) visitor.old visitor.new }
     ensures ready { V.ready visitor.new walk.now.with.now }
 {
     match layout.form {
@@ -333,7 +356,7 @@ fn compound_end<C, V: Visit<C>>(
 #[cycle(ends)]
 #[tactic(auto, using(jfr_base::proofs::FormatEnds::ends), unfolding(jfr_base::specs::Formats::run, crate::specs::Reading::class_format))]
 #[inline(never)]
-pub(crate) fn fields_end<C, V: Visit<C>>(
+pub(crate) fn fields_end<C, V: VisitKey<C>>(
     walk: &Walk<'_, '_, C>,
     layouts: &[FieldLayout],
     at: usize,
@@ -346,7 +369,7 @@ pub(crate) fn fields_end<C, V: Visit<C>>(
     requires ready { V.ready visitor.old walk.now.with.now }
     ensures exact { result ≡ end_or_flaw (run (values_format (levels + 1) walk.now.classes.now layouts.now) walk.now.bytes.now walk.now.end at) }
     ensures range { IfOk result (λ to. (at ≤ to) × (to ≤ walk.now.end)) }
-    ensures visited { TakesReadAll (V.takes walk.now.with.now) (run (values_format (levels + 1) walk.now.classes.now layouts.now) walk.now.bytes.now walk.now.end at) visitor.old visitor.new }
+    ensures visited { TakesReadAll (V.takes walk.now.with.now) at (run (values_format (levels + 1) walk.now.classes.now layouts.now) walk.now.bytes.now walk.now.end at) visitor.old visitor.new }
     ensures ready { V.ready visitor.new walk.now.with.now }
 {
     let mut to = at;
@@ -359,7 +382,7 @@ pub(crate) fn fields_end<C, V: Visit<C>>(
 /// The offset after the fields of an event, or of another value that isn't part of one. Each group of fused
 /// fields is passed at once.
 #[inline(always)]
-fn all_fields_end<C, V: Visit<C>>(
+fn all_fields_end<C, V: VisitKey<C>>(
     walk: Walk<'_, '_, C>,
     class_layout: &ClassLayout,
     at: usize,
@@ -372,7 +395,7 @@ fn all_fields_end<C, V: Visit<C>>(
     requires ready { V.ready visitor.old walk.with.now }
     ensures exact { result ≡ end_or_flaw (run (values_format (INNER_LEVELS + 1) walk.entry.classes.now class_layout.now.layouts.items) walk.entry.bytes.now walk.entry.end at) }
     ensures range { IfOk result (λ to. (at ≤ to) × (to ≤ walk.entry.end)) }
-    ensures visited { TakesReadAll (V.takes walk.entry.with.now) (run (values_format (INNER_LEVELS + 1) walk.entry.classes.now class_layout.now.layouts.items) walk.entry.bytes.now walk.entry.end at) visitor.old visitor.new }
+    ensures visited { TakesReadAll (V.takes walk.entry.with.now) at (run (values_format (INNER_LEVELS + 1) walk.entry.classes.now class_layout.now.layouts.items) walk.entry.bytes.now walk.entry.end at) visitor.old visitor.new }
     ensures ready { V.ready visitor.new walk.entry.with.now }
 {
     let mut to = at;
@@ -386,7 +409,7 @@ fn all_fields_end<C, V: Visit<C>>(
 #[cycle(ends)]
 #[tactic(auto, using(jfr_base::proofs::FormatEnds::ends), unfolding(jfr_base::specs::Formats::run, crate::specs::Reading::class_format))]
 #[inline(never)]
-fn array_end<C, V: Visit<C>>(
+fn array_end<C, V: VisitKey<C>>(
     walk: &Walk<'_, '_, C>,
     layout: &FieldLayout,
     at: usize,
@@ -400,7 +423,7 @@ fn array_end<C, V: Visit<C>>(
     requires ready { V.ready visitor.old walk.now.with.now }
     ensures exact { result ≡ end_or_flaw (run (shape_format (class_format (levels + 1) walk.now.classes.now) layout.now.shape) walk.now.bytes.now walk.now.end at) }
     ensures range { IfOk result (λ to. (at ≤ to) × (to ≤ walk.now.end)) }
-    ensures visited { TakesRead (V.takes walk.now.with.now) (run (shape_format (class_format (levels + 1) walk.now.classes.now) layout.now.shape) walk.now.bytes.now walk.now.end at) visitor.old visitor.new }
+    ensures visited { TakesRead (V.takes walk.now.with.now) at (run (shape_format (class_format (levels + 1) walk.now.classes.now) layout.now.shape) walk.now.bytes.now walk.now.end at) visitor.old visitor.new }
     ensures ready { V.ready visitor.new walk.now.with.now }
 {
     let count = read_within(walk.bytes, at, walk.end)?;

@@ -10,7 +10,7 @@ ghost use Rattle.jfr_value.specs.Visits.{AreNumbers, TakesReadAll};
 ghost use Rattle.jfr_value.specs.Walks.{DepthBound};
 ghost use Rattle.jfr_value.specs.declared.walk.TheConstants.{INNER_LEVELS};
 
-use crate::Visit;
+use crate::VisitKey;
 use crate::extent::{fields_end, run_end};
 use crate::integers::{integer_end, integers_end};
 use crate::keys::{key_end, text_end};
@@ -20,7 +20,7 @@ use jfr_layout::{ClassLayout, FieldLayout, FusedFields, FusedKind};
 
 /// The offset after fused fields. If they can't be passed at once, they are walked one by one.
 #[inline(always)]
-pub(crate) fn fused_end<C, V: Visit<C>>(
+pub(crate) fn fused_end<C, V: VisitKey<C>>(
     walk: Walk<'_, '_, C>,
     class_layout: &ClassLayout,
     fused: &FusedFields,
@@ -34,7 +34,7 @@ pub(crate) fn fused_end<C, V: Visit<C>>(
     requires ready { V.ready visitor.old walk.with.now }
     ensures exact { result ≡ end_or_flaw (run (values_format (INNER_LEVELS + 1) walk.entry.classes.now (passed_by class_layout.now.layouts.items fused.now)) walk.entry.bytes.now walk.entry.end at) }
     ensures range { IfOk result (λ to. (at ≤ to) × (to ≤ walk.entry.end)) }
-    ensures visited { TakesReadAll (V.takes walk.entry.with.now) (run (values_format (INNER_LEVELS + 1) walk.entry.classes.now (passed_by class_layout.now.layouts.items fused.now)) walk.entry.bytes.now walk.entry.end at) visitor.old visitor.new }
+    ensures visited { TakesReadAll (V.takes walk.entry.with.now) at (run (values_format (INNER_LEVELS + 1) walk.entry.classes.now (passed_by class_layout.now.layouts.items fused.now)) walk.entry.bytes.now walk.entry.end at) visitor.old visitor.new }
     ensures ready { V.ready visitor.new walk.entry.with.now }
 {
     match fused.kind {
@@ -87,7 +87,7 @@ pub(crate) fn numbers_end(bytes: &[u8], fused: &FusedFields, at: usize, end: usi
 /// The offset after fused fields, walked field by field. The result is unpacked here, so that the fast paths
 /// of `fused_end` keep theirs in registers.
 #[inline(always)]
-fn each_end<C, V: Visit<C>>(
+fn each_end<C, V: VisitKey<C>>(
     walk: Walk<'_, '_, C>,
     class_layout: &ClassLayout,
     fused: &FusedFields,
@@ -101,7 +101,7 @@ fn each_end<C, V: Visit<C>>(
     requires ready { V.ready visitor.old walk.with.now }
     ensures exact { result ≡ end_or_flaw (run (values_format (INNER_LEVELS + 1) walk.entry.classes.now (passed_by class_layout.now.layouts.items fused.now)) walk.entry.bytes.now walk.entry.end at) }
     ensures range { IfOk result (λ to. (at ≤ to) × (to ≤ walk.entry.end)) }
-    ensures visited { TakesReadAll (V.takes walk.entry.with.now) (run (values_format (INNER_LEVELS + 1) walk.entry.classes.now (passed_by class_layout.now.layouts.items fused.now)) walk.entry.bytes.now walk.entry.end at) visitor.old visitor.new }
+    ensures visited { TakesReadAll (V.takes walk.entry.with.now) at (run (values_format (INNER_LEVELS + 1) walk.entry.classes.now (passed_by class_layout.now.layouts.items fused.now)) walk.entry.bytes.now walk.entry.end at) visitor.old visitor.new }
     ensures ready { V.ready visitor.new walk.entry.with.now }
 {
     let fields = fused_layouts(class_layout, fused);
@@ -111,7 +111,7 @@ fn each_end<C, V: Visit<C>>(
 
 /// The offset after the event prelude: two integers, and references of these classes.
 #[inline(always)]
-fn prelude_end<C, V: Visit<C>>(
+fn prelude_end<C, V: VisitKey<C>>(
     walk: Walk<'_, '_, C>,
     thread: u64,
     trace: u64,
@@ -122,7 +122,7 @@ fn prelude_end<C, V: Visit<C>>(
     requires ready { V.ready visitor.old walk.with.now }
     ensures exact { (k : Classes) (levels : ℕ) (layouts : List FieldLayout) → AllByRecursion (IsFieldLayout k) layouts → IsEventPrelude thread trace layouts → result ≡ end_or_flaw (run (values_format (levels + 1) k layouts) walk.entry.bytes.now walk.entry.end at) }
     ensures range { IfOk result (λ to. (at ≤ to) × (to ≤ walk.entry.end)) }
-    ensures visited { (k : Classes) (levels : ℕ) (layouts : List FieldLayout) → AllByRecursion (IsFieldLayout k) layouts → IsEventPrelude thread trace layouts → TakesReadAll (V.takes walk.entry.with.now) (run (values_format (levels + 1) k layouts) walk.entry.bytes.now walk.entry.end at) visitor.old visitor.new }
+    ensures visited { (k : Classes) (levels : ℕ) (layouts : List FieldLayout) → AllByRecursion (IsFieldLayout k) layouts → IsEventPrelude thread trace layouts → TakesReadAll (V.takes walk.entry.with.now) at (run (values_format (levels + 1) k layouts) walk.entry.bytes.now walk.entry.end at) visitor.old visitor.new }
     ensures ready { V.ready visitor.new walk.entry.with.now }
 {
     let times = integers_end(walk.bytes, at, walk.end, 2)?;

@@ -1,7 +1,7 @@
 //! The leaves of a value.
-ghost use Rattle.std.specs.Prelude.{◌≡◌, ◌∷◌, ℕ, List};
+ghost use Rattle.std.specs.Prelude.{◌≡◌, ◌∷◌, ◌+◌, ◌<◌, ◌^◌, ℕ, List, length};
 ghost use Rattle.jfr_base.specs.Integer.{IsSpellingWithin};
-ghost use Rattle.jfr_value.specs.Leaves.{KeyIsSpelled, leaf_key, leaf_of, spelled_key};
+ghost use Rattle.jfr_value.specs.Leaves.{KeyIsSpelled, key_of_leaf, leaf_key, leaf_of, spelled_key};
 
 use jfr_base::known_integer;
 use jfr_layout::Kind;
@@ -43,6 +43,19 @@ pub struct Leaf<'a> {
     pub spelled: &'a [u8],
 }
 
+/// A key in a chunk: that of a reference, or of a string that is a key.
+#[derive(Clone, Copy, Debug, PartialEq, Eq)]
+pub struct KeyAt {
+    /// The class of what it refers to.
+    pub class: u64,
+    /// The key.
+    pub key: u64,
+    /// The offset of the integer that spells it. In a string, this is after the kind byte.
+    pub at: usize,
+    /// The offset after the integer.
+    pub end: usize,
+}
+
 impl Leaf<'_> {
     /// The key of a reference, or of a string that is a key. `None` for all other leaves.
     #[inline(always)]
@@ -55,6 +68,26 @@ impl Leaf<'_> {
             LeafKind::Base(Kind::Text) => string_key(self.spelled),
             _ => None,
         }
+    }
+
+    /// The key of a reference, or of a string that is a key, and where it is spelled. `None` for all other leaves.
+    #[inline(always)]
+    pub fn key_at(&self) -> Option<KeyAt>
+        requires key { KeyIsSpelled (leaf_of self.now) }
+        requires short { self.now.at + length self.now.spelled.now < 2 ^ 64 }
+        ensures { result ≡ key_of_leaf (leaf_of self.now) }
+    {
+        let key = self.key()?;
+        let at = match self.kind {
+            LeafKind::Base(_) => self.at + 1,
+            _ => self.at,
+        };
+        Some(KeyAt {
+            class: self.class,
+            key,
+            at,
+            end: self.at + self.spelled.len(),
+        })
     }
 }
 

@@ -6,7 +6,7 @@ ghost use Rattle.jfr_value.specs.Nodes.{IsValue, node_of, targets};
 ghost use Rattle.jfr_value.specs.Visits.{TakesAll};
 
 use crate::leaf_visit::visit_leaves_and_count;
-use crate::{Leaf, Node, Steps, VisitLeaf, visit_leaves};
+use crate::{KeyAt, Leaf, Node, Steps, VisitLeaf, visit_leaves};
 use jfr_layout::Classes;
 use std::sync::ledger::Ledger;
 
@@ -26,23 +26,52 @@ pub trait Visit<C> {
         ensures takes { takes with.now (class, key) self.old self.new };
 }
 
-impl<C, V: Visit<C>> VisitLeaf<C> for V {
-    ghost use Rattle.std.specs.Prelude.{option_to_list};
-    ghost use Rattle.jfr_value.specs.Leaves.{KeyIsSpelled, leaf_target};
+/// A visitor takes the keys in a value one by one, each with the place where it is spelled.
+/// Every visitor of targets (`Visit`) is one.
+pub trait VisitKey<C> {
+    ghost use Rattle.jfr_value.specs.declared.leaf.KeyAt.{KeyAt};
+
+    // Whether the visitor can take a key.
+    ghost ready: { Self → C → Type 0 };
+
+    // How taking a key changes the visitor.
+    ghost takes: { C → KeyAt → Self → Self → Type 0 };
+
+    /// Takes the key of a reference, or of a string that is a key.
+    fn visit_key(&mut self, with: &C, key: KeyAt)
+        requires ready { ready self.old with.now }
+        ensures ready { ready self.new with.now }
+        ensures takes { takes with.now key self.old self.new };
+}
+
+impl<C, V: Visit<C>> VisitKey<C> for V {
+    ghost ready = { V.Visit.ready };
+
+    ghost takes = { λ with key old new. V.Visit.takes with (key.class, key.key) old new };
+
+    #[inline(always)]
+    fn visit_key(&mut self, with: &C, key: KeyAt) {
+        self.visit(with, key.class, key.key);
+    }
+}
+
+impl<C, V: VisitKey<C>> VisitLeaf<C> for V {
+    ghost use Rattle.std.specs.Prelude.{◌+◌, ◌<◌, ◌^◌, length, option_to_list};
+    ghost use Rattle.jfr_value.specs.Leaves.{KeyIsSpelled, key_of_leaf};
     ghost use Rattle.jfr_value.specs.Visits.{TakesAll};
 
-    ghost admits = { λ with leaf. KeyIsSpelled leaf };
+    ghost admits = { λ with leaf. KeyIsSpelled leaf × (leaf.at + length leaf.spelled < 2 ^ 64) };
 
-    ghost ready = { λ visitor with at. V.Visit.ready visitor with };
+    ghost ready = { λ visitor with at. V.VisitKey.ready visitor with };
 
-    ghost takes = { λ with leaf old new. TakesAll (V.Visit.takes with) (option_to_list (leaf_target leaf)) old new };
+    ghost takes = { λ with leaf old new. TakesAll (V.VisitKey.takes with) (option_to_list (key_of_leaf leaf)) old new };
 
     fn passes_numbers() {}
 
     #[inline(always)]
     fn visit_leaf(&mut self, with: &C, leaf: Leaf<'_>) {
-        if let Some(key) = leaf.key() {
-            self.visit(with, leaf.class, key);
+        if let Some(key) = leaf.key_at() {
+            self.visit_key(with, key);
         }
     }
 }

@@ -1,10 +1,12 @@
 use Rattle.std.proofs.Common.{length, map, ◌+◌, ap, sym, ◌∙◌, subst, arith}
 use Rattle.std.proofs.lemmas.Result.{err_from_is_err_and}
-use Rattle.jfr_chunk.specs.Indexed.{AreRefs, indexed_missing, indexed_refs, used_in}
+use Rattle.jfr_chunk.specs.Indexed.{AreKeysIn, AreRefs, indexed_missing, indexed_refs, used_in}
 use Rattle.jfr_chunk.specs.Missing.{AreNotedIn}
 use Rattle.jfr_chunk.proofs.CountLaws.{counted_none, counted_next, counted_event, number_fits, whole_small}
 use Rattle.jfr_chunk.proofs.EndLaws.{EndIs, end_early, end_full}
 use Rattle.jfr_chunk.proofs.EventReading.{ReadTo, record_of, read_none, read_other, read_event, read_stops, read_all}
+use Rattle.jfr_chunk.specs.Reach.{node_entries}
+use Rattle.jfr_chunk.proofs.KeyLaws.{event_keys, keys_none}
 use Rattle.jfr_chunk.proofs.NotedLaws.{event_noted, noted_none}
 use Rattle.jfr_chunk.proofs.RefLaws.{event_refs}
 use Rattle.jfr_chunk.proofs.UsedLaws.{used_next}
@@ -20,6 +22,9 @@ loop-number-init c = record {
   counted = counted_none c.args.chunk.now c.args.frames.now _ c.requires.records (ap length c.new-refs.ensures.numbers);
   refs_end = λ h. subst (λ z. AreRefs (indexed_refs c.args.pools.now c.args.classes.now c.args.chunk.now c.args.frames.now c.clear.new.self) 0 z c.new-refs.result.numbers.items)
       (sym c.in_ok-fields.ensures) c.new-refs.ensures.numbers;
+  even = λ h i. ap length c.new-refs.ensures.keys ∙ sym (ap length c.new-refs.ensures.numbers);
+  keys = λ h. keys_none c.args.pools.now c.args.classes.now c.args.chunk.now c.args.frames.now c.clear.new.self c.in_ok-fields.fields.items c.new-refs.result.keys c.in_ok-fields.ensures
+      c.new-refs.ensures.keys;
   missing = noted_none _ c.new-refs.result.missing (ap (map (indexed_missing c.args.pools.now c.args.classes.now c.args.chunk.now c.args.frames.now c.clear.new.self)) c.in_ok-fields.ensures)
       c.new-refs.ensures.missing;
   used = λ id. c.clear-2.ensures id ∙ ap (λ z. used_in c.args.frames.now z id) (sym c.in_ok-fields.ensures);
@@ -31,6 +36,8 @@ loop-number-preserved-in_default c = record {
       c.loop-number.invariant.read;
   counted = counted_next c.args.chunk.now c.args.frames.now c.loop-number.number _ _ c.at-frame.result c.at-frame.ensures (omega arith) c.loop-number.invariant.counted;
   refs_end = c.loop-number.invariant.refs_end;
+  even = c.loop-number.invariant.even;
+  keys = c.loop-number.invariant.keys;
   missing = c.loop-number.invariant.missing;
   used = c.loop-number.invariant.used;
 }
@@ -82,10 +89,17 @@ loop-number-preserved c =
       refs_end = λ h.
           subst (λ z. AreRefs (indexed_refs c.args.pools.now c.args.classes.now c.args.chunk.now c.args.frames.now c.if-end.early) 0 z c.fields_end.new.refs.numbers.items)
           (sym c.in_ok-push.ensures.items)
-          (event_refs c.args.pools.now c.args.classes.now c.args.chunk.now c.args.frames.now c.loop-number.early c.if-end.early c.loop-number.number c.in_ok-end.end c.len-in-loop-number-2.result
-          c.at-frame.result c.loop-number.fields.items c.loop-number.refs.numbers.items c.fields_end.new.refs.numbers.items
+          (event_refs (node_entries c.args.pools.now c.args.classes.now c.args.chunk.now) c.args.frames.now c.loop-number.early c.if-end.early c.loop-number.number c.in_ok-end.end
+          c.len-in-loop-number-2.result c.at-frame.result c.loop-number.fields.items c.loop-number.refs.numbers.items c.fields_end.new.refs.numbers.items
           c.at-frame.ensures i b.each (c.in_ok-end.ensures.refs_end.appended h) (omega (arith, c.len-in-loop-number-2.ensures))
           (c.loop-number.invariant.refs_end (c.in_ok-end.ensures.refs_end.lacked_none h)));
+      even = c.fields_end.ensures.even;
+      keys = λ h.
+          subst (λ z. AreKeysIn c.args.pools.now c.args.classes.now c.args.chunk.now c.args.frames.now c.if-end.early z c.fields_end.new.refs.keys) (sym c.in_ok-push.ensures.items)
+          (event_keys c.args.pools.now c.args.classes.now c.args.chunk.now c.args.frames.now c.loop-number.early c.if-end.early c.loop-number.number c.in_ok-end.end c.len-in-loop-number-2.result
+          c.at-frame.result c.loop-number.fields.items c.loop-number.refs.keys c.fields_end.new.refs.keys
+          c.at-frame.ensures i b.each c.in_ok-end.ensures.keys (λ l. (let x = c.fields_end.ensures.even h l in omega (arith, c.len-in-loop-number-2.ensures)))
+          (c.loop-number.invariant.keys (c.in_ok-end.ensures.refs_end.lacked_none h)));
       missing =
           subst (λ z. AreNotedIn (map (indexed_missing c.args.pools.now c.args.classes.now c.args.chunk.now c.args.frames.now c.if-end.early) z) c.fields_end.new.refs.missing)
           (sym c.in_ok-push.ensures.items)
@@ -109,3 +123,6 @@ returns-clause-ok c = read_all c.args.chunk.now c.args.classes.now c.args.frames
 
 pub returns-clause-refs_end : goal.returns-clause-refs_end
 returns-clause-refs_end c = c.loop-number.invariant.refs_end c.if-refs.false
+
+pub returns-clause-keys : goal.returns-clause-keys
+returns-clause-keys c = c.loop-number.invariant.keys c.if-refs.false

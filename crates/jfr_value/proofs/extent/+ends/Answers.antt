@@ -12,6 +12,7 @@ use Rattle.jfr_value.specs.Walks.{DepthBound}
 use Rattle.jfr_value.proofs.EndLaws.{after_err, after_ok, each_step, items_step, no_more, shape_items, layouts_there}
 use Rattle.jfr_value.proofs.LayoutEnds.{fields_end, fields_go, fields_there, depth_remains, depth_within, text_ends, text_taken}
 use Rattle.jfr_value.proofs.LayoutLaws.{no_layout, layout_there}
+use Rattle.jfr_value.proofs.PlacedLaws.{item_placed, shape_placed}
 use Rattle.jfr_value.proofs.TakingLaws.{each_goes, items_end, items_go, items_taken, no_value}
 use Rattle.jfr_value.proofs.extent.+ends.Goals as goal
 
@@ -33,7 +34,7 @@ layout_end-returns-in-Text-clause-exact g t c =
 pub layout_end-returns-in-Text-clause-visited : goal.layout_end-returns-in-Text-clause-visited
 layout_end-returns-in-Text-clause-visited g t c =
     text_taken c.args.walk.now.classes.now c.args.layout.now c.args.levels c.args.walk.now.bytes.now c.args.walk.now.end c.args.at c.requires.placed
-    (g.V.Visit.takes c.args.walk.now.with.now) c.args.visitor.now c.text_end.new.visitor c.in-Text.is c.text_end.ensures.visited
+    (g.V.VisitKey.takes c.args.walk.now.with.now) c.args.visitor.now c.text_end.new.visitor c.requires.order c.args.walk.now.within c.in-Text.is c.text_end.ensures.visited
 
 pub compound_end-returns-in_err-to-in-Fields : goal.compound_end-returns-in_err-to-in-Fields
 compound_end-returns-in_err-to-in-Fields g t c =
@@ -50,7 +51,8 @@ compound_end-returns-in_ok-to-in-Fields-clause-exact g t c =
 pub compound_end-returns-in_ok-to-in-Fields-clause-visited : goal.compound_end-returns-in_ok-to-in-Fields-clause-visited
 compound_end-returns-in_ok-to-in-Fields-clause-visited g t c =
     fields_go c.args.walk.now.classes.now c.args.layout.now c.args.levels c.args.walk.now.bytes.now c.args.walk.now.end c.args.at c.requires.placed
-    (g.V.Visit.takes c.args.walk.now.with.now) c.args.visitor.now c.fields_end.new.visitor c.layouts-fields.result.now c.in-Fields.is c.requires.depth c.layouts-fields.ensures.exact
+    (g.V.VisitKey.takes c.args.walk.now.with.now) c.args.visitor.now c.fields_end.new.visitor c.requires.order c.args.walk.now.within c.layouts-fields.result.now c.in-Fields.is c.requires.depth
+    c.layouts-fields.ensures.exact
     c.fields_end.ensures.visited
 
 pub fields_end-returns-in_err-to : goal.fields_end-returns-in_err-to
@@ -73,9 +75,12 @@ fields_end-loop-layout-preserved g t c =
       same = after_ok _ _ _ _ _ (each_step f c.args.layouts.now c.loop-layout.layout-index (get_or c.args.layouts.now c.loop-layout.layout-index no_layout) c.args.walk.now.bytes.now
           c.args.walk.now.end c.loop-layout.to there) ends c.loop-layout.invariant.same;
       ready = c.layout_end.ensures.ready;
-      remaining = each_goes (g.V.Visit.takes c.args.walk.now.with.now) _ c.args.walk.now.bytes.now c.args.walk.now.end c.args.visitor.now f c.args.layouts.now c.loop-layout.layout-index
+      remaining = each_goes (g.V.VisitKey.takes c.args.walk.now.with.now) c.args.at _ c.args.walk.now.bytes.now c.args.walk.now.end c.args.walk.now.within c.args.visitor.now f c.args.layouts.now
+          c.loop-layout.layout-index
           (get_or c.args.layouts.now c.loop-layout.layout-index no_layout)
-          c.loop-layout.to c.in_ok-to.to c.loop-layout.visitor c.layout_end.new.visitor there c.loop-layout.invariant.remaining ends c.layout_end.ensures.visited;
+          c.loop-layout.to c.in_ok-to.to c.loop-layout.visitor c.layout_end.new.visitor there c.loop-layout.invariant.upto
+          (λ s. shape_placed c.args.walk.now.bytes.now c.args.walk.now.end c.args.walk.now.within (c.args.levels + 1) c.args.walk.now.classes.now s.shape) c.loop-layout.invariant.remaining ends
+          c.layout_end.ensures.visited;
     }
 
 pub array_end-returns-in_err-to : goal.array_end-returns-in_err-to
@@ -96,15 +101,19 @@ array_end-loop-preserved g t c =
     let f = item_format inline (item_of c.args.layout.now.shape) in
     let ends = ap (λ (z : FieldLayout). end_or_flaw (run (shape_format inline z.shape) c.args.walk.now.bytes.now c.args.walk.now.end c.loop.to)) (sym c.item_layout-item.ensures)
     ∙ (sym c.layout_end.ensures.exact ∙ c.in_ok-to.was) in
-    let taken = subst (λ (z : FieldLayout). TakesRead (g.V.Visit.takes c.args.walk.now.with.now) (run (shape_format inline z.shape) c.args.walk.now.bytes.now c.args.walk.now.end c.loop.to)
+    let taken = subst (λ (z : FieldLayout). TakesRead (g.V.VisitKey.takes c.args.walk.now.with.now) c.loop.to
+    (run (shape_format inline z.shape) c.args.walk.now.bytes.now c.args.walk.now.end c.loop.to)
     c.loop.visitor c.layout_end.new.visitor) c.item_layout-item.ensures c.layout_end.ensures.visited in
     record {
       from = omega (arith, c.in_ok-to.ensures.range, c.loop.invariant.from);
       upto = omega (arith, c.in_ok-to.ensures.range);
       same = after_ok _ _ _ _ _ (items_step c.in_ok-count.count.value c.loop.counter f c.args.walk.now.bytes.now c.args.walk.now.end c.loop.to c.loop-test.true) ends c.loop.invariant.same;
       ready = c.layout_end.ensures.ready;
-      remaining = items_go (g.V.Visit.takes c.args.walk.now.with.now) _ c.args.walk.now.bytes.now c.args.walk.now.end c.args.visitor.now c.in_ok-count.count.value c.loop.counter f
-          c.loop.to c.in_ok-to.to c.loop.visitor c.layout_end.new.visitor c.loop-test.true c.loop.invariant.remaining ends taken;
+      remaining = items_go (g.V.VisitKey.takes c.args.walk.now.with.now) c.in_ok-count.count.end _ c.args.walk.now.bytes.now c.args.walk.now.end c.args.walk.now.within c.args.visitor.now
+          c.in_ok-count.count.value c.loop.counter f
+          c.loop.to c.in_ok-to.to c.loop.visitor c.layout_end.new.visitor c.loop-test.true c.loop.invariant.upto
+          (item_placed c.args.walk.now.bytes.now c.args.walk.now.end c.args.walk.now.within (c.args.levels + 1) c.args.walk.now.classes.now (item_of c.args.layout.now.shape))
+          c.loop.invariant.remaining ends taken;
     }
 
 pub array_end-returns-clause-exact : goal.array_end-returns-clause-exact
@@ -117,7 +126,9 @@ array_end-returns-clause-exact g t c =
 pub array_end-returns-clause-visited : goal.array_end-returns-clause-visited
 array_end-returns-clause-visited g t c =
     let inline = class_format (c.args.levels + 1) c.args.walk.now.classes.now in
-    items_taken (g.V.Visit.takes c.args.walk.now.with.now) c.args.walk.now.bytes.now c.args.walk.now.end c.args.at inline c.args.layout.now.shape c.in_ok-count.count c.args.visitor.now c.loop.visitor
+    items_taken (g.V.VisitKey.takes c.args.walk.now.with.now) c.args.walk.now.bytes.now c.args.walk.now.end c.args.at c.requires.order c.args.walk.now.within inline c.args.layout.now.shape
+    c.in_ok-count.count c.args.visitor.now c.loop.visitor
     c.requires.array c.in_ok-count.ensures.exact
-    (items_end (g.V.Visit.takes c.args.walk.now.with.now) _ c.args.walk.now.bytes.now c.args.walk.now.end c.args.visitor.now c.in_ok-count.count.value c.loop.counter
+    (items_end (g.V.VisitKey.takes c.args.walk.now.with.now) c.in_ok-count.count.end _ c.args.walk.now.bytes.now c.args.walk.now.end c.args.walk.now.within c.args.visitor.now
+    c.in_ok-count.count.value c.loop.counter
     (item_format inline (item_of c.args.layout.now.shape)) c.loop.to c.loop.visitor c.loop-test.false c.loop.invariant.remaining)

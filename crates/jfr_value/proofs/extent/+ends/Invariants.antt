@@ -23,9 +23,10 @@ invariant-fields_end-loop-layout g l = record {
   upto : l.to ≤ l.walk.end;
   same : end_or_flaw (run (for_each (drop l.layout-index l.layouts) (λ s. shape_format (class_format (l.levels + 1) l.walk.classes.now) s.shape)) l.walk.bytes.now l.walk.end l.to)
       ≡ end_or_flaw (run (for_each l.layouts (λ s. shape_format (class_format (l.levels + 1) l.walk.classes.now) s.shape)) l.walk.bytes.now l.walk.end l.at);
-  ready : g.V.Visit.ready l.visitor l.walk.with.now;
-  remaining : TakesRemaining (g.V.Visit.takes l.walk.with.now) (run (for_each l.layouts (λ s. shape_format (class_format (l.levels + 1) l.walk.classes.now) s.shape)) l.walk.bytes.now l.walk.end l.at)
-      (run (for_each (drop l.layout-index l.layouts) (λ s. shape_format (class_format (l.levels + 1) l.walk.classes.now) s.shape)) l.walk.bytes.now l.walk.end l.to) l.initial.visitor l.visitor;
+  ready : g.V.VisitKey.ready l.visitor l.walk.with.now;
+  remaining : TakesRemaining (g.V.VisitKey.takes l.walk.with.now) l.at
+      (run (for_each l.layouts (λ s. shape_format (class_format (l.levels + 1) l.walk.classes.now) s.shape)) l.walk.bytes.now l.walk.end l.at)
+      l.to (run (for_each (drop l.layout-index l.layouts) (λ s. shape_format (class_format (l.levels + 1) l.walk.classes.now) s.shape)) l.walk.bytes.now l.walk.end l.to) l.initial.visitor l.visitor;
 }
 
 abbrev pub invariant-array_end-loop : goal.invariant-array_end-loop
@@ -34,7 +35,8 @@ invariant-array_end-loop g l = record {
   upto : l.to ≤ l.walk.end;
   same : end_or_flaw (run (times (l.end - l.counter) (item_format (class_format (l.levels + 1) l.walk.classes.now) (item_of l.layout.shape))) l.walk.bytes.now l.walk.end l.to)
       ≡ end_or_flaw (run (times l.end (item_format (class_format (l.levels + 1) l.walk.classes.now) (item_of l.layout.shape))) l.walk.bytes.now l.walk.end l.initial.to);
-  ready : g.V.Visit.ready l.visitor l.walk.with.now;
-  remaining : TakesRemaining (g.V.Visit.takes l.walk.with.now) (run (times l.end (item_format (class_format (l.levels + 1) l.walk.classes.now) (item_of l.layout.shape))) l.walk.bytes.now l.walk.end l.initial.to)
-      (run (times (l.end - l.counter) (item_format (class_format (l.levels + 1) l.walk.classes.now) (item_of l.layout.shape))) l.walk.bytes.now l.walk.end l.to) l.initial.visitor l.visitor;
+  ready : g.V.VisitKey.ready l.visitor l.walk.with.now;
+  remaining : TakesRemaining (g.V.VisitKey.takes l.walk.with.now) l.initial.to
+      (run (times l.end (item_format (class_format (l.levels + 1) l.walk.classes.now) (item_of l.layout.shape))) l.walk.bytes.now l.walk.end l.initial.to)
+      l.to (run (times (l.end - l.counter) (item_format (class_format (l.levels + 1) l.walk.classes.now) (item_of l.layout.shape))) l.walk.bytes.now l.walk.end l.to) l.initial.visitor l.visitor;
 }

@@ -14,9 +14,10 @@ loop-fused-init g c = record {
   upto = c.requires.order;
   same = ap (λ z. end_or_flaw (run (values_format (INNER_LEVELS + 1) c.args.walk.classes.now z) c.args.walk.bytes.now c.args.walk.end c.args.at)) c.requires.fused_fields.all;
   ready = c.requires.ready;
-  remaining = subst (λ z. TakesRemaining (g.V.Visit.takes c.args.walk.with.now)
+  remaining = subst (λ z. TakesRemaining (g.V.VisitKey.takes c.args.walk.with.now) c.args.at
       (run (values_format (INNER_LEVELS + 1) c.args.walk.classes.now c.args.class_layout.now.layouts.items) c.args.walk.bytes.now c.args.walk.end c.args.at)
-      (run (values_format (INNER_LEVELS + 1) c.args.walk.classes.now z) c.args.walk.bytes.now c.args.walk.end c.args.at) c.args.visitor.now c.args.visitor.now) (sym c.requires.fused_fields.all)
+      c.args.at (run (values_format (INNER_LEVELS + 1) c.args.walk.classes.now z) c.args.walk.bytes.now c.args.walk.end c.args.at) c.args.visitor.now c.args.visitor.now)
+      (sym c.requires.fused_fields.all)
       (record { then_all = λ last t. t });
 }
 
@@ -46,8 +47,8 @@ loop-fused-preserved g c =
           c.loop-fused.fused-index c.loop-fused.to _ within) ends c.loop-fused.invariant.same;
       ready = c.fused_end.ensures.ready;
       remaining = fused_goes c.args.class_layout.now.layouts.items c.args.class_layout.now.fused_fields.items c.args.walk.classes.now INNER_LEVELS c.args.walk.bytes.now c.args.walk.end
-          (g.V.Visit.takes c.args.walk.with.now) _ c.loop-fused.fused-index c.loop-fused.to c.in_ok-to.to _
-          c.args.visitor.now c.loop-fused.visitor c.fused_end.new.visitor within c.loop-fused.invariant.remaining (sym ends) (rw q at c.fused_end.ensures.visited);
+          (g.V.VisitKey.takes c.args.walk.with.now) c.args.walk.within c.args.at _ c.loop-fused.fused-index c.loop-fused.to c.in_ok-to.to _
+          c.args.visitor.now c.loop-fused.visitor c.fused_end.new.visitor within c.loop-fused.invariant.upto c.loop-fused.invariant.remaining (sym ends) (rw q at c.fused_end.ensures.visited);
     }
 
 pub returns-clause-exact : goal.returns-clause-exact
@@ -58,5 +59,5 @@ returns-clause-exact g c =
 pub returns-clause-visited : goal.returns-clause-visited
 returns-clause-visited g c =
     fused_taken c.args.class_layout.now.layouts.items c.args.class_layout.now.fused_fields.items c.args.walk.classes.now INNER_LEVELS c.args.walk.bytes.now c.args.walk.end
-    (g.V.Visit.takes c.args.walk.with.now) _ c.loop-fused.fused-index c.loop-fused.to c.args.visitor.now c.loop-fused.visitor
+    (g.V.VisitKey.takes c.args.walk.with.now) c.args.at _ c.loop-fused.fused-index c.loop-fused.to c.args.visitor.now c.loop-fused.visitor
     (rw c.deref-fused-items.ensures.value at c.loop-fused-test.false) c.loop-fused.invariant.remaining

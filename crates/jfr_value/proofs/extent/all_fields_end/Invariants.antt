@@ -11,8 +11,8 @@ invariant-loop-fused g l = record {
   from : l.at ≤ l.to;
   upto : l.to ≤ l.walk.end;
   same : end_or_flaw (run (values_format (INNER_LEVELS + 1) l.walk.classes.now (left_by l.class_layout.layouts.items l.class_layout.fused_fields.items l.fused-index)) l.walk.bytes.now l.walk.end l.to) ≡ end_or_flaw (run (values_format (INNER_LEVELS + 1) l.walk.classes.now l.class_layout.layouts.items) l.walk.bytes.now l.walk.end l.at);
-  ready : g.V.Visit.ready l.visitor l.walk.with.now;
-  remaining : TakesRemaining (g.V.Visit.takes l.walk.with.now) (run (values_format (INNER_LEVELS + 1) l.walk.classes.now l.class_layout.layouts.items) l.walk.bytes.now l.walk.end l.at)
-      (run (values_format (INNER_LEVELS + 1) l.walk.classes.now (left_by l.class_layout.layouts.items l.class_layout.fused_fields.items l.fused-index)) l.walk.bytes.now l.walk.end l.to)
+  ready : g.V.VisitKey.ready l.visitor l.walk.with.now;
+  remaining : TakesRemaining (g.V.VisitKey.takes l.walk.with.now) l.at (run (values_format (INNER_LEVELS + 1) l.walk.classes.now l.class_layout.layouts.items) l.walk.bytes.now l.walk.end l.at)
+      l.to (run (values_format (INNER_LEVELS + 1) l.walk.classes.now (left_by l.class_layout.layouts.items l.class_layout.fused_fields.items l.fused-index)) l.walk.bytes.now l.walk.end l.to)
       l.initial.visitor l.visitor;
 }

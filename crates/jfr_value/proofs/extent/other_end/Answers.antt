@@ -13,7 +13,8 @@ pub returns-then-is_hollow_array : goal.returns-then-is_hollow_array
 returns-then-is_hollow_array g c = record {
   exact = c.integer_end.ensures.exact ∙ hollow_count c.args.walk.classes.now c.args.layout.now c.is_hollow_array.result c.args.walk.bytes.now c.args.walk.end c.args.at c.requires.layout
       c.is_hollow_array.ensures c.if-is_hollow_array.true;
-  visited = hollow_taken (g.V.Visit.takes c.args.walk.with.now) c.args.walk.classes.now c.args.walk.bytes.now c.args.walk.end c.args.at c.args.visitor.now c.args.layout.now c.is_hollow_array.result
+  visited = hollow_taken (g.V.VisitKey.takes c.args.walk.with.now) c.args.walk.classes.now c.args.walk.bytes.now c.args.walk.end c.args.at c.requires.order c.args.walk.within c.args.visitor.now
+      c.args.layout.now c.is_hollow_array.result
       c.requires.layout c.is_hollow_array.ensures c.if-is_hollow_array.true;
   ready = c.requires.ready;
 }

@@ -42,5 +42,6 @@ returns-in-Fields-clause-visited g c =
     let r : DepthBound c.args.walk.classes.now 33 c.args.layout.now.shape = λ o d q m. sound_inline c.args.walk.classes.now c.args.layout.now.shape.class d c.requires.sound q in
     let layouts = row_layouts c.args.walk.classes.now (slice_get c.args.walk.classes.now c.args.layout.now.class_index) c.class_layout-class_layout.result.now c.class_layout-class_layout.ensures in
     fields_go c.args.walk.classes.now c.args.layout.now 33 c.args.walk.bytes.now c.args.walk.end c.args.at p
-    (g.V.Visit.takes c.args.walk.with.now) c.args.visitor.now c.all_fields_end.new.visitor c.class_layout-class_layout.result.now.layouts.items c.in-Fields.is r layouts
+    (g.V.VisitKey.takes c.args.walk.with.now) c.args.visitor.now c.all_fields_end.new.visitor c.requires.order c.args.walk.within c.class_layout-class_layout.result.now.layouts.items
+    c.in-Fields.is r layouts
     c.all_fields_end.ensures.visited

@@ -17,7 +17,8 @@ pub returns-in-OneInteger-clause-visited : goal.returns-in-OneInteger-clause-vis
 returns-in-OneInteger-clause-visited g c =
     let layouts = c.args.class_layout.now.layouts.items in
     let fused = c.args.fused.now in
-    integers_taken c.args.walk.classes.now INNER_LEVELS c.args.walk.bytes.now c.args.walk.end (g.V.Visit.takes c.args.walk.with.now) 1 (passed_by layouts fused) c.args.at c.args.visitor.now
+    integers_taken c.args.walk.classes.now INNER_LEVELS c.args.walk.bytes.now c.args.walk.end (g.V.VisitKey.takes c.args.walk.with.now) c.args.walk.within 1 (passed_by layouts fused) c.args.at
+    c.args.visitor.now c.requires.order
     (all_passed (IsFieldLayout c.args.walk.classes.now) layouts fused c.requires.layouts) (rw c.in-OneInteger.is at c.requires.fused.passes)
 
 pub returns-in-TwoIntegers-clause-exact : goal.returns-in-TwoIntegers-clause-exact
@@ -31,7 +32,8 @@ pub returns-in-TwoIntegers-clause-visited : goal.returns-in-TwoIntegers-clause-v
 returns-in-TwoIntegers-clause-visited g c =
     let layouts = c.args.class_layout.now.layouts.items in
     let fused = c.args.fused.now in
-    integers_taken c.args.walk.classes.now INNER_LEVELS c.args.walk.bytes.now c.args.walk.end (g.V.Visit.takes c.args.walk.with.now) 2 (passed_by layouts fused) c.args.at c.args.visitor.now
+    integers_taken c.args.walk.classes.now INNER_LEVELS c.args.walk.bytes.now c.args.walk.end (g.V.VisitKey.takes c.args.walk.with.now) c.args.walk.within 2 (passed_by layouts fused) c.args.at
+    c.args.visitor.now c.requires.order
     (all_passed (IsFieldLayout c.args.walk.classes.now) layouts fused c.requires.layouts) (rw c.in-TwoIntegers.is at c.requires.fused.passes)
 
 pub returns-in-ThreeIntegers-clause-exact : goal.returns-in-ThreeIntegers-clause-exact
@@ -45,7 +47,8 @@ pub returns-in-ThreeIntegers-clause-visited : goal.returns-in-ThreeIntegers-clau
 returns-in-ThreeIntegers-clause-visited g c =
     let layouts = c.args.class_layout.now.layouts.items in
     let fused = c.args.fused.now in
-    integers_taken c.args.walk.classes.now INNER_LEVELS c.args.walk.bytes.now c.args.walk.end (g.V.Visit.takes c.args.walk.with.now) 3 (passed_by layouts fused) c.args.at c.args.visitor.now
+    integers_taken c.args.walk.classes.now INNER_LEVELS c.args.walk.bytes.now c.args.walk.end (g.V.VisitKey.takes c.args.walk.with.now) c.args.walk.within 3 (passed_by layouts fused) c.args.at
+    c.args.visitor.now c.requires.order
     (all_passed (IsFieldLayout c.args.walk.classes.now) layouts fused c.requires.layouts) (rw c.in-ThreeIntegers.is at c.requires.fused.passes)
 
 pub returns-in-FourIntegers-clause-exact : goal.returns-in-FourIntegers-clause-exact
@@ -59,7 +62,8 @@ pub returns-in-FourIntegers-clause-visited : goal.returns-in-FourIntegers-clause
 returns-in-FourIntegers-clause-visited g c =
     let layouts = c.args.class_layout.now.layouts.items in
     let fused = c.args.fused.now in
-    integers_taken c.args.walk.classes.now INNER_LEVELS c.args.walk.bytes.now c.args.walk.end (g.V.Visit.takes c.args.walk.with.now) 4 (passed_by layouts fused) c.args.at c.args.visitor.now
+    integers_taken c.args.walk.classes.now INNER_LEVELS c.args.walk.bytes.now c.args.walk.end (g.V.VisitKey.takes c.args.walk.with.now) c.args.walk.within 4 (passed_by layouts fused) c.args.at
+    c.args.visitor.now c.requires.order
     (all_passed (IsFieldLayout c.args.walk.classes.now) layouts fused c.requires.layouts) (rw c.in-FourIntegers.is at c.requires.fused.passes)
 
 pub returns-in-Raw-clause-exact : goal.returns-in-Raw-clause-exact
@@ -75,7 +79,8 @@ pub returns-in-Raw-clause-visited : goal.returns-in-Raw-clause-visited
 returns-in-Raw-clause-visited g c =
     let layouts = c.args.class_layout.now.layouts.items in
     let fused = c.args.fused.now in
-    raw_taken c.args.walk.classes.now INNER_LEVELS c.args.walk.bytes.now c.args.walk.end (g.V.Visit.takes c.args.walk.with.now) (passed_by layouts fused) c.in-Raw.count c.args.at c.args.visitor.now
+    raw_taken c.args.walk.classes.now INNER_LEVELS c.args.walk.bytes.now c.args.walk.end (g.V.VisitKey.takes c.args.walk.with.now) c.args.walk.within (passed_by layouts fused) c.in-Raw.count
+    c.args.at c.args.visitor.now c.requires.order
     (all_passed (IsFieldLayout c.args.walk.classes.now) layouts fused c.requires.layouts) (rw c.in-Raw.is at c.requires.fused.passes)
 
 pub returns-in-Key-clause-exact : goal.returns-in-Key-clause-exact
@@ -90,8 +95,8 @@ pub returns-in-Key-clause-visited : goal.returns-in-Key-clause-visited
 returns-in-Key-clause-visited g c =
     let layouts = c.args.class_layout.now.layouts.items in
     let fused = c.args.fused.now in
-    key_taken c.args.walk.classes.now INNER_LEVELS c.args.walk.bytes.now c.args.walk.end (g.V.Visit.takes c.args.walk.with.now) c.in-Key.class
-    (passed_by layouts fused) c.args.at c.args.visitor.now c.key_end.new.visitor
+    key_taken c.args.walk.classes.now INNER_LEVELS c.args.walk.bytes.now c.args.walk.end (g.V.VisitKey.takes c.args.walk.with.now) c.args.walk.within c.in-Key.class
+    (passed_by layouts fused) c.args.at c.args.visitor.now c.key_end.new.visitor c.requires.order
     (all_passed (IsFieldLayout c.args.walk.classes.now) layouts fused c.requires.layouts) (rw c.in-Key.is at c.requires.fused.passes) c.key_end.ensures.visited
 
 pub returns-in-Text-clause-exact : goal.returns-in-Text-clause-exact
@@ -106,8 +111,8 @@ pub returns-in-Text-clause-visited : goal.returns-in-Text-clause-visited
 returns-in-Text-clause-visited g c =
     let layouts = c.args.class_layout.now.layouts.items in
     let fused = c.args.fused.now in
-    text_taken_all c.args.walk.classes.now INNER_LEVELS c.args.walk.bytes.now c.args.walk.end (g.V.Visit.takes c.args.walk.with.now) c.in-Text.class
-    (passed_by layouts fused) c.args.at c.args.visitor.now c.text_end.new.visitor
+    text_taken_all c.args.walk.classes.now INNER_LEVELS c.args.walk.bytes.now c.args.walk.end (g.V.VisitKey.takes c.args.walk.with.now) c.args.walk.within c.in-Text.class
+    (passed_by layouts fused) c.args.at c.args.visitor.now c.text_end.new.visitor c.requires.order
     (all_passed (IsFieldLayout c.args.walk.classes.now) layouts fused c.requires.layouts) (rw c.in-Text.is at c.requires.fused.passes) c.text_end.ensures.visited
 
 pub returns-in-EventPrelude-clause-exact : goal.returns-in-EventPrelude-clause-exact

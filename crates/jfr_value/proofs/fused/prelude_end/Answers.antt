@@ -43,5 +43,6 @@ returns-clause-exact g c = λ k levels layouts i f. front_ends k levels c.args.w
 
 pub returns-clause-visited : goal.returns-clause-visited
 returns-clause-visited g c = λ k levels layouts i f. front_taken k levels c.args.walk.bytes.now c.args.walk.end c.args.thread c.args.trace layouts i f
-    (g.V.Visit.takes c.args.walk.with.now) c.args.at c.in_ok-times.times c.in_ok-threads.threads c.args.visitor.now c.key_end.new.visitor c.key_end-2.new.visitor
+    (g.V.VisitKey.takes c.args.walk.with.now) c.args.walk.within c.args.at c.in_ok-times.times c.in_ok-threads.threads c.args.visitor.now c.key_end.new.visitor c.key_end-2.new.visitor
+    c.requires.order c.in_ok-times.ensures.range.1 c.in_ok-threads.ensures.range.1
     (sym c.in_ok-times.was ∙ c.integers_end.ensures.exact) (sym c.in_ok-threads.was ∙ c.key_end.ensures.exact) c.key_end.ensures.visited c.key_end-2.ensures.visited

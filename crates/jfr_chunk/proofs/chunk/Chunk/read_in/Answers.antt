@@ -76,10 +76,10 @@ returns-in_err-events-clause-exact c = told_of _ _ _ c.requires.long c.from_resi
 pub invariant_of-result : goal.invariant_of-result
 invariant_of-result c = indexed _ _ _ _ (named _ _ _ _ c.header_in-header.ensures c.in_ok-frames.ensures.ok (sym c.in_ok-metadata_frame.was ∙ c.record_named.ensures)) _
     (sym c.in_ok-record_named.was ∙ c.record_named-2.ensures) c.in_ok-chain.chain c.in_ok-chain.ensures.ok _ _ c.in_ok-metadata.ensures.ok c.in_ok-pools.pools c.in_ok-pools.ensures.ok
-    c.in_ok-events.events c.requires c.in_ok-events.ensures.ok c.in_ok-events.ensures.refs_end c.in_ok-events.ensures.missing c.in_ok-events.ensures.used
+    c.in_ok-events.events c.requires c.in_ok-events.ensures.ok c.in_ok-events.ensures.refs_end c.in_ok-events.ensures.keys c.in_ok-events.ensures.missing c.in_ok-events.ensures.used
 
 pub returns-clause-exact : goal.returns-clause-exact
 returns-clause-exact c = parts_told _ _ c.requires.long refl
     (indexed _ _ _ _ (named _ _ _ _ c.header_in-header.ensures c.in_ok-frames.ensures.ok (sym c.in_ok-metadata_frame.was ∙ c.record_named.ensures)) _
     (sym c.in_ok-record_named.was ∙ c.record_named-2.ensures) c.in_ok-chain.chain c.in_ok-chain.ensures.ok _ _ c.in_ok-metadata.ensures.ok c.in_ok-pools.pools c.in_ok-pools.ensures.ok
-    c.in_ok-events.events c.requires c.in_ok-events.ensures.ok c.in_ok-events.ensures.refs_end c.in_ok-events.ensures.missing c.in_ok-events.ensures.used).parts
+    c.in_ok-events.events c.requires c.in_ok-events.ensures.ok c.in_ok-events.ensures.refs_end c.in_ok-events.ensures.keys c.in_ok-events.ensures.missing c.in_ok-events.ensures.used).parts
