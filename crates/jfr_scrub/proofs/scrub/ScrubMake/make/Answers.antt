@@ -11,11 +11,11 @@ pub returns-in_err-chunk-clause-refused : goal.returns-in_err-chunk-clause-refus
 returns-in_err-chunk-clause-refused c = search (rules, refused_by)
 
 -- The chunk of which the ranges are.
-of_chunk : (c : goal.After-drop-self-8) → laid_in c.in_ok-laid.laid.laid.chunk c.into_ranges.result ≡ laid_in c.args.chunk.now c.into_ranges.result
+of_chunk : (c : goal.After-drop-self-9) → laid_in c.in_ok-laid.laid.laid.chunk c.into_ranges.result ≡ laid_in c.args.chunk.now c.into_ranges.result
 of_chunk c = ap (λ (x : List ℕ). laid_in x c.into_ranges.result) (c.in_ok-laid.ensures.laid.of_chunk ∙ c.in_ok-chunk.ensures.ok)
 
 -- What the chunk becomes.
-made : (c : goal.After-drop-self-8) → (refusal_of c.args.chunk.now ≡ None) × (joined (laid_in c.args.chunk.now c.into_ranges.result) ≡ scrubbed c.args.self.now.filter.now c.args.chunk.now)
+made : (c : goal.After-drop-self-9) → (refusal_of c.args.chunk.now ≡ None) × (joined (laid_in c.args.chunk.now c.into_ranges.result) ≡ scrubbed c.args.self.now.filter.now c.args.chunk.now)
 made c =
     made_of c.args.self.now.filter.now c.args.chunk.now (joined (laid_in c.args.chunk.now c.into_ranges.result)) c.in_ok-chunk.chunk c.in_ok-chunk.ensures.exact
     (ap joined (sym (of_chunk c) ∙ c.into_ranges.ensures.same) ∙ c.in_ok-laid.ensures.laid.becomes)
