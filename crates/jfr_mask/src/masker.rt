@@ -17,7 +17,7 @@ use crate::texts::{MaskedStrings, leaf_text, payload_of};
 use crate::widths::width_of;
 use crate::{Dictionary, Known, MaskedFields, Shown};
 use jfr_base::{NoMemory, push_var};
-use jfr_chunk::Chunk;
+use jfr_chunk::{Chunk, Event};
 use jfr_frame::Framed;
 use jfr_layout::Kind;
 use jfr_rewrite::Rewriter;
@@ -71,6 +71,16 @@ impl Rewriter for Masker<'_, '_> {
     fn is_unchanged(&self, _chunk: &Chunk<'_>, node: Node<'_>) -> bool {
         self.strings.chunk.parts_are_valid();
         self.strings.are_none_in(node)
+    }
+
+    /// A masked string isn't one of the keys that a chunk notes.
+    fn put_event(
+        &self,
+        _out: &mut Vec<u8>,
+        _chunk: &Chunk<'_>,
+        _event: Event<'_>,
+    ) -> Result<bool, NoMemory> {
+        Ok(false)
     }
 
     fn keeps_numbers()

@@ -1,5 +1,6 @@
 -- The new keys of all that is used.
 use Rattle.std.specs.Prelude.{ℕ, ◌&&◌, ◌==◌, List, [], ◌∷◌, Option, Some, None, unwrap_or, if◌then◌else◌}
+use Rattle.jfr_pool.specs.declared.entry.EntryAt.{EntryAt}
 
 -- Classes and keys, with the number of each.
 pub record NumberedPairs : Type 0 where
@@ -19,3 +20,12 @@ number_of k t = number_at k.pairs k.numbers t
 -- A number for each class and key: 0 if it has none.
 abbrev pub number_or_zero : NumberedPairs → ℕ × ℕ → ℕ
 number_or_zero k t = unwrap_or (number_of k t) 0
+
+-- The new keys of all that is used in a chunk, and the chunk's entries.
+pub record ChunkKeys : Type 0 where
+  pub keys : NumberedPairs
+  pub entries : List EntryAt
+
+-- A new key for each class and key: 0 if they aren't used.
+abbrev pub new_keys : ChunkKeys → ℕ × ℕ → ℕ
+new_keys k t = number_or_zero k.keys t

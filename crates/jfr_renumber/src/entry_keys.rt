@@ -3,10 +3,11 @@ ghost use Rattle.std.specs.Prelude.{◌≡◌, map, IfOk};
 ghost use Rattle.jfr_renumber.specs.Numbers.{number_or_zero};
 ghost use Rattle.jfr_renumber.specs.Renumber.{pair_of};
 
+use crate::key_places::{Rekeying, put_with_keys};
 use crate::numbered::NumberedKeys;
 use crate::rewriting::{NewKey, NewKeys, new_leaf};
 use jfr_base::NoMemory;
-use jfr_chunk::Chunk;
+use jfr_chunk::{Chunk, Event};
 use jfr_frame::Framed;
 use jfr_pool::{EntryAt, Pools};
 use jfr_rewrite::Rewriter;
@@ -25,12 +26,12 @@ pub(crate) struct EntryKeys<'k> {
 
 impl<'k> Model for EntryKeys<'k> {
     ghost use Rattle.std.specs.Prelude.{◌≡◌, map};
-    ghost use Rattle.jfr_renumber.specs.Numbers.{NumberedPairs, number_or_zero};
+    ghost use Rattle.jfr_renumber.specs.Numbers.{ChunkKeys, number_or_zero};
     ghost use Rattle.jfr_renumber.specs.Renumber.{pair_of};
 
-    ghost Value = { NumberedPairs };
+    ghost Value = { ChunkKeys };
 
-    ghost view = { λ k. k.keys.now };
+    ghost view = { λ k. record { keys = k.keys.now; entries = k.pools.now } };
 
     ghost invariant = { λ k. k.by_entry.items ≡ map (λ e. number_or_zero k.keys.now (pair_of e)) k.pools.now };
 }
@@ -42,7 +43,8 @@ impl<'k> EntryKeys<'k> {
         keys: &'k NumberedKeys,
         pools: &'k Pools,
     ) -> Result<EntryKeys<'k>, NoMemory>
-        ensures { IfOk result (λ made. made ≡ keys.now) }
+        ensures keys { IfOk result (λ made. made.keys ≡ keys.now) }
+        ensures entries { IfOk result (λ made. made.entries ≡ pools.now) }
     {
         let by_entry = keys_of(alloc, keys, pools.as_slice())?;
         Ok(EntryKeys {
@@ -54,9 +56,9 @@ impl<'k> EntryKeys<'k> {
 }
 
 impl<'k> NewKeys for EntryKeys<'k> {
-    ghost use Rattle.jfr_renumber.specs.Numbers.{number_or_zero};
+    ghost use Rattle.jfr_renumber.specs.Numbers.{new_keys};
 
-    ghost keys = { number_or_zero };
+    ghost keys = { new_keys };
 
     /// The new key of a class and a key, or 0 if they aren't used. The visit of a value's leaves calls this in several
     /// places. It isn't inlined, since a small visit is itself inlined where it is called.
@@ -73,7 +75,7 @@ impl<'k> NewKeys for EntryKeys<'k> {
     }
 }
 
-/// Any chunk can be rewritten with these keys. Its sizes keep their widths.
+/// The chunk that has these entries can be rewritten with these keys. Its sizes keep their widths.
 impl<'k> Rewriter for EntryKeys<'k> {
     type NewLeaf = NewKey;
 
@@ -81,13 +83,13 @@ impl<'k> Rewriter for EntryKeys<'k> {
     ghost use Rattle.jfr_value.specs.Leaves.{LeafAt};
     ghost use Rattle.jfr_value.specs.Visits.{IsNumber};
     ghost use Rattle.jfr_rewrite.specs.Copying.{leaf_becomes};
-    ghost use Rattle.jfr_renumber.specs.Numbers.{NumberedPairs, number_or_zero};
+    ghost use Rattle.jfr_renumber.specs.Numbers.{ChunkKeys, new_keys};
     ghost use Rattle.jfr_renumber.specs.Renumber.{with_keys};
     ghost use Rattle.jfr_renumber.specs.Rewriting.{spelled_anew};
 
-    ghost rewrite = { λ keys. with_keys (number_or_zero keys) None };
+    ghost rewrite = { λ keys. with_keys (new_keys keys) None };
 
-    ghost suits = { λ _ _. ⊤ };
+    ghost suits = { λ keys p. keys.entries ≡ p.entries };
 
     ghost can_put = { λ _ _. ⊤ };
 
@@ -97,8 +99,27 @@ impl<'k> Rewriter for EntryKeys<'k> {
         false
     }
 
+    fn put_event(
+        &self,
+        out: &mut Vec<u8>,
+        chunk: &Chunk<'_>,
+        event: Event<'_>,
+    ) -> Result<bool, NoMemory> {
+        let Some(places) = chunk.event_keys(event.number) else {
+            return Ok(false);
+        };
+        self.zero_is_kept();
+        let rekeying = Rekeying {
+            bytes: chunk.bytes(),
+            new_keys: self.by_entry.as_slice(),
+        };
+        let frame = event.frame;
+        put_with_keys(out, rekeying, places, frame.at, frame.end())?;
+        Ok(true)
+    }
+
     fn keeps_numbers()
-        ensures { (pairs : NumberedPairs) (leaf : LeafAt) → IsNumber leaf → leaf_becomes (with_keys (number_or_zero pairs) None).change leaf ≡ leaf.spelled }
+        ensures { (keys : ChunkKeys) (leaf : LeafAt) → IsNumber leaf → leaf_becomes (with_keys (new_keys keys) None).change leaf ≡ leaf.spelled }
     {}
 
     #[inline(always)]

@@ -30,7 +30,7 @@ pub(crate) fn first_entries(
     keys: &EntryKeys<'_>,
 ) -> Result<Vec<EntryAt>, NoMemory>
     requires { length marks.now ≡ length chunk.now.entries }
-    ensures { IfOk result (λ es. (flags : List Bool) → marks.now ≡ reached_marks chunk.now (kept_by chunk.now flags) → ((t : ℕ × ℕ) → number_of keys.now t ≡ new_key_of chunk.now (kept_by chunk.now flags) t) → es.items ≡ firsts chunk.now (kept_by chunk.now flags)) }
+    ensures { IfOk result (λ es. (flags : List Bool) → marks.now ≡ reached_marks chunk.now (kept_by chunk.now flags) → ((t : ℕ × ℕ) → number_of keys.now.keys t ≡ new_key_of chunk.now (kept_by chunk.now flags) t) → es.items ≡ firsts chunk.now (kept_by chunk.now flags)) }
 {
     chunk.parts_are_valid();
     collected(alloc, chunk.pools(), marks, keys)
@@ -50,9 +50,8 @@ fn collected<N: NewKeys>(
         entries: Vec::new(alloc),
         seen: BTreeSet::new(alloc),
     };
-    let entries = pools.as_slice();
-    for at in 0..entries.len() {
-        add_if(&mut firsts, &entries[at], new, marks.is_reached(at))?;
+    for (at, entry) in pools.as_slice().iter().enumerate() {
+        add_if(&mut firsts, entry, new, marks.is_reached(at))?;
     }
     Ok(firsts.entries)
 }

@@ -14,6 +14,7 @@
 mod entry_keys;
 mod finding;
 mod firsts;
+mod key_places;
 mod laws;
 mod missing;
 mod numbered;

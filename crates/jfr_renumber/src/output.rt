@@ -19,7 +19,8 @@ pub(crate) fn put_chunk(
 ) -> Result<Vec<u8>, NoMemory>
     requires metadata { IsNewMetadata source.chunk.now (kept_by source.chunk.now source.kept.now) (option_map (λ s. s.now) source.metadata) }
     requires entries { source.entries.now ≡ firsts source.chunk.now (kept_by source.chunk.now source.kept.now) }
-    requires keys { (t : ℕ × ℕ) → number_of source.rewriting.now t ≡ new_key_of source.chunk.now (kept_by source.chunk.now source.kept.now) t }
+    requires chunk { source.rewriting.now.entries ≡ source.chunk.now.entries }
+    requires keys { (t : ℕ × ℕ) → number_of source.rewriting.now.keys t ≡ new_key_of source.chunk.now (kept_by source.chunk.now source.kept.now) t }
     ensures { IfOk result (λ out. out.items ≡ renumber_with (option_map (λ s. s.now) source.entry.metadata) source.entry.chunk.now (kept_by source.entry.chunk.now source.entry.kept.now)) }
 {
     source.chunk.parts_are_valid();

@@ -86,7 +86,7 @@ pub fn renumber_stream<P: Place>(
         place,
         Renumber {
             filter,
-            buffers: Buffers::new(alloc),
+            buffers: Buffers::noting_keys(alloc),
             bytes: Vec::new(alloc),
         },
         input,

@@ -3,7 +3,7 @@ mod Carried
 pub mod ChangeLaws
 mod CheckpointBack
 pub mod CheckpointWriting
-mod CopyLaws
+pub mod CopyLaws
 mod Events
 pub mod EventWriting
 mod InForce

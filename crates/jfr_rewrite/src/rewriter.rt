@@ -1,14 +1,17 @@
 //! How chunks are rewritten, as a trait.
-ghost use Rattle.std.specs.Prelude.{◌≡◌, ℕ, ◌≤◌, ◌-◌, List, ◌++◌, None, slice_range, IfSome, IsTrue, OnOk};
-ghost use Rattle.jfr_chunk.specs.Parts.{Parts};
+ghost use Rattle.std.specs.Prelude.{◌≡◌, ℕ, ◌≤◌, ◌-◌, List, ◌++◌, None, Some, Ok, length, slice_get, slice_range, true, false, IfSome, IsTrue, OnOk};
+ghost use Rattle.jfr_frame.specs.Records.{record_end};
+ghost use Rattle.jfr_chunk.specs.Indexed.{event_at};
+ghost use Rattle.jfr_chunk.specs.Parts.{Parts, events_of};
 ghost use Rattle.jfr_value.specs.Nodes.{IsValue, node_of};
 ghost use Rattle.jfr_value.specs.Leaves.{LeafAt, leaf_of};
 ghost use Rattle.jfr_value.specs.Visits.{IsNumber};
 ghost use Rattle.jfr_rewrite.specs.Copying.{LiesIn, leaf_becomes};
 ghost use Rattle.jfr_rewrite.specs.Rewrite.{Rewrite, changed_bytes};
+ghost use Rattle.jfr_rewrite.specs.Writing.{changed_within};
 
 use jfr_base::NoMemory;
-use jfr_chunk::Chunk;
+use jfr_chunk::{Chunk, Event};
 use jfr_frame::Framed;
 use jfr_value::{Leaf, Node};
 
@@ -35,6 +38,19 @@ pub trait Rewriter {
         requires of_chunk { node.bytes.now ≡ chunk.now.bytes }
         requires value { IsValue chunk.now.classes node }
         ensures { IsTrue result → changed_bytes (rewrite self.now).change chunk.now.classes chunk.now.bytes (node_of node.entry) ≡ slice_range chunk.now.bytes node.entry.at node.entry.end };
+
+    /// Appends the record of an event with its changed fields, but with its old size, if it is known where they change.
+    /// Answers whether it did. If not, nothing was appended, and the leaves of the fields are visited.
+    fn put_event(
+        &self,
+        out: &mut Vec<u8>,
+        chunk: &Chunk<'_>,
+        event: Event<'_>,
+    ) -> Result<bool, NoMemory>
+        requires suits { suits self.now chunk.now }
+        requires listed { slice_get (events_of chunk.now) event.number ≡ Some (event_at event) }
+        ensures put { result ≡ Ok true → out.new.items ≡ out.old.items ++ changed_within (rewrite self.now).change chunk.now (event_at event.entry).node event.entry.frame.at (record_end event.entry.frame) }
+        ensures none { result ≡ Ok false → out.new.items ≡ out.old.items };
 
     /// Numbers and truth values stay the same, so `new_leaf` isn't asked about them.
     fn keeps_numbers()

@@ -15,12 +15,12 @@ unreachable-requires c =
     let s = c.args.source in
     let p = s.chunk.now in
     let new = option_map (λ s. s.now) s.metadata in
-    let w = with_keys (number_or_zero s.rewriting.now) new in
+    let w = with_keys (number_or_zero s.rewriting.now.keys) new in
     not_too_long c.in-Err-TooLong.field-0 (λ (out : Vec ℕ Global). out.items ≡ rewritten w p (kept_by p s.kept.now) s.entries.now)
     (CarriesAll w p (kept_by p s.kept.now) s.entries.now) c.in-Err-TooLong.field-0-is c.in-Err-TooLong.ensures
-    (all_carried new p c.parts_are_valid.ensures.parts s.kept.now s.rewriting.now s.entries.now c.requires.keys c.requires.entries c.requires.metadata)
+    (all_carried new p c.parts_are_valid.ensures.parts s.kept.now s.rewriting.now.keys s.entries.now c.requires.keys c.requires.entries c.requires.metadata)
 
 pub returns-in-Ok : goal.returns-in-Ok
 returns-in-Ok c =
     let s = c.args.source in
-    c.in-Ok.ensures ∙ all_renumbered (option_map (λ s. s.now) s.metadata) s.chunk.now c.parts_are_valid.ensures.parts s.kept.now s.rewriting.now s.entries.now c.requires.keys c.requires.entries
+    c.in-Ok.ensures ∙ all_renumbered (option_map (λ s. s.now) s.metadata) s.chunk.now c.parts_are_valid.ensures.parts s.kept.now s.rewriting.now.keys s.entries.now c.requires.keys c.requires.entries

@@ -1,9 +1,7 @@
 use Rattle.std.proofs.Common.{◌∙◌, ◌++◌, ap}
-use Rattle.jfr_value.specs.Nodes.{node_of}
 use Rattle.jfr_chunk.specs.Indexed.{event_at}
 use Rattle.jfr_output.proofs.Widths.{size_width}
 use Rattle.jfr_rewrite.specs.Rewrite.{event_tail}
-use Rattle.jfr_rewrite.specs.Writing.{changed_within}
 use Rattle.jfr_rewrite.proofs.EventWriting.{size_bytes, split, width}
 use Rattle.jfr_rewrite.proofs.SizeLaws.{size_within, sized_last, wrote_weaker}
 use Rattle.jfr_rewrite.proofs.records.put_event.Goals as goal
@@ -17,9 +15,8 @@ put_size-requires-clause-within g c =
     let p = c.args.chunk.now in
     let e = event_at c.args.event in
     let old = c.args.out.now.items in
-    let stood = c.in_ok-put_changed.ensures.ok
-    ∙ (ap (λ z. old ++ changed_within w.change p (node_of c.args.event.node) c.args.event.frame.at z) c.end.ensures ∙ ap (λ z. old ++ z) (split w p e c.requires.record c.requires.start)) in
-    size_within w c.args.event.frame old (size_bytes w p e c.requires.record c.requires.start) (event_tail w p e) c.put_changed.new.out.items c.len-start.result
+    let stood = c.in_ok-put_fields.ensures.ok ∙ ap (λ z. old ++ z) (split w p e c.requires.record c.requires.start) in
+    size_within w c.args.event.frame old (size_bytes w p e c.requires.record c.requires.start) (event_tail w p e) c.put_fields.new.out.items c.len-start.result
     (c.len-start.ensures ∙ c.args.out.now.ok.0) (width w p e c.requires.record c.requires.start) stood
 
 pub returns : goal.returns
@@ -28,9 +25,8 @@ returns g c =
     let p = c.args.chunk.now in
     let e = event_at c.args.event in
     let old = c.args.out.now.items in
-    let stood = c.in_ok-put_changed.ensures.ok
-    ∙ (ap (λ z. old ++ changed_within w.change p (node_of c.args.event.node) c.args.event.frame.at z) c.end.ensures ∙ ap (λ z. old ++ z) (split w p e c.requires.record c.requires.start)) in
+    let stood = c.in_ok-put_fields.ensures.ok ∙ ap (λ z. old ++ z) (split w p e c.requires.record c.requires.start) in
     wrote_weaker c.put_size.result (λ x k. k.0) (λ k. k)
-    (sized_last w c.args.event.frame old (size_bytes w p e c.requires.record c.requires.start) (event_tail w p e) c.put_changed.new.out.items c.len-start.result
+    (sized_last w c.args.event.frame old (size_bytes w p e c.requires.record c.requires.start) (event_tail w p e) c.put_fields.new.out.items c.len-start.result
     (c.len-start.ensures ∙ c.args.out.now.ok.0) (width w p e c.requires.record c.requires.start) stood
     c.put_size.result c.put_size.new.out.items c.put_size.ensures)

@@ -1,7 +1,7 @@
 use Rattle.std.proofs.Common.{◌≡◌, ◌<◌, ℕ, Some, ap, length, subst, sym, ◌∙◌}
 use Rattle.std.specs.Prelude.{slice_get}
 use Rattle.std.proofs.lemmas.Option.{slice_get-get_or}
-use Rattle.jfr_renumber.specs.Numbers.{NumberedPairs, number_or_zero}
+use Rattle.jfr_renumber.specs.Numbers.{ChunkKeys, new_keys, number_or_zero}
 use Rattle.jfr_renumber.proofs.EntryNumbers.{in_force_number, in_force_within}
 use Rattle.jfr_renumber.proofs.entry_keys.EntryKeysNewKeys.new_key.Goals as goal
 
@@ -20,4 +20,4 @@ returns-in-Some c =
     let there : slice_get c.self.inside.by_entry.items i ≡ Some (number_or_zero c.self.inside.keys.now t) =
     ap (λ z. slice_get z i) c.self.invariant ∙ in_force_number (number_or_zero c.self.inside.keys.now) c.self.inside.pools.now t i (sym c.in-Some.ensures) in
     let same : c.index.result.now ≡ number_or_zero c.self.inside.keys.now t = (let z = sym here ∙ there in cc) in
-    same ∙ ap (λ (z : NumberedPairs). number_or_zero z t) c.self.view_is
+    same ∙ ap (λ (z : ChunkKeys). new_keys z t) c.self.view_is
