@@ -1,6 +1,6 @@
 //! Small chunks, and edits of them. Places count from the chunk's first byte.
 use jfr_base::{Flaw, ReadFault, Reason};
-use jfr_chunk::Chunk;
+use jfr_chunk::{Buffers, Chunk};
 use jfr_fixtures::{
     BYTES_LEFT, CLASSES, NO_CLASSES, NO_NODES, NO_POOLS, RINGS, chunk_of, inert, plain_with,
     with_classes,
@@ -139,6 +139,57 @@ fn compare_missing(
 fn references_without_entries_are_noted(rt: HostRuntime) -> Result<(), Fail> {
     compare_missing(&rt, rt.alloc(), EVENTS_AND_NODES, &[])?;
     compare_missing(&rt, rt.alloc(), EVENTS, NODES)
+}
+
+/// The entry of a key, and the offset of the key.
+type Place = (u32, u32);
+
+/// The place of the first key of an event, if it is noted.
+fn place_of_key(chunk: &Chunk<'_>, event: usize) -> Option<Place> {
+    let key = chunk.event_keys(event)?.first()?;
+    Some((key.entry, key.at))
+}
+
+/// Compares where the keys of both events of the chunk of these records are, if it is read with this memory.
+fn compare_places(
+    rt: &impl Abort,
+    alloc: Global,
+    buffers: Buffers,
+    (records, last): Records,
+    places: (Option<Place>, Option<Place>),
+) -> Result<(), Fail> {
+    let bytes = chunk_of(alloc, records, last, 68)?;
+    assert!(rt; is_cut(&bytes));
+    let chunk = Chunk::read_in(alloc, buffers, &bytes)?;
+    assert_eq!(rt; (place_of_key(&chunk, 0), place_of_key(&chunk, 1)), places);
+    Ok(())
+}
+
+#[test]
+fn places_of_keys_are_noted_on_request(rt: HostRuntime) -> Result<(), Fail> {
+    let alloc = rt.alloc();
+    let places = (Some((0, 329)), Some((2, 332)));
+    compare_places(
+        &rt,
+        alloc,
+        Buffers::noting_keys(alloc),
+        EVENTS_AND_NODES,
+        places,
+    )?;
+    compare_places(
+        &rt,
+        alloc,
+        Buffers::noting_keys(alloc),
+        EVENTS,
+        (None, None),
+    )?;
+    compare_places(
+        &rt,
+        alloc,
+        Buffers::new(alloc),
+        EVENTS_AND_NODES,
+        (None, None),
+    )
 }
 
 /// Compares the second of two events, whose last field isn't the end of its record.
