@@ -1,5 +1,5 @@
--- Numbers of texts that are noted for entries stay right while a dictionary grows.
-use Rattle.std.specs.Prelude.{◌≡◌, ◌≢◌, ℕ, zero, suc, ◌-◌, ◌<◌, ◌≤◌, Bool, true, false, List, [], ◌∷◌, ◌++◌, encode_utf8_all, get_or, length, replicate, is_some, slice_get, Option, Some, None, Result, Ok, Err, IfOk, OnOk, option_and_then, if◌then◌else◌}
+-- What is noted for texts stays right while a dictionary grows.
+use Rattle.std.specs.Prelude.{◌≡◌, ◌≢◌, ℕ, zero, suc, ◌-◌, ◌<◌, ◌≤◌, ◌^◌, Bool, true, false, List, [], ◌∷◌, ◌++◌, encode_utf8_all, get_or, length, nat_lt, replicate, slice_get, Option, Some, None, option_and_then, if◌then◌else◌}
 use Rattle.std.specs.Option.{option_map}
 use Rattle.std.proofs.Common.{◌⊎◌, inl, inr, ap, arith, refl, sym, subst, ◌∙◌}
 use Rattle.std.proofs.Math.ListN.{set}
@@ -12,9 +12,12 @@ use Rattle.jfr_pool.specs.declared.entry.EntryAt.{EntryAt}
 use Rattle.jfr_pool.specs.Entries.{number_in_force}
 use Rattle.jfr_pool.proofs.ForceLaws.{force_within}
 use Rattle.jfr_chunk.specs.Parts.{Parts}
+use Rattle.jfr_mask.specs.declared.event_strings.StringAt.{StringAt}
+use Rattle.jfr_mask.specs.declared.noted.Noted.{Noted}
+use Rattle.jfr_mask.specs.declared.noted.NotedTexts.{NotedTexts}
 use Rattle.jfr_mask.specs.Masked.{numbered_text, string_bytes, string_text}
 use Rattle.jfr_mask.specs.MaskedLeaves.{leaf_text}
-use Rattle.jfr_mask.specs.Noted.{AreNoted, IsMaskedAt, entry_by, entry_text}
+use Rattle.jfr_mask.specs.Noted.{AreNoted, AreNotedFor, IsMaskedAt, IsNotedFor, entry_by, entry_text, noted_as, nothing, text_at}
 use Rattle.jfr_mask.specs.Pseudonyms.{Extends, is_descriptor, number_of, pseudonym, shown, is_unmasked, with_text, with_texts}
 use Rattle.jfr_mask.specs.Written.{utf8_string}
 use Rattle.jfr_mask.proofs.NumberLaws.{at_number, has_at, has_one}
@@ -27,43 +30,55 @@ get_append (z ∷ zs) ys (suc i) x e = get_append zs ys i x e
 masked_grows : (known : List ℕ → Bool) (d after : List (List ℕ)) (text : List ℕ) (index : ℕ) → Extends d after → IsMaskedAt known d text index → IsMaskedAt known after text index
 masked_grows known d after text index x m = record { there = ap (λ z. slice_get z index) x.is ∙ get_append d x.rest index text m.there; hidden = m.hidden }
 
-pub noted_grow : (p : Parts) (known : List ℕ → Bool) (d after : List (List ℕ)) (numbers : List ℕ) → Extends d after → AreNoted p known d numbers → AreNoted p known after numbers
-noted_grow p known d after numbers x a = record {
-  size = a.size;
-  each = λ entry index e n there. (let r = a.each entry index e n there in (r.0, r.1, masked_grows known d after r.0 index x r.2));
-}
+noted_one_grows : (known : List ℕ → Bool) (d after : List (List ℕ)) (found : Option (List ℕ)) (n : Noted) → Extends d after → IsNotedFor known d found n → IsNotedFor known after found n
+noted_one_grows known d after found n x h = λ index q. (let r = h index q in (r.0, r.1, masked_grows known d after r.0 index x r.2, r.3))
 
-pub noted_none : (p : Parts) (known : List ℕ → Bool) (d : List (List ℕ)) (numbers : List ℕ) → numbers ≡ replicate (length p.entries) 0 → AreNoted p known d numbers
-noted_none p known d numbers is = record {
-  size = ap length is ∙ length-replicate (length p.entries) 0;
-  each = λ entry index e n there. absurd (never (length p.entries) entry index (ap (λ z. get_or z entry 0) (sym is) ∙ n));
-}
-  where
-    never : (k i n : ℕ) → get_or (replicate k 0) i 0 ≡ suc n → ⊥
-    never zero i n e = omega (arith, e)
-    never (suc k) zero n e = omega (arith, e)
-    never (suc k) (suc i) n e = never k i n e
+-- Nothing is right for any text.
+nothing_noted : (known : List ℕ → Bool) (d : List (List ℕ)) (found : Option (List ℕ)) → IsNotedFor known d found nothing
+nothing_noted known d found = λ index q. absurd (omega (arith, q))
 
--- A number is noted.
-pub noted_more : (p : Parts) (known : List ℕ → Bool) (d : List (List ℕ)) (numbers : List ℕ) (entry number : ℕ) → entry < length numbers
-    → ((index : ℕ) (e : EntryAt) → number ≡ suc index → slice_get p.entries entry ≡ Some e → (text : List ℕ) × (entry_text p e ≡ Some text) × IsMaskedAt known d text index)
-    → AreNoted p known d numbers → AreNoted p known d (set numbers entry number)
-noted_more p known d numbers entry number l here a = record {
-  size = length-set numbers entry number ∙ a.size;
-  each = λ i index e n there. by_less i index e n there (cases_lt i entry) (cases_lt entry i);
-}
-  where
-    other : (i index : ℕ) (e : EntryAt) → get_or (set numbers entry number) i 0 ≡ suc index → slice_get p.entries i ≡ Some e → i ≢ entry
-        → (text : List ℕ) × (entry_text p e ≡ Some text) × IsMaskedAt known d text index
-    other i index e n there apart = a.each i index e (sym (get_or-set_other numbers entry i number 0 apart) ∙ n) there
+module _ (known : List ℕ → Bool) (X : Type 0) (text_of : X → Option (List ℕ)) (xs : List X) where
+  list_grows : (d after : List (List ℕ)) (noted : List Noted) → Extends d after → AreNotedFor known d X text_of xs noted → AreNotedFor known after X text_of xs noted
+  list_grows d after noted x a = record {
+    size = a.size;
+    each = λ i y there. noted_one_grows known d after (text_of y) (get_or noted i nothing) x (a.each i y there);
+  }
 
-    by_less : (i index : ℕ) (e : EntryAt) → get_or (set numbers entry number) i 0 ≡ suc index → slice_get p.entries i ≡ Some e → (i < entry) ⊎ (entry ≤ i) → (entry < i) ⊎ (i ≤ entry)
-        → (text : List ℕ) × (entry_text p e ≡ Some text) × IsMaskedAt known d text index
-    by_less i index e n there (inl less) h = other i index e n there (λ q. absurd (omega (arith, less, q)))
-    by_less i index e n there (inr more) (inl less) = other i index e n there (λ q. absurd (omega (arith, less, q)))
-    by_less i index e n there (inr more) (inr most) =
-        let same : i ≡ entry = omega (arith, more, most) in
-        here index e (sym (get_or-set_same numbers entry number 0 l) ∙ (ap (λ z. get_or (set numbers entry number) z 0) (sym same) ∙ n)) (ap (λ z. slice_get p.entries z) (sym same) ∙ there)
+  pub list_none : (d : List (List ℕ)) (noted : List Noted) → noted ≡ replicate (length xs) nothing → AreNotedFor known d X text_of xs noted
+  list_none d noted is = record {
+    size = ap length is ∙ length-replicate (length xs) nothing;
+    each = λ i y there. subst (IsNotedFor known d (text_of y)) (sym (ap (λ z. get_or z i nothing) is ∙ always_nothing (length xs) i)) (nothing_noted known d (text_of y));
+  }
+    where
+      always_nothing : (k i : ℕ) → get_or (replicate k nothing) i nothing ≡ nothing
+      always_nothing zero i = refl
+      always_nothing (suc k) zero = refl
+      always_nothing (suc k) (suc i) = always_nothing k i
+
+  -- One more is noted.
+  pub list_more : (d : List (List ℕ)) (noted : List Noted) (at : ℕ) (n : Noted) → at < length noted → ((y : X) → slice_get xs at ≡ Some y → IsNotedFor known d (text_of y) n)
+      → AreNotedFor known d X text_of xs noted → AreNotedFor known d X text_of xs (set noted at n)
+  list_more d noted at n l here a = record {
+    size = length-set noted at n ∙ a.size;
+    each = λ i y there. by_less i y there (cases_lt i at) (cases_lt at i);
+  }
+    where
+      other : (i : ℕ) (y : X) → slice_get xs i ≡ Some y → i ≢ at → IsNotedFor known d (text_of y) (get_or (set noted at n) i nothing)
+      other i y there apart = subst (IsNotedFor known d (text_of y)) (sym (get_or-set_other noted at i n nothing apart)) (a.each i y there)
+
+      by_less : (i : ℕ) (y : X) → slice_get xs i ≡ Some y → (i < at) ⊎ (at ≤ i) → (at < i) ⊎ (i ≤ at) → IsNotedFor known d (text_of y) (get_or (set noted at n) i nothing)
+      by_less i y there (inl less) h = other i y there (λ q. absurd (omega (arith, less, q)))
+      by_less i y there (inr more) (inl less) = other i y there (λ q. absurd (omega (arith, less, q)))
+      by_less i y there (inr more) (inr most) =
+          let same : at ≡ i = omega (arith, more, most) in
+          subst (λ z. IsNotedFor known d (text_of y) (get_or (set noted at n) z nothing)) same
+          (subst (IsNotedFor known d (text_of y)) (sym (get_or-set_same noted at n nothing l)) (here y (ap (slice_get xs) same ∙ there)))
+
+pub noted_grow : (p : Parts) (known : List ℕ → Bool) (d after : List (List ℕ)) (ss : List StringAt) (noted : NotedTexts) → Extends d after → AreNoted p known d ss noted → AreNoted p known after ss noted
+noted_grow p known d after ss noted x a = record {
+  entries = list_grows known EntryAt (entry_text p) p.entries d after noted.entries.items x a.entries;
+  strings = list_grows known StringAt (text_at p) ss d after noted.strings.items x a.strings;
+}
 
 -- The entry to which a string leads is there, and has the string's text.
 pub leads_there : (p : Parts) (l : LeafAt) (entry : ℕ) → entry_by p l ≡ Some entry → (entry < length p.entries) × ((e : EntryAt) → slice_get p.entries entry ≡ Some e → leaf_text p l ≡ entry_text p e)
@@ -108,30 +123,35 @@ noted_string known d text u h e =
     by_descriptor true n = refl
     by_descriptor false n = refl
 
--- A string that leads to an entry with a noted number has this text.
-pub noted_leads : (p : Parts) (known : List ℕ → Bool) (d : List (List ℕ)) (numbers : List ℕ) (l : LeafAt) (entry index : ℕ) → entry_by p l ≡ Some entry → get_or numbers entry 0 ≡ suc index
-    → AreNoted p known d numbers
-    → (text : List ℕ) × (leaf_text p l ≡ Some text) × IsMaskedAt known d text index
-noted_leads p known d numbers l entry index h n a =
+-- What is noted for an entry is right for the text of a string that leads to it.
+pub noted_leads : (p : Parts) (known : List ℕ → Bool) (d : List (List ℕ)) (noted : List Noted) (l : LeafAt) (entry : ℕ) → entry_by p l ≡ Some entry → AreNotedFor known d EntryAt (entry_text p) p.entries noted
+    → IsNotedFor known d (leaf_text p l) (get_or noted entry nothing)
+noted_leads p known d noted l entry h a =
     let none : EntryAt = record { class = 0; key = 0; key_at = 0; value_at = 0; end = 0; checkpoint = 0; pool = 0 } in
     let leads = leads_there p l entry h in
+    let e = get_or p.entries entry none in
     let there = slice_get-get_or p.entries entry none leads.0 in
-    let r = a.each entry index (get_or p.entries entry none) n there in
-    (r.0, leads.1 (get_or p.entries entry none) there ∙ r.1, r.2)
+    subst (λ z. IsNotedFor known d z (get_or noted entry nothing)) (sym (leads.1 e there)) (a.each entry e there)
 
--- Its text needn't be added.
-pub noted_ok : (p : Parts) (known : List ℕ → Bool) (d : List (List ℕ)) (numbers : List ℕ) (l : LeafAt) (entry : ℕ) (o : Option ℕ) → is_some o ≡ true
-    → ((index : ℕ) → o ≡ Some index → get_or numbers entry 0 ≡ suc index)
-    → entry_by p l ≡ Some entry → AreNoted p known d numbers → d ≡ with_texts d (numbered_text known (leaf_text p l))
-noted_ok p known d numbers l entry None s f h a = cc
-noted_ok p known d numbers l entry (Some index) s f h a =
-    let r = noted_leads p known d numbers l entry index h (f index refl) a in
-    sym (ap (λ o. with_texts d (numbered_text known o)) r.1 ∙ noted_same known d r.0 index r.2)
+-- A noted text needn't be added.
+pub noted_ok : (known : List ℕ → Bool) (d : List (List ℕ)) (found : Option (List ℕ)) (n : Noted) → n.number ≢ 0 → IsNotedFor known d found n → d ≡ with_texts d (numbered_text known found)
+noted_ok known d found n some h = by_number n.number refl
+  where
+    by_number : (number : ℕ) → n.number ≡ number → d ≡ with_texts d (numbered_text known found)
+    by_number zero q = absurd (some q)
+    by_number (suc index) q = let r = h index q in sym (ap (λ o. with_texts d (numbered_text known o)) r.1 ∙ noted_same known d r.0 index r.2)
 
-pub added_number : {E : Type 0} (known : List ℕ → Bool) (old new : List (List ℕ)) (text : List ℕ) (r : Result ℕ E) → is_unmasked known text ≡ false → OnOk r (new ≡ with_text old text)
-    → IfOk r (λ n. n ≡ number_of new text) → IfOk r (λ n. (index : ℕ) → n ≡ suc index → IsMaskedAt known new text index)
-added_number known old new text (Ok n) h e m = λ index q. subst (λ z. IsMaskedAt known z text index) (sym e) (masked_added known old text index h (sym q ∙ (m ∙ ap (λ z. number_of z text) e)))
-added_number known old new text (Err x) h e m = tt
+-- What is noted for a text that is added.
+pub added_number : (known : List ℕ → Bool) (old new : List (List ℕ)) (text : List ℕ) (number : ℕ) → is_unmasked known text ≡ false → new ≡ with_text old text → number ≡ number_of new text
+    → IsNotedFor known new (Some text) (noted_as text number)
+added_number known old new text number h e m = by_size (nat_lt number (2 ^ 32))
+  where
+    is_there : (index : ℕ) → number ≡ suc index → IsMaskedAt known new text index
+    is_there index q = subst (λ z. IsMaskedAt known z text index) (sym e) (masked_added known old text index h (sym q ∙ (m ∙ ap (λ z. number_of z text) e)))
+
+    by_size : (b : Bool) → IsNotedFor known new (Some text) (if b then record { number = number; descriptor = is_descriptor text } else nothing)
+    by_size true = λ index q. (text, refl, is_there index q, refl)
+    by_size false = nothing_noted known new (Some text)
 
 pub same_text : (t u : List ℕ) → Some t ≡ Some u → t ≡ u
 same_text t u e = cc

@@ -137,7 +137,7 @@ has_at (u ∷ us) zero t e = let h : u ≡ t = cc in or_true (bytes_eq u t) (has
 has_at (u ∷ us) (suc i) t e = true_or (bytes_eq u t) (has_text us t) (has_at us i t e)
 
 -- What is at an index after a text is added at the end.
-at_added : (d : List (List ℕ)) (t u : List ℕ) (i : ℕ) → slice_get (d ++ t ∷ []) i ≡ Some u → (slice_get d i ≡ Some u) ⊎ ((i ≡ length d) × (t ≡ u))
+pub at_added : (d : List (List ℕ)) (t u : List ℕ) (i : ℕ) → slice_get (d ++ t ∷ []) i ≡ Some u → (slice_get d i ≡ Some u) ⊎ ((i ≡ length d) × (t ≡ u))
 at_added [] t u zero e = let h : t ≡ u = cc in inr (refl, h)
 at_added [] t u (suc i) e = cc
 at_added (v ∷ vs) t u zero e = inl e

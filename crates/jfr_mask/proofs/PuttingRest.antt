@@ -25,6 +25,10 @@ rests_after all xs rest left a b c r e p = record {
       ∙ (sym (ap (ordered_all b.flags.items b.order.items) e ∙ ordered_append b.flags.items b.order.items xs rest) ∙ r.order));
 }
 
+-- If nothing is left, all was put.
+pub rests_none : (all rest : List ℕ) (a b : Worklist) → rest ≡ [] → Rests all rest a b → Puts all a b
+rests_none all rest a b e r = record { marks = ap (marked_at b.flags.items) (sym e) ∙ r.marks; order = ap (ordered_all b.flags.items b.order.items) (sym e) ∙ r.order }
+
 -- The number of flags stays the same.
 pub rests_size : (all rest : List ℕ) (a b : Worklist) → Rests all rest a b → length b.flags.items ≡ length a.flags.items
 rests_size all rest a b r = sym (all_size b.flags.items rest) ∙ (ap length r.marks ∙ all_size a.flags.items all)

@@ -1,5 +1,5 @@
 -- The walk over the entries that the kept events reach by paths that go no further where Follow stops.
-use Rattle.std.specs.Prelude.{◌≡◌, ℕ, ◌+◌, ◌<◌, ◌≤◌, All, Bool, false, List, [], ◌∷◌, ◌++◌, drop, length, replicate, slice_get, slice_index, Option, Some, option_to_list}
+use Rattle.std.specs.Prelude.{◌≡◌, ℕ, ◌+◌, ◌<◌, ◌≤◌, All, Bool, false, List, [], ◌∷◌, ◌++◌, drop, length, replicate, slice_get, slice_index, option_map, Option, None, Some, option_to_list}
 use Rattle.std.specs.List.{AllByRecursion, flat_map}
 use Rattle.std.specs.Option.{option_map_or}
 use Rattle.std.proofs.Common.{ap, append-nil, arith, inl, inr, refl, sym, subst, ◌∙◌}
@@ -19,7 +19,8 @@ use Rattle.jfr_pool.specs.declared.entry.EntryAt.{EntryAt}
 use Rattle.jfr_pool.specs.Entries.{entry_node, number_in_force}
 use Rattle.jfr_pool.proofs.ForceLaws.{force_within}
 use Rattle.jfr_chunk.specs.Parts.{Parts, EventAt, events_of}
-use Rattle.jfr_chunk.specs.Reach.{kept_by, marked}
+use Rattle.jfr_value.specs.Nodes.{targets}
+use Rattle.jfr_chunk.specs.Reach.{kept_by, marked, node_entries}
 use Rattle.jfr_rewrite.specs.Paths.{Stops}
 use Rattle.jfr_mask.specs.ReachBut.{marks_but, next_but, node_targets_but, remain_but, roots_but}
 use Rattle.jfr_mask.specs.Reaching.{marked_get}
@@ -57,6 +58,15 @@ module _ (stops : Stops) (p : Parts) where
       each : (xs : List ℕ) → AllBelow n xs → AllByRecursion (λ x. x < n) xs
       each [] b = tt
       each (x ∷ xs) b = (b x (inl refl), each xs (λ i j. b i (inr j)))
+
+  -- The numbers that are noted for an event.
+  pub event_numbers : (o : Option EventAt) (xs : List ℕ) → Some xs ≡ option_map (λ e. node_entries p.entries p.classes p.bytes e.node) o
+      → xs ≡ those (number_in_force p.entries) (flat_map (λ e. targets p.classes p.bytes e.node) (option_to_list o))
+  event_numbers None xs q = cc
+  event_numbers (Some e) xs q =
+      let all : List (ℕ × ℕ) = targets p.classes p.bytes e.node in
+      let y : xs ≡ those (number_in_force p.entries) all = cc in
+      y ∙ ap (those (number_in_force p.entries)) (sym (append-nil all))
 
   -- The entries to which an event refers are those to which a list with this event does.
   pub event_roots : (o : Option EventAt) (e : EventAt) → Some e ≡ o → those (number_in_force p.entries) (node_targets_but stops p e.node) ≡ roots_but stops p (option_to_list o)

@@ -1,3 +1,4 @@
+pub mod EventStrings
 pub mod Fields
 pub mod Headline
 pub mod Held
@@ -8,11 +9,13 @@ pub mod MaskedLeaves
 pub mod Maskers
 pub mod NewLeaves
 pub mod Noted
+pub mod Pieces
 pub mod Plain
 pub mod Pseudonyms
 pub mod ReachBut
 pub mod Reaching
 pub mod Secrecy
+pub mod Slotted
 pub mod Written
 pub mod Recordings
 pub mod Commands

@@ -1,68 +1,96 @@
-//! The entries of a masked chunk.
+//! The entries of a masked chunk, and the masked strings of its events.
 ghost use Rattle.std.specs.Prelude.{◌≡◌, ◌++◌, false, length, option_to_list, replicate, IfOk, OnOk};
+ghost use Rattle.std.specs.List.{flat_map};
 ghost use Rattle.jfr_layout.specs.Classes.{Sound};
 ghost use Rattle.jfr_worklist.specs.Putting.{Puts};
 ghost use Rattle.jfr_chunk.specs.Parts.{events_of};
 ghost use Rattle.jfr_chunk.specs.Reach.{kept_by, marked};
+ghost use Rattle.jfr_mask.specs.EventStrings.{AreListed, strings_in};
 ghost use Rattle.jfr_mask.specs.Masked.{is_held_masked, is_masked_string};
 ghost use Rattle.jfr_mask.specs.Plain.{ArePlain};
 ghost use Rattle.jfr_mask.specs.ReachBut.{marks_but, next_but, remain_but, roots_but};
 ghost use Rattle.jfr_mask.specs.Reaching.{marked_get};
+ghost use Rattle.jfr_mask.specs.Visitors.{IsNothing, Lists};
 
 use crate::MaskedFields;
+use crate::event_strings::EventStrings;
 use crate::fields::flag_at;
 use crate::plain::PlainClasses;
-use crate::references::{put_event, put_value};
+use crate::references::{Reaching, put_event, put_value};
 use jfr_base::NoMemory;
 use jfr_chunk::{Chunk, Kept};
 use jfr_pool::{EntryAt, Pools};
 use jfr_worklist::Worklist;
 use std::alloc::Global;
 
-/// The entries that are left when a chunk is masked, in the order of the file: those that the kept events reach by
-/// paths that go no further at masked strings. References may form cycles; each entry is visited once.
-pub(crate) fn entries_left(
+/// What is left when a chunk is masked.
+#[derive(Drop)]
+pub(crate) struct Left {
+    /// The entries, in the order of the file: those that the kept events reach by paths that go no further at masked
+    /// strings.
+    pub(crate) entries: Vec<EntryAt>,
+    /// The masked strings of the kept events.
+    pub(crate) events: EventStrings,
+}
+
+/// What is left when a chunk is masked. References may form cycles; each entry is visited once.
+pub(crate) fn left_of(
     alloc: Global,
     chunk: &Chunk<'_>,
     kept: &Kept,
     masked: &MaskedFields,
     plain: &PlainClasses,
-) -> Result<Vec<EntryAt>, NoMemory>
+) -> Result<Left, NoMemory>
     requires size { length kept.now ≡ length (events_of chunk.now) }
     requires plain { ArePlain masked.now chunk.now.classes plain.now.flags.items }
-    ensures ok { IfOk result (λ entries. entries.items ≡ remain_but (is_masked_string (is_held_masked masked.now chunk.now.classes)) chunk.now (kept_by chunk.now kept.now)) }
+    ensures entries { IfOk result (λ left. left.entries.items ≡ remain_but (is_masked_string (is_held_masked masked.now chunk.now.classes)) chunk.now (kept_by chunk.now kept.now)) }
+    ensures events { IfOk result (λ left. AreListed (is_held_masked masked.now chunk.now.classes) chunk.now kept.now left.events.strings.items left.events.ends.items) }
 {
-    let mut list = Worklist::new(alloc, chunk.pools().len())?;
-    put_reached(&mut list, chunk, kept, masked, plain);
-    marked_entries(alloc, &list, chunk.pools())
+    let mut reaching = Reaching {
+        list: Worklist::new(alloc, chunk.pools().len())?,
+        events: EventStrings::new(alloc),
+        failed: false,
+    };
+    put_reached(&mut reaching, chunk, kept, masked, plain);
+    if reaching.failed {
+        return Err(NoMemory);
+    }
+    let entries = marked_entries(alloc, &reaching.list, chunk.pools())?;
+    Ok(Left {
+        entries,
+        events: reaching.events,
+    })
 }
 
 /// Marks the entries that the kept events reach: first those to which the events refer; then, for each marked entry in
-/// the order of marking, those to which it refers.
+/// the order of marking, those to which it refers. Lists the masked strings of the events.
 fn put_reached(
-    list: &mut Worklist,
+    reaching: &mut Reaching,
     chunk: &Chunk<'_>,
     kept: &Kept,
     masked: &MaskedFields,
     plain: &PlainClasses,
 )
     requires plain { ArePlain masked.now chunk.now.classes plain.now.flags.items }
-    requires fresh { list.old.flags.items ≡ replicate (length chunk.now.entries) false }
-    ensures { list.new.flags.items ≡ marks_but (is_masked_string (is_held_masked masked.now chunk.now.classes)) chunk.now (kept_by chunk.now kept.now) }
+    requires size { length kept.now ≡ length (events_of chunk.now) }
+    requires fresh { reaching.old.list.flags.items ≡ replicate (length chunk.now.entries) false }
+    requires nothing { IsNothing reaching.old }
+    ensures marks { reaching.new.list.flags.items ≡ marks_but (is_masked_string (is_held_masked masked.now chunk.now.classes)) chunk.now (kept_by chunk.now kept.now) }
+    ensures listed { reaching.new.failed ≡ false → AreListed (is_held_masked masked.now chunk.now.classes) chunk.now kept.now reaching.new.events.strings.items reaching.new.events.ends.items }
 {
     chunk.parts_are_valid();
-    put_events(list, chunk, kept, masked, plain);
+    put_events(reaching, chunk, kept, masked, plain);
     let mut next: usize = 0;
-    while next < list.order.len() {
-        let number = list.order[next];
-        put_entry(list, chunk, masked, plain, number);
+    while next < reaching.list.order.len() {
+        let number = reaching.list.order[next];
+        put_entry(&mut reaching.list, chunk, masked, plain, number);
         next += 1;
     }
 }
 
-/// Marks the entries in force to which the kept events refer, one event after another.
+/// Marks the entries in force to which the kept events refer, one event after another. Lists their masked strings.
 fn put_events(
-    list: &mut Worklist,
+    reaching: &mut Reaching,
     chunk: &Chunk<'_>,
     kept: &Kept,
     masked: &MaskedFields,
@@ -70,17 +98,20 @@ fn put_events(
 )
     requires sound { Sound chunk.now.classes }
     requires plain { ArePlain masked.now chunk.now.classes plain.now.flags.items }
-    requires size { length list.old.flags.items ≡ length chunk.now.entries }
-    ensures { Puts (roots_but (is_masked_string (is_held_masked masked.now chunk.now.classes)) chunk.now (kept_by chunk.now kept.now)) list.old list.new }
+    requires size { length reaching.old.list.flags.items ≡ length chunk.now.entries }
+    requires nothing { IsNothing reaching.old }
+    ensures puts { Puts (roots_but (is_masked_string (is_held_masked masked.now chunk.now.classes)) chunk.now (kept_by chunk.now kept.now)) reaching.old.list reaching.new.list }
+    ensures listed { reaching.new.failed ≡ false → AreListed (is_held_masked masked.now chunk.now.classes) chunk.now kept.now reaching.new.events.strings.items reaching.new.events.ends.items }
 {
     for number in 0..kept.len() {
-        put_if_kept(list, chunk, kept, masked, plain, number);
+        put_if_kept(reaching, chunk, kept, masked, plain, number);
+        reaching.end_event();
     }
 }
 
-/// Marks the entries in force to which the event with this number refers, if it is kept.
+/// Marks the entries in force to which the event with this number refers, and lists its masked strings, if it is kept.
 fn put_if_kept(
-    list: &mut Worklist,
+    reaching: &mut Reaching,
     chunk: &Chunk<'_>,
     kept: &Kept,
     masked: &MaskedFields,
@@ -89,11 +120,12 @@ fn put_if_kept(
 )
     requires sound { Sound chunk.now.classes }
     requires plain { ArePlain masked.now chunk.now.classes plain.now.flags.items }
-    requires size { length list.old.flags.items ≡ length chunk.now.entries }
-    ensures { Puts (roots_but (is_masked_string (is_held_masked masked.now chunk.now.classes)) chunk.now (option_to_list (marked_get kept.now (events_of chunk.now) number))) list.old list.new }
+    requires size { length reaching.old.list.flags.items ≡ length chunk.now.entries }
+    ensures puts { Puts (roots_but (is_masked_string (is_held_masked masked.now chunk.now.classes)) chunk.now (option_to_list (marked_get kept.now (events_of chunk.now) number))) reaching.old.list reaching.new.list }
+    ensures lists { Lists (flat_map (λ e. strings_in (is_held_masked masked.now chunk.now.classes) chunk.now e.node) (option_to_list (marked_get kept.now (events_of chunk.now) number))) reaching.old reaching.new }
 {
     if kept.is_kept(number) {
-        put_event(list, chunk, masked, plain, number);
+        put_event(reaching, chunk, masked, plain, number);
     }
 }
 

@@ -35,6 +35,7 @@
 
 mod chunk_laws;
 mod dictionary;
+mod event_strings;
 mod fault;
 mod fields;
 mod holders;
@@ -53,6 +54,7 @@ mod shown;
 mod slots;
 mod stream;
 mod table;
+mod text_list;
 mod texts;
 mod widths;
 

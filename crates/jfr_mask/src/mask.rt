@@ -7,9 +7,9 @@ ghost use Rattle.jfr_rewrite.specs.Writing.{AreSomeOf, with_metadata};
 ghost use Rattle.jfr_mask.specs.declared.fault.MaskFault.TheVariants.{TooLong};
 ghost use Rattle.jfr_mask.specs.Maskers.{KnowsPlain, masking_of, rewrite_by};
 ghost use Rattle.jfr_mask.specs.MaskOf.{dictionary_after, mask_of};
-ghost use Rattle.jfr_mask.specs.Noted.{HasNoted};
+ghost use Rattle.jfr_mask.specs.Noted.{HasListed, HasNoted};
 
-use crate::left::entries_left;
+use crate::left::{Left, left_of};
 use crate::masker::Masker;
 use crate::numbering::Numbering;
 use crate::plain::PlainClasses;
@@ -56,7 +56,7 @@ pub fn mask_chunk<'m>(
 {
     let masked = MaskedFields::of(alloc, options.strings, options.except, chunk.classes())?;
     let plain = PlainClasses::of(alloc, &masked, chunk.classes())?;
-    let entries = entries_left(alloc, chunk, kept, &masked, &plain)?;
+    let Left { entries, events } = left_of(alloc, chunk, kept, &masked, &plain)?;
     let strings = MaskedStrings {
         chunk: &*chunk,
         masked: &masked,
@@ -67,14 +67,18 @@ pub fn mask_chunk<'m>(
         alloc,
         strings,
         known,
+        kept: &*kept,
+        events: &events,
     };
-    let noted = numbering.number_chunk(dictionary, kept, &entries)?;
+    let noted = numbering.number_chunk(dictionary, &entries)?;
     let metadata = slim_metadata(alloc, chunk, kept, options.filter)?;
     let masker = Masker {
         alloc,
         strings,
         known,
         dictionary,
+        kept: &*kept,
+        events: &events,
         noted: &noted,
     };
     let source = RewriteSource {
@@ -96,6 +100,7 @@ fn put_masked(
     requires chunk { source.chunk.now ≡ source.rewriting.now.strings.chunk.now }
     requires plain { KnowsPlain source.rewriting.now.strings }
     requires noted { HasNoted source.rewriting.now }
+    requires listed { HasListed source.rewriting.now }
     requires entries { AreSomeOf source.chunk.now source.entries.now }
     ensures ok { IfOk result (λ out. out.items ≡ rewritten (with_metadata (rewrite_by source.entry.rewriting.now) (option_map (λ s. s.now) source.entry.metadata)) source.entry.chunk.now (kept_by source.entry.chunk.now source.entry.kept.now) source.entry.entries.now) }
     ensures below { IfOk result (λ out. length out.items < 2 ^ 30) }

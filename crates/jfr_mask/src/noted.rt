@@ -1,70 +1,107 @@
-//! The numbers of a chunk's texts, so that each text to which a constant leads is made only once, and each other text is
-//! looked up only once.
-ghost use Rattle.std.specs.Prelude.{◌≡◌, ◌+◌, ◌<◌, ◌^◌, ℕ, suc, get_or, length, replicate, slice_set, Some, IfOk, IfSome};
+//! The numbers of a chunk's texts, so that each text is looked up only once, and each text to which a constant leads is
+//! made only once.
+ghost use Rattle.std.specs.Prelude.{◌≡◌, ◌≢◌, ◌↔◌, ◌<◌, ◌^◌, get_or, replicate, IfOk, IfSome, IsTrue};
+ghost use Rattle.std.specs.Str.{chars};
+ghost use Rattle.jfr_mask.specs.Noted.{nothing, noted_as};
+ghost use Rattle.jfr_mask.specs.Pseudonyms.{pseudonym};
+ghost use Rattle.jfr_mask.specs.Written.{shown_bytes};
 
+use crate::Shown;
+use crate::shown::is_descriptor;
 use jfr_base::NoMemory;
 use std::alloc::Global;
-use std::cell::Cell;
 
-/// For each entry of a chunk, the number of the text to which it leads, or 0 if none is noted. Also hints for the texts
-/// to which no entry leads: their numbers, in the order in which the texts were met.
+/// The pseudonym of a text, or nothing. A chunk can have millions, so each takes few bytes.
+#[derive(Clone, Copy)]
+pub(crate) struct Noted {
+    /// The number of the text in the dictionary, from 1, or 0 for nothing.
+    number: u32,
+    /// Whether the text begins as a method's descriptor does.
+    descriptor: bool,
+}
+
+/// No text, or one that is shown as it is, or one whose number isn't noted.
+pub(crate) const NOTHING: Noted = Noted {
+    number: 0,
+    descriptor: false,
+};
+
+impl Noted {
+    /// The pseudonym of a text with this number. Of a number of more than 32 bits, nothing is noted.
+    pub(crate) fn of(text: &str, number: u64) -> Noted
+        ensures { result ≡ noted_as (chars text.now) number }
+    {
+        match u32::try_from(number) {
+            Ok(number) => Noted {
+                number,
+                descriptor: is_descriptor(text),
+            },
+            Err(_) => NOTHING,
+        }
+    }
+
+    /// Whether it is a pseudonym, and not nothing.
+    pub(crate) fn is_pseudonym(self) -> bool
+        ensures { IsTrue result ↔ (self.number ≢ 0) }
+    {
+        self.number != 0
+    }
+
+    /// What is shown for the text, if its pseudonym is noted.
+    pub(crate) fn shown(self) -> Option<Shown<'static>>
+        ensures shown { IfSome result (λ shown. (self.number ≢ 0) × (shown_bytes shown ≡ pseudonym self.descriptor self.number)) }
+        ensures fits { self.number < 2 ^ 32 }
+    {
+        if !self.is_pseudonym() {
+            return None;
+        }
+        Some(Shown::Pseudonym {
+            descriptor: self.descriptor,
+            number: u64::from(self.number),
+        })
+    }
+}
+
+/// The pseudonyms of the texts to which a chunk's entries lead, by the number of the entry, and of the masked strings of
+/// its events, by the number of the string. Not all are noted.
 #[derive(Drop)]
 pub(crate) struct NotedTexts {
-    numbers: Vec<u64>,
-    hints: Vec<u32>,
-    /// The index of the next hint that is taken.
-    next: Cell<usize>,
+    pub(crate) entries: Vec<Noted>,
+    pub(crate) strings: Vec<Noted>,
 }
 
 impl NotedTexts {
-    /// Nothing is noted for this many entries.
-    pub(crate) fn new(alloc: Global, entries: usize) -> Result<NotedTexts, NoMemory>
-        ensures ok { IfOk result (λ noted. noted.numbers.items ≡ replicate entries 0) }
+    /// Nothing is noted for this many entries and strings.
+    pub(crate) fn new(alloc: Global, entries: usize, strings: usize) -> Result<NotedTexts, NoMemory>
+        ensures entries { IfOk result (λ noted. noted.entries.items ≡ replicate entries nothing) }
+        ensures strings { IfOk result (λ noted. noted.strings.items ≡ replicate strings nothing) }
     {
-        let numbers = vec![in alloc; 0; entries]?;
-        Ok(NotedTexts {
-            numbers,
-            hints: Vec::new(alloc),
-            next: Cell::new(0),
-        })
+        let entries = vec![in alloc; NOTHING; entries]?;
+        let strings = vec![in alloc; NOTHING; strings]?;
+        Ok(NotedTexts { entries, strings })
     }
 
-    /// The index in the dictionary, from 0, of the text to which an entry leads, if it is noted.
-    pub(crate) fn index(&self, entry: usize) -> Option<usize>
-        ensures fits { IfSome result (λ index. index + 1 < 2 ^ 64) }
-        ensures noted { (index : ℕ) → result ≡ Some index → get_or self.now.numbers.items entry 0 ≡ suc index }
+    /// What is noted for the entry with this number.
+    pub(crate) fn entry(&self, number: usize) -> Noted
+        ensures { result ≡ get_or self.now.entries.items number nothing }
     {
-        let number = *self.numbers.get(entry)?;
-        let index = number.checked_sub(1)?;
-        Some(index as usize)
+        noted_at(&self.entries, number)
     }
 
-    /// Notes the number of the text to which an entry leads.
-    pub(crate) fn note(&mut self, entry: usize, number: u64)
-        requires { entry < length self.old.numbers.items }
-        ensures { self.new.numbers.items ≡ slice_set self.old.numbers.items entry number }
+    /// What is noted for the string with this number.
+    pub(crate) fn string(&self, number: usize) -> Noted
+        ensures { result ≡ get_or self.now.strings.items number nothing }
     {
-        self.numbers[entry] = number;
+        noted_at(&self.strings, number)
     }
+}
 
-    /// Adds a hint: the number of the next text, unless it is 0. A number of more than 32 bits is kept as 0.
-    pub(crate) fn add_hint(&mut self, number: u64) -> Result<(), NoMemory>
-        ensures { self.new.numbers.items ≡ self.old.numbers.items }
-    {
-        if number != 0 {
-            self.hints.push(u32::try_from(number).unwrap_or(0))?;
-        }
-        Ok(())
-    }
-
-    /// Takes the next hint, in the order in which they were added, or 0 if none is left. It may be the number of another
-    /// text.
-    pub(crate) fn next_hint(&self) -> u64 {
-        let at = self.next.get();
-        let Some(hint) = self.hints.get(at) else {
-            return 0;
-        };
-        self.next.set(at + 1);
-        u64::from(*hint)
+/// What is noted under a number.
+fn noted_at(noted: &[Noted], number: usize) -> Noted
+    ensures { result ≡ get_or noted.now number nothing }
+{
+    match noted.get(number) {
+        Some(noted) => *noted,
+        None => NOTHING,
     }
 }

@@ -76,7 +76,7 @@ pub(crate) fn is_unmasked(known: &Known, text: &str) -> bool
 }
 
 /// Whether the text begins as a method's descriptor does.
-fn is_descriptor(text: &str) -> bool
+pub(crate) fn is_descriptor(text: &str) -> bool
     ensures { result ≡ is_descriptor (chars text.now) }
 {
     match text.chars().next() {
@@ -86,7 +86,7 @@ fn is_descriptor(text: &str) -> bool
 }
 
 /// The pseudonym up to its number.
-fn pseudonym_start(descriptor: bool) -> &'static [u8]
+pub(crate) fn pseudonym_start(descriptor: bool) -> &'static [u8]
     ensures { result.now ≡ (if descriptor then codes "()masked-" else codes "masked-") }
 {
     if descriptor { b"()masked-" } else { b"masked-" }

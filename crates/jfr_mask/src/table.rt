@@ -3,7 +3,6 @@ ghost use Rattle.std.specs.Prelude.{◌≡◌, ◌∷◌, ◌++◌, [], ℕ, Lis
 ghost use Rattle.std.specs.Str.{chars, encode_utf8_all};
 ghost use Rattle.jfr_plan.specs.Effects.{Append};
 ghost use Rattle.jfr_plan.specs.Parts.{IsPlaceAfter, PlaceCounts};
-ghost use Rattle.jfr_mask.specs.Held.{texts_in};
 ghost use Rattle.jfr_mask.specs.Recordings.{table_effects, table_line, table_lines};
 
 use crate::Dictionary;

@@ -13,7 +13,7 @@ use Rattle.jfr_mask.proofs.mask.mask_chunk.Goals as goal
 -- src/mask.rt:82:5
 pub put_masked-requires-clause-entries : goal.put_masked-requires-clause-entries
 put_masked-requires-clause-entries c =
-    left_are_some c.in_ok-masked.masked c.args.chunk.now (kept_by c.args.chunk.now c.args.kept.now) c.deref-2.result.now (c.deref-2.ensures.value ∙ c.in_ok-entries.ensures.ok)
+    left_are_some c.in_ok-masked.masked c.args.chunk.now (kept_by c.args.chunk.now c.args.kept.now) c.deref-2.result.now (c.deref-2.ensures.value ∙ c.in_ok-entries.ensures.entries)
 
 fields_are : (c : goal.After-drop-masked-inside-2) → c.in_ok-masked.masked ≡ masks_of (masking_of c.args.options).strings (masking_of c.args.options).except c.args.chunk.now.classes
 fields_are c = c.in_ok-masked.ensures.ok ∙ ap (masks_of (masking_of c.args.options).strings (masking_of c.args.options).except) c.classes.ensures
@@ -31,7 +31,7 @@ output_is : (c : goal.After-drop-masked-inside-2)
 output_is c =
     masked_is (masking_of c.args.options) c.args.dictionary.now c.number_chunk.new.dictionary c.args.chunk.now (kept_by c.args.chunk.now c.args.kept.now) c.in_ok-masked.masked c.deref-2.result.now
     (option_map (λ s. s.now) c.as_deref.result)
-    (fields_are c) (dictionary_is c) (c.deref-2.ensures.value ∙ c.in_ok-entries.ensures.ok) (same_slim c)
+    (fields_are c) (dictionary_is c) (c.deref-2.ensures.value ∙ c.in_ok-entries.ensures.entries) (same_slim c)
 
 -- src/mask.rt:41:1
 pub returns-clause-ok : goal.returns-clause-ok

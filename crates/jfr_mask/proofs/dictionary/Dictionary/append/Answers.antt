@@ -1,29 +1,49 @@
-use Rattle.std.proofs.Common.{ap, arith, rules, sym, subst, ◌∙◌, ◌≡◌, ◌+◌, false, length}
-use Rattle.std.proofs.lemmas.Grind.{common_steps}
+use Rattle.std.proofs.Common.{◌≡◌, ◌+◌, ◌++◌, ◌∷◌, [], ap, rules, sym, subst, ◌∙◌, false}
 use Rattle.std.specs.Str.{chars}
-use Rattle.jfr_mask.specs.Held.{AreNumbersOf, IsPut, texts_in}
+use Rattle.jfr_mask.specs.Held.{IsComplete}
 use Rattle.jfr_mask.specs.Pseudonyms.{has_text}
-use Rattle.jfr_mask.proofs.MapLaws.{length-texts_in, numbers_added, numbers_same, texts_added}
+use Rattle.jfr_mask.specs.declared.dictionary.Dictionary.TheInside.{Inside}
+use Rattle.jfr_mask.proofs.FindLaws.{IsPlaced, complete_added, placed_in_map, placed_in_slot}
 use Rattle.jfr_mask.proofs.dictionary.Dictionary.append.Goals as goal
+use Rattle.jfr_mask.proofs.dictionary.Dictionary.append.Goals.{then-not-put+in_ok-put_other, else-not-put}
 
-pub invariant_of-self-in-Ok : goal.invariant_of-self-in-Ok
-invariant_of-self-in-Ok c =
+pub invariant_of-self-in_err-push : goal.invariant_of-self-in_err-push
+invariant_of-self-in_err-push c =
     let old = c.self.inside in
-    let new = c.put_number.new in
-    let items = old.texts.items in
-    let d = texts_in items in
     let text = c.args.text.now in
     let number = c.len.result + 1 in
-    let next : number ≡ length d + 1 = ap (λ k. k + 1) (search rules ∙ sym (length-texts_in items)) in
-    let absent : has_text d (chars text) ≡ false = subst (λ z. has_text z (chars text) ≡ false) (sym c.self.view_is) c.requires.absent in
-    let added = texts_added items c.push.new.self.items c.in_ok-from_str.field-0 text (search rules) c.in_ok-from_str.ensures.ok in
-    let put = subst (λ h. IsPut old.firsts old.others new.firsts new.others text h number) c.requires.hash c.in-Ok.ensures.ok in
-    subst (λ z. AreNumbersOf z new.firsts new.others) (sym added) (numbers_added d old.firsts new.firsts old.others new.others text number c.self.invariant absent c.utf8.text next put)
+    let absent : has_text old.texts (chars text) ≡ false = subst (λ z. has_text z (chars text) ≡ false) (sym c.self.view_is) c.requires.absent in
+    let placed : IsPlaced old.texts c.if-not-put.self-inside.slots.slots.items c.if-not-put.self-inside.others text number =
+    elim c.if-not-put.branch [
+      | then-not-put+in_ok-put_other w ↦ subst (λ (i : Inside). IsPlaced old.texts i.slots.slots.items i.others text number) (sym w.self-inside-is)
+          (placed_in_map old.texts old.slots.slots.items c.put.new.self.slots.items old.others w.put_other.new.others text number c.self.invariant c.put.ensures.kept absent w.in_ok-put_other.ensures.ok)
+      | else-not-put w ↦ subst (λ (i : Inside). IsPlaced old.texts i.slots.slots.items i.others text number) (sym w.self-inside-is)
+          (placed_in_slot old.texts old.slots.slots.items c.put.new.self.slots.items old.others text c.args.tag number c.self.invariant c.put.ensures.kept c.requires.tag (c.put.ensures.put (search rules)))
+    ] in
+    let same : c.if-not-put.self-inside.texts ≡ old.texts =
+    elim c.if-not-put.branch [
+      | then-not-put+in_ok-put_other w ↦ ap (λ (i : Inside). i.texts) w.self-inside-is
+      | else-not-put w ↦ ap (λ (i : Inside). i.texts) w.self-inside-is
+    ] in
+    subst (λ d. IsComplete d c.if-not-put.self-inside.slots.slots.items c.if-not-put.self-inside.others) (sym (c.in_err-push.ensures.unchanged ∙ same)) placed.0
 
-pub invariant_of-self-in-Err : goal.invariant_of-self-in-Err
-invariant_of-self-in-Err c =
+pub invariant_of-self-2 : goal.invariant_of-self-2
+invariant_of-self-2 c =
     let old = c.self.inside in
-    let new = c.put_number.new in
-    let popped : c.pop.new.self.items ≡ old.texts.items = grind (arith, common_steps) in
-    subst (λ z. AreNumbersOf z new.firsts new.others) (sym (ap texts_in popped))
-    (numbers_same (texts_in old.texts.items) old.firsts new.firsts old.others new.others c.in-Err.ensures.unchanged c.self.invariant)
+    let text = c.args.text.now in
+    let number = c.len.result + 1 in
+    let absent : has_text old.texts (chars text) ≡ false = subst (λ z. has_text z (chars text) ≡ false) (sym c.self.view_is) c.requires.absent in
+    let placed : IsPlaced old.texts c.if-not-put.self-inside.slots.slots.items c.if-not-put.self-inside.others text number =
+    elim c.if-not-put.branch [
+      | then-not-put+in_ok-put_other w ↦ subst (λ (i : Inside). IsPlaced old.texts i.slots.slots.items i.others text number) (sym w.self-inside-is)
+          (placed_in_map old.texts old.slots.slots.items c.put.new.self.slots.items old.others w.put_other.new.others text number c.self.invariant c.put.ensures.kept absent w.in_ok-put_other.ensures.ok)
+      | else-not-put w ↦ subst (λ (i : Inside). IsPlaced old.texts i.slots.slots.items i.others text number) (sym w.self-inside-is)
+          (placed_in_slot old.texts old.slots.slots.items c.put.new.self.slots.items old.others text c.args.tag number c.self.invariant c.put.ensures.kept c.requires.tag (c.put.ensures.put (search rules)))
+    ] in
+    let same : c.if-not-put.self-inside.texts ≡ old.texts =
+    elim c.if-not-put.branch [
+      | then-not-put+in_ok-put_other w ↦ ap (λ (i : Inside). i.texts) w.self-inside-is
+      | else-not-put w ↦ ap (λ (i : Inside). i.texts) w.self-inside-is
+    ] in
+    subst (λ d. IsComplete d c.if-not-put.self-inside.slots.slots.items c.if-not-put.self-inside.others) (sym (c.in_ok-push.ensures.ok ∙ ap (λ z. z ++ chars text ∷ []) same))
+    (complete_added old.texts c.if-not-put.self-inside.slots.slots.items c.if-not-put.self-inside.others text number placed.0 absent c.utf8.text (ap (λ n. n + 1) c.len.ensures.length) placed.1)

@@ -13,6 +13,6 @@ returns-then-is_empty c = record {
 
 pub returns : goal.returns
 returns c =
-    let written = other_string (has_text c.args.self.now.known.now) c.args.self.now.dictionary.now c.args.text.now (shown_bytes c.shown.result) c.utf8.text
-    (sym c.if-is_empty.ensures) c.shown.ensures in
+    let written = other_string (has_text c.args.self.now.known.now) c.args.self.now.dictionary.now c.args.text.now (shown_bytes c.of.result) c.utf8.text
+    (sym c.if-is_empty.ensures) c.of.ensures in
     record { ok = on_ok_weaker c.put_shown.result (λ e. e ∙ ap (λ z. c.args.out.now.items ++ z) (sym written)) c.put_shown.ensures.ok }

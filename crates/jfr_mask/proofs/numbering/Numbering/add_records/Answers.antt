@@ -20,24 +20,24 @@ output_records-init c =
     let p = c.args.self.now.strings.chunk.now in
     record {
       noted = c.requires.noted;
-      cursor = cursor_first p c.args.kept.now c.parts_are_valid.ensures.parts;
+      cursor = cursor_first p c.args.self.now.kept.now c.parts_are_valid.ensures.parts;
       texts = λ m is. refl;
     }
 
 pub add_record-requires-clause-order : goal.add_record-requires-clause-order
 add_record-requires-clause-order c =
     let n = c.args.self.now.strings in
-    subst (NotFalling 0) (sym c.requires.entries) (left_order (is_masked_string (held_by n)) n.chunk.now c.parts_are_valid.ensures.parts c.args.kept.now)
+    subst (NotFalling 0) (sym c.requires.entries) (left_order (is_masked_string (held_by n)) n.chunk.now c.parts_are_valid.ensures.parts c.args.self.now.kept.now)
 
 pub add_record-requires-clause-values : goal.add_record-requires-clause-values
 add_record-requires-clause-values c =
     let n = c.args.self.now.strings in
-    subst (AllByRecursion (IsEntryValue n.chunk.now)) (sym c.requires.entries) (left_values (is_masked_string (held_by n)) n.chunk.now c.parts_are_valid.ensures.parts c.args.kept.now)
+    subst (AllByRecursion (IsEntryValue n.chunk.now)) (sym c.requires.entries) (left_values (is_masked_string (held_by n)) n.chunk.now c.parts_are_valid.ensures.parts c.args.self.now.kept.now)
 
 pub output_records-preserved : goal.output_records-preserved
 output_records-preserved c =
     let p = c.args.self.now.strings.chunk.now in
-    let flags = c.args.kept.now in
+    let flags = c.args.self.now.kept.now in
     record {
       noted = c.in_ok-add_record.ensures.noted;
       cursor = c.in-Some.ensures.cursor;
@@ -45,7 +45,7 @@ output_records-preserved c =
           (let slim = new_metadata m.described p (kept_by p flags) in
           let texts : OutputRecord → List (List ℕ) = λ o. origin_texts m p (origin_of p (kept_by p flags) c.args.entries.now o) in
           let rest = flat_map texts (output_records_from slim p flags c.next_remaining_record.new.cursor) in
-          ap (λ z. with_texts z rest) (c.in_ok-add_record.ensures.ok m flags slim is c.in-Some.ensures.event c.in-Some.ensures.metadata)
+          ap (λ z. with_texts z rest) (c.in_ok-add_record.ensures.ok m slim is c.in-Some.ensures.metadata)
           ∙ (sym (with_append c.output_records.growing.dictionary (texts (output_record_for slim c.in-Some.remaining_record)) rest)
           ∙ (ap (λ z. with_texts c.output_records.growing.dictionary (flat_map texts z)) (sym (c.in-Some.ensures.exact slim)) ∙ c.output_records.invariant.texts m is)));
     }
@@ -53,7 +53,7 @@ output_records-preserved c =
 pub returns : goal.returns
 returns c =
     let p = c.args.self.now.strings.chunk.now in
-    let flags = c.args.kept.now in
+    let flags = c.args.self.now.kept.now in
     record {
       ok = λ m is.
           (let slim = new_metadata m.described p (kept_by p flags) in
